@@ -1,0 +1,116 @@
+-- The worked examples of document 01 on sheets, and all its worked examples as one list. `proofs/Examples` shows that each holds.
+use Prim.Native.Nat.{ℕ}
+use mathlib.Core.List.{List, [], _∷_, _++_}
+use lib.IntN.{ℤ, pos}
+use lib.ListN.{replicate}
+use Rattle.signs.specs.Case.{Case, _gives_, row}
+use Rattle.signs.specs.Examples.{cases as signCases}
+use Rattle.signs.specs.Lists.{concatMap}
+use Rattle.program.specs.Examples.{factorial, field, fileOf, entryOf, cases as programCases}
+use Rattle.program.specs.Syntax.{number, store}
+use Rattle.semantics.specs.Examples.{cases as semanticCases}
+use Rattle.analysis.specs.Results.{performedOn}
+use Rattle.analysis.specs.Sheet.{printedRows}
+use Rattle.analysis.specs.Solver.{solved, solvedBuffer, solvedNumbers}
+use Rattle.analysis.specs.Splitter.{split}
+use Rattle.analysis.specs.Verdict.{verdict, offending, verdictNumbers}
+
+-- the sheet of the factorial lesson: node and signs of each record, as the sheet program lists them, in two parts
+unfoldable pub firstSeven : List ℕ
+firstSeven =
+    (0 ∷ 0 ∷ 4 ∷ 2 ∷ [])
+    ++ (0 ∷ 2 ∷ 4 ∷ 4 ∷ [])
+    ++ (0 ∷ 3 ∷ 4 ∷ 4 ∷ [])
+    ++ (0 ∷ 4 ∷ 4 ∷ 4 ∷ [])
+    ++ (0 ∷ 2 ∷ 1 ∷ 4 ∷ [])
+    ++ (0 ∷ 2 ∷ 2 ∷ 4 ∷ [])
+    ++ (0 ∷ 1 ∷ 1 ∷ 4 ∷ [])
+
+unfoldable pub factorialSheet : List ℕ
+factorialSheet = firstSeven ++ (0 ∷ 1 ∷ 2 ∷ 4 ∷ [])
+
+-- its start list: x plus, y zero
+unfoldable pub factorialStart : List ℕ
+factorialStart = 4 ∷ 2 ∷ []
+
+-- (P) "The eight records", into a buffer of nine; and into one of five and a byte: 18
+unfoldable pub solutions : List Case
+solutions =
+    (row (solvedNumbers (solved factorial factorialStart (replicate 36 9))) gives row (0 ∷ 8 ∷ []))
+    ∷ (row (solvedBuffer factorial factorialStart (replicate 36 9)) gives row (factorialSheet ++ replicate 4 9))
+    ∷ (row (solvedNumbers (solved factorial factorialStart (replicate 21 9))) gives row (18 ∷ 5 ∷ []))
+    ∷ (row (solvedBuffer factorial factorialStart (replicate 21 9))
+    gives row
+    ((0 ∷ 0 ∷ 4 ∷ 2 ∷ [])
+    ++ (0 ∷ 2 ∷ 4 ∷ 4 ∷ [])
+    ++ (0 ∷ 3 ∷ 4 ∷ 4 ∷ [])
+    ++ (0 ∷ 4 ∷ 4 ∷ 4 ∷ [])
+    ++ (0 ∷ 2 ∷ 1 ∷ 4 ∷ [])
+    ++ (9 ∷ [])))
+    ∷ []
+
+-- the verdict on a candidate solution of the factorial lesson, then the offending record
+unfoldable pub judged : List ℕ → List ℕ → List ℕ
+judged initial solution =
+    let v = verdict factorial initial solution in
+    verdictNumbers v ++ offending factorial initial solution v
+
+-- the whole sheet is accepted, index clean; (P) "The sheet without record 7: 42, record 5, arrow 4"; a start record that it has not: 41; half a record: 16; a sign that is none, and a node that is none: 17
+unfoldable pub verdicts : List Case
+verdicts =
+    (row (judged factorialStart factorialSheet) gives row (0 ∷ []))
+    ∷ (row (judged factorialStart firstSeven) gives row (42 ∷ 5 ∷ 4 ∷ 0 ∷ 2 ∷ 2 ∷ 4 ∷ []))
+    ∷ (row (judged (4 ∷ 2 ∷ 1 ∷ 2 ∷ []) factorialSheet) gives row (41 ∷ 1 ∷ 1 ∷ 2 ∷ []))
+    ∷ (row (judged (4 ∷ []) factorialSheet) gives row (16 ∷ 0 ∷ []))
+    ∷ (row (judged (4 ∷ 3 ∷ []) factorialSheet) gives row (17 ∷ 1 ∷ 1 ∷ []))
+    ∷ (row (judged factorialStart (0 ∷ 0 ∷ 4 ∷ 2 ∷ 0 ∷ 5 ∷ 4 ∷ 2 ∷ [])) gives row (17 ∷ 2 ∷ 4 ∷ []))
+    ∷ []
+
+-- (P) "A store of sign zero at index zero, set 4: sets 6, then 2."
+unfoldable pub stores : List Case
+stores =
+    (row (concatMap (λ ρ. ρ) (performedOn (4 ∷ []) (store 0 0 (number 0 (pos 0)) (number 0 (pos 0))))) gives row (6 ∷ 2 ∷ []))
+    ∷ []
+
+-- A[j] := 0, over j and an array A of size 3
+unfoldable pub storeAtJ : List ℕ
+storeAtJ = fileOf (0 ∷ 3 ∷ []) (entryOf 1 0 0 0 ∷ entryOf 0 0 0 0 ∷ []) [] (entryOf 2 1 0 1 ∷ [])
+
+-- its sheet from j minus or zero is accepted, and marked at record 1, edge 0
+unfoldable pub marks : List Case
+marks =
+    (row
+    (verdictNumbers
+    (verdict storeAtJ
+    (2 ∷ 4 ∷ 1 ∷ 4 ∷ [])
+    ((0 ∷ 0 ∷ 2 ∷ 4 ∷ []) ++ (0 ∷ 0 ∷ 1 ∷ 4 ∷ []) ++ (0 ∷ 1 ∷ 2 ∷ 6 ∷ []) ++ (0 ∷ 1 ∷ 2 ∷ 2 ∷ []))))
+    gives row (0 ∷ 1 ∷ 0 ∷ []))
+    ∷ []
+
+-- byte 14 of a sheet of the factorial lesson is column 2 of record 3
+unfoldable pub places : List Case
+places = (row (split factorial 14 .«record» ∷ split factorial 14 .column ∷ []) gives row (3 ∷ 2 ∷ [])) ∷ []
+
+-- the listing of the factorial lesson; and with 0 for a sign of its start list
+unfoldable pub listings : List Case
+listings =
+    (row (concatMap (λ r. r) (printedRows (factorial ++ field 5 factorialStart)))
+    gives row
+    ((5 ∷ 5 ∷ 8 ∷ [])
+    ++ (0 ∷ 0 ∷ 4 ∷ 2 ∷ [])
+    ++ (1 ∷ 2 ∷ 4 ∷ 4 ∷ [])
+    ++ (2 ∷ 3 ∷ 4 ∷ 4 ∷ [])
+    ++ (3 ∷ 4 ∷ 4 ∷ 4 ∷ [])
+    ++ (4 ∷ 2 ∷ 1 ∷ 4 ∷ [])
+    ++ (5 ∷ 2 ∷ 2 ∷ 4 ∷ [])
+    ++ (6 ∷ 1 ∷ 1 ∷ 4 ∷ [])
+    ++ (7 ∷ 1 ∷ 2 ∷ 4 ∷ [])))
+    ∷ (row (concatMap (λ r. r) (printedRows (factorial ++ field 5 (4 ∷ 0 ∷ [])))) gives row (17 ∷ 1 ∷ []))
+    ∷ []
+
+unfoldable pub sheetCases : List Case
+sheetCases = solutions ++ verdicts ++ stores ++ marks ++ places ++ listings
+
+-- every worked example of document 01
+unfoldable pub cases : List Case
+cases = signCases ++ programCases ++ semanticCases ++ sheetCases

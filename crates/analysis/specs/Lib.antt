@@ -1,0 +1,11 @@
+pub mod Abstraction
+pub mod Records
+pub mod Signs
+pub mod Results
+pub mod Index
+pub mod Verdict
+pub mod Solver
+pub mod Splitter
+pub mod Sheet
+pub mod Soundness
+pub mod Examples

@@ -1,0 +1,39 @@
+-- What drawing the graph of a file into a buffer replies, and what the buffer holds afterwards (document 01, "Questions asked", 13).
+use Prim.Native.Nat.{ℕ, _*_}
+use mathlib.Core.List.{List, [], _∷_, _++_}
+use lib.Dec.{leb}
+use lib.ListN.{length, drop}
+use Rattle.program.specs.Asking.{askPlain, asked, thenAsk, validityNumbers}
+use Rattle.program.specs.Graph.{edgeCount, nodeCount, graphBytes}
+use Rattle.program.specs.Questions.{validity}
+use Rattle.program.specs.declared.Drawn.{Drawn}
+use Rattle.program.specs.declared.Validity.{Validity}
+use Rattle.program.specs.declared.Validity.the-variants.{Fit, Refused}
+
+-- "Does the arrow buffer hold all arrows? 13", after questions 1 to 11
+unfoldable pub drawValidity : List ℕ → List ℕ → Validity
+drawValidity s buffer = thenAsk (validity s) (asked (askPlain (leb (7 * edgeCount s) (length buffer)) 13 ∷ []))
+
+-- the reply: "other counts and nodes come back as zero"
+unfoldable pub drawnBy : List ℕ → Validity → Drawn
+drawnBy s Fit = record { validity = Fit; nodes = nodeCount s; edges = edgeCount s }
+drawnBy s (Refused x) = record { validity = Refused x; nodes = 0; edges = 0 }
+
+unfoldable pub drawn : List ℕ → List ℕ → Drawn
+drawn s buffer = drawnBy s (drawValidity s buffer)
+
+-- the bytes over the start of a buffer: "Bytes past the last arrow or record written never change."
+unfoldable pub over : List ℕ → List ℕ → List ℕ
+over bytes buffer = bytes ++ drop (length bytes) buffer
+
+-- the buffer afterwards: "Refusals 1 to 17 change no buffer"
+unfoldable pub drawnBufferBy : List ℕ → List ℕ → Validity → List ℕ
+drawnBufferBy s buffer Fit = over (graphBytes s) buffer
+drawnBufferBy s buffer (Refused x) = buffer
+
+unfoldable pub drawnBuffer : List ℕ → List ℕ → List ℕ
+drawnBuffer s buffer = drawnBufferBy s buffer (drawValidity s buffer)
+
+-- a reply in document 01's numbers: the validity's, then nodes and edges
+unfoldable pub drawnNumbers : Drawn → List ℕ
+drawnNumbers d = validityNumbers (d .validity) ++ (d .nodes ∷ d .edges ∷ [])

@@ -1,0 +1,102 @@
+-- The program graph (document 01, "The graph"; book, Definitions 2.7, 2.8 and 2.19).
+use Prim.Native.Nat.{ℕ, _+_, _/_, _%_}
+use mathlib.Core.List.{List, [], _∷_, _++_}
+use lib.ListN.{length}
+use Rattle.signs.specs.Lists.{concatMap}
+use Rattle.program.specs.Syntax.{Boolean, truth, conjunction, negation, booleanEntry, Command, skip, assign, store, sequence, conditional, iteration, guarded, choice, commandEntry}
+use Rattle.program.specs.Tree.{script}
+
+-- an action performs skip, an assignment or a store, tests a boolean, or leaves the do whose operand is a guarded command
+pub data Action : Type 0 where
+  perform : Command → Action
+  test : Boolean → Action
+  leave : Command → Action
+
+-- an edge (document 01: arrow), from a node to a node
+pub record Edge : Type 0 where
+  pub source : ℕ
+  pub target : ℕ
+  pub action : Action
+
+abbrev pub edge : ℕ → Action → ℕ → Edge
+edge a x b = record { source = a; target = b; action = x }
+
+-- edges in order, and the next fresh node
+pub record Part : Type 0 where
+  pub edges : List Edge
+  pub fresh : ℕ
+
+-- the action of a guard's edge
+unfoldable pub guardAction : Boolean → Action
+guardAction b = test b
+
+-- the edges of a command from node a to node b, where n is the next fresh node: "fresh nodes count from 2 as they are made"
+unfoldable pub part : Command → ℕ → ℕ → ℕ → Part
+part (skip k) a b n = record { edges = edge a (perform (skip k)) b ∷ []; fresh = n }
+part (assign k x e) a b n = record { edges = edge a (perform (assign k x e)) b ∷ []; fresh = n }
+part (store k x i e) a b n = record { edges = edge a (perform (store k x i e)) b ∷ []; fresh = n }
+part (sequence k c d) a b n =
+    let first = part c a n (n + 1) in
+    let second = part d n b (first .fresh) in
+    record { edges = first .edges ++ second .edges; fresh = second .fresh }
+part (conditional k c) a b n = part c a b n
+part (iteration k c) a b n =
+    let body = part c a a n in
+    record { edges = body .edges ++ (edge a (leave c) b ∷ []); fresh = body .fresh }
+part (guarded k g c) a b n =
+    let body = part c n b (n + 1) in
+    record { edges = edge a (guardAction g) n ∷ body .edges; fresh = body .fresh }
+part (choice k c d) a b n =
+    let first = part c a b n in
+    let second = part d a b (first .fresh) in
+    record { edges = first .edges ++ second .edges; fresh = second .fresh }
+
+-- "The exit action is ¬b of every guard of the loop, joined by ∧ left to right." (book: done)
+unfoldable pub done : Command → Boolean
+done (guarded k g c) = negation k g
+done (choice k c d) = conjunction k (done c) (done d)
+done (skip k) = truth k
+done (assign k x e) = truth k
+done (store k x i e) = truth k
+done (sequence k c d) = truth k
+done (conditional k c) = truth k
+done (iteration k c) = truth k
+
+-- "Node 0 is the start, node 1 the end": the graph of a program file
+unfoldable pub graph : List ℕ → Part
+graph s = part (script s) 0 1 2
+
+unfoldable pub edges : List ℕ → List Edge
+edges s = graph s .edges
+
+unfoldable pub edgeCount : List ℕ → ℕ
+edgeCount s = length (edges s)
+
+unfoldable pub nodeCount : List ℕ → ℕ
+nodeCount s = graph s .fresh
+
+-- "Action kind 1 is the command entry itself, 2 a boolean entry, 3 the exit of the do whose operand is that command entry."
+unfoldable pub actionKind : Action → ℕ
+actionKind (perform c) = 1
+actionKind (test b) = 2
+actionKind (leave c) = 3
+
+unfoldable pub actionEntry : Action → ℕ
+actionEntry (perform c) = commandEntry c
+actionEntry (test b) = booleanEntry b
+actionEntry (leave c) = commandEntry c
+
+-- a number as two bytes, the high byte first
+unfoldable pub wordBytes : ℕ → List ℕ
+wordBytes n = n / 256 % 256 ∷ n % 256 ∷ []
+
+-- "An arrow is written as seven bytes: from, to (two each), action kind, entry (two)."
+unfoldable pub edgeBytes : Edge → List ℕ
+edgeBytes e =
+    wordBytes (e .source)
+    ++ wordBytes (e .target)
+    ++ (actionKind (e .action) ∷ [])
+    ++ wordBytes (actionEntry (e .action))
+
+unfoldable pub graphBytes : List ℕ → List ℕ
+graphBytes s = concatMap edgeBytes (edges s)

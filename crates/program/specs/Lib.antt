@@ -1,0 +1,9 @@
+pub mod File
+pub mod Asking
+pub mod Kind
+pub mod Questions
+pub mod Syntax
+pub mod Tree
+pub mod Graph
+pub mod Drawing
+pub mod Examples

@@ -1,0 +1,93 @@
+-- The worked examples of document 01 on values, steps and runs. `proofs/Examples` shows that each holds.
+use Prim.Native.Nat.{ℕ}
+use mathlib.Core.Bool.{Bool, true, false, cond}
+use mathlib.Core.List.{List, [], _∷_, _++_, map}
+use lib.IntN.{ℤ, pos}
+use Rattle.signs.specs.Case.{Case, _gives_, row}
+use Rattle.signs.specs.Lists.{concatMap}
+use Rattle.signs.specs.Number.{reasonNumber, valueNumbers}
+use Rattle.signs.specs.declared.Comparison.the-variants.{Greater}
+use Rattle.signs.specs.declared.Operator.the-variants.{Add, Sub}
+use Rattle.program.specs.Examples.{factorial, twoGuards, fileOf, entryOf}
+use Rattle.program.specs.Syntax.{Arith, number, variable, element, operator, Boolean, comparison, conjunction, shortCircuit}
+use Rattle.semantics.specs.Budget.{budgetReply, budgetMemory, endedNumbers}
+use Rattle.semantics.specs.Expression.{value, truthIn}
+use Rattle.semantics.specs.Replay.{replay, outcomes}
+use Rattle.semantics.specs.Step.{Configuration, fresh, outcomeNumbers}
+use Rattle.semantics.specs.declared.Truth.{Truth}
+use Rattle.semantics.specs.declared.Truth.the-variants.{Known, Undefined}
+
+-- a truth value in document 01's numbers: 0 and 1 for true or 0 for false, or the reason
+unfoldable pub truthNumbers : Truth → List ℕ
+truthNumbers (Known b) = 0 ∷ cond b 1 0 ∷ []
+truthNumbers (Undefined r) = reasonNumber r ∷ []
+
+-- x + A[i] and A[j − 1], A[j]; entries play no part in a value
+unfoldable pub sumOfElement : Arith
+sumOfElement = operator 0 Add (variable 0 0) (element 0 2 (variable 0 1))
+
+unfoldable pub jPositive : Boolean
+jPositive = comparison 0 Greater (variable 0 0) (number 0 (pos 0))
+
+unfoldable pub outOfOrder : Boolean
+outOfOrder =
+    comparison 0 Greater
+    (element 0 1 (operator 0 Sub (variable 0 0) (number 0 (pos 1))))
+    (element 0 1 (variable 0 0))
+
+-- (P) "x + A[i], x 12, i 2, A 2 3 7 5: 19", and with i 4: 35; (P) "(j > 0) ∧ (A[j−1] > A[j]), j 0, A 2 3 7: 34; with && false"
+unfoldable pub expressions : List Case
+expressions =
+    (valueNumbers (value (0 ∷ 0 ∷ 4 ∷ []) (row (12 ∷ 2 ∷ 2 ∷ 3 ∷ 7 ∷ 5 ∷ [])) sumOfElement) gives row (0 ∷ 19 ∷ []))
+    ∷ (valueNumbers (value (0 ∷ 0 ∷ 4 ∷ []) (row (12 ∷ 4 ∷ 2 ∷ 3 ∷ 7 ∷ 5 ∷ [])) sumOfElement) gives row (35 ∷ []))
+    ∷ (row (truthNumbers (truthIn (0 ∷ 3 ∷ []) (row (0 ∷ 2 ∷ 3 ∷ 7 ∷ [])) (conjunction 0 jPositive outOfOrder)))
+    gives row (34 ∷ []))
+    ∷ (row (truthNumbers (truthIn (0 ∷ 3 ∷ []) (row (0 ∷ 2 ∷ 3 ∷ 7 ∷ [])) (shortCircuit 0 jPositive outOfOrder)))
+    gives row (0 ∷ 0 ∷ []))
+    ∷ []
+
+-- if x > 0 → skip fi
+unfoldable pub positiveOnly : List ℕ
+positiveOnly =
+    fileOf
+    (0 ∷ [])
+    (entryOf 1 0 0 0 ∷ entryOf 0 0 0 0 ∷ [])
+    (entryOf 2 0 1 0 ∷ [])
+    (entryOf 0 0 0 0 ∷ entryOf 6 0 0 0 ∷ entryOf 4 1 0 0 ∷ [])
+
+-- the reply of a budgeted run, then the memory
+unfoldable pub ran : List ℕ → ℕ → List ℤ → List ℤ
+ran s budget m = row (endedNumbers (budgetReply s budget m)) ++ budgetMemory s budget m
+
+-- (P) "Its run from x 3, y 0, budget 11: answer 0, node 1, 11 arrows, x 0, y 6", and with budget 10; "if x > 0 → skip fi, x 0, budget 1: answer 2, count 0"; two cells for one: 12
+unfoldable pub runs : List Case
+runs =
+    (ran factorial 11 (row (3 ∷ 0 ∷ [])) gives row (0 ∷ 1 ∷ 11 ∷ 0 ∷ 6 ∷ []))
+    ∷ (ran factorial 10 (row (3 ∷ 0 ∷ [])) gives row (1 ∷ 2 ∷ 10 ∷ 0 ∷ 6 ∷ []))
+    ∷ (ran positiveOnly 1 (row (0 ∷ [])) gives row (2 ∷ 0 ∷ 0 ∷ 0 ∷ []))
+    ∷ (ran positiveOnly 1 (row (5 ∷ 6 ∷ [])) gives row (12 ∷ 0 ∷ 0 ∷ 0 ∷ 5 ∷ 6 ∷ []))
+    -- a loop is left when all its guards are false and not when one is
+    ∷ (ran twoGuards 1 (row (0 ∷ 0 ∷ [])) gives row (0 ∷ 1 ∷ 1 ∷ 0 ∷ 0 ∷ []))
+    ∷ (ran twoGuards 2 (row (0 ∷ 1 ∷ [])) gives row (1 ∷ 0 ∷ 2 ∷ 0 ∷ 1 ∷ []))
+    ∷ []
+
+-- run and memory after a list of calls from the fresh run, as numbers
+unfoldable pub afterCalls : List ℕ → List ℕ → List ℤ → List ℤ
+afterCalls s es m =
+    let c = replay s es (record { run = fresh; memory = m }) in
+    row (c .run .node ∷ c .run .count ∷ []) ++ c .memory
+
+-- what the calls of the factorial lesson answer
+unfoldable pub answers : List ℕ → List ℤ → List ℕ
+answers es m = concatMap outcomeNumbers (outcomes factorial es (record { run = fresh; memory = m }))
+
+-- calls along edges 1, 0, 1 and 4 of the factorial lesson: refused, taken, taken, refused; and 0, 4 from x 1: taken, undefined
+unfoldable pub calls : List Case
+calls =
+    (afterCalls factorial (1 ∷ 0 ∷ 1 ∷ 4 ∷ []) (row (3 ∷ 0 ∷ [])) gives row (3 ∷ 2 ∷ 3 ∷ 1 ∷ []))
+    ∷ (row (answers (1 ∷ 0 ∷ 1 ∷ 4 ∷ []) (row (3 ∷ 0 ∷ []))) gives row (15 ∷ 0 ∷ 0 ∷ 0 ∷ 15 ∷ 0 ∷ []))
+    ∷ (row (answers (0 ∷ 4 ∷ []) (row (1 ∷ 0 ∷ []))) gives row (0 ∷ 31 ∷ []))
+    ∷ []
+
+unfoldable pub cases : List Case
+cases = expressions ++ runs ++ calls

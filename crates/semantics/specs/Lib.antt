@@ -1,0 +1,6 @@
+pub mod Expression
+pub mod Action
+pub mod Step
+pub mod Budget
+pub mod Replay
+pub mod Examples

@@ -1,0 +1,42 @@
+-- The operators on signs and on sets of signs (document 01, "Signs").
+use Prim.Native.Nat.{ℕ}
+use mathlib.Core.List.{List, [], _∷_}
+use lib.ListN.{getD}
+use Rattle.signs.specs.Lists.{pairs}
+use Rattle.signs.specs.Sign.{members, unionAll}
+use Rattle.signs.specs.declared.Operator.{Operator}
+use Rattle.signs.specs.declared.Operator.the-variants.{Add, Sub, Mul, Div, Pow}
+use Rattle.signs.specs.declared.Sign.{Sign}
+use Rattle.signs.specs.declared.Sign.the-variants.{Minus, Zero, Plus}
+
+-- "five grids of three by three sign sets": of + − × / ^ in this order
+unfoldable pub grids : List (List (List ℕ))
+grids =
+    ((1 ∷ 1 ∷ 7 ∷ []) ∷ (1 ∷ 2 ∷ 4 ∷ []) ∷ (7 ∷ 4 ∷ 4 ∷ []) ∷ [])
+    ∷ ((7 ∷ 1 ∷ 1 ∷ []) ∷ (4 ∷ 2 ∷ 1 ∷ []) ∷ (4 ∷ 4 ∷ 7 ∷ []) ∷ [])
+    ∷ ((4 ∷ 2 ∷ 1 ∷ []) ∷ (2 ∷ 2 ∷ 2 ∷ []) ∷ (1 ∷ 2 ∷ 4 ∷ []) ∷ [])
+    ∷ ((6 ∷ 0 ∷ 3 ∷ []) ∷ (2 ∷ 0 ∷ 2 ∷ []) ∷ (3 ∷ 0 ∷ 6 ∷ []) ∷ [])
+    ∷ ((0 ∷ 4 ∷ 5 ∷ []) ∷ (0 ∷ 4 ∷ 2 ∷ []) ∷ (0 ∷ 4 ∷ 4 ∷ []) ∷ [])
+    ∷ []
+
+-- an operator's place among the grids
+unfoldable pub gridNumber : Operator → ℕ
+gridNumber Add = 0
+gridNumber Sub = 1
+gridNumber Mul = 2
+gridNumber Div = 3
+gridNumber Pow = 4
+
+-- a sign's row and column: "Rows minus, zero, plus are the left side; columns likewise"
+unfoldable pub signNumber : Sign → ℕ
+signNumber Minus = 0
+signNumber Zero = 1
+signNumber Plus = 2
+
+-- the signs that an operator's results can have, by the signs of its sides
+unfoldable pub grid : Operator → Sign → Sign → ℕ
+grid o l r = getD (getD (getD grids (gridNumber o) []) (signNumber l) []) (signNumber r) 0
+
+-- "on sets the union over all pairs"
+unfoldable pub operate : Operator → ℕ → ℕ → ℕ
+operate o a b = unionAll (pairs (grid o) (members a) (members b))
