@@ -1,12 +1,12 @@
 -- Lists of records (document 01: start list and sign sheet), and questions 16 and 17.
 use Prim.Native.Nat.{ℕ, _+_, _*_, _/_, _%_}
 use mathlib.Core.Bool.{Bool, true, false, _&&_}
-use mathlib.Core.List.{List, [], _∷_, _++_, map}
+use mathlib.Core.List.{List, [], _∷_, _++_}
 use lib.Dec.{eqb, leb, ltb}
-use lib.ListN.{length, getD, take, drop}
-use Rattle.signs.specs.Lists.{any, concatMap, indices, tabulate}
-use Rattle.program.specs.Asking.{Question, ask, askPlain, asked, thenAsk}
-use Rattle.program.specs.File.{byteAt, wordAt, nameCount, sizes}
+use lib.ListN.{length, take, drop}
+use Rattle.signs.specs.Lists.{any, tabulate}
+use Rattle.program.specs.Asking.{ask, askPlain, thenAsk, askEach}
+use Rattle.program.specs.File.{byteAt, wordAt, nameCount, sizeAt}
 use Rattle.program.specs.Graph.{nodeCount, wordBytes}
 use Rattle.program.specs.Questions.{validity}
 use Rattle.program.specs.declared.Validity.{Validity}
@@ -54,27 +54,27 @@ unfoldable pub wholeRecords : ℕ → List ℕ → Bool
 wholeRecords width bytes = eqb (length bytes % width) 0 && leb (recordCount width bytes) 4096
 
 -- "Is every record well formed, start list first? 17, with the list and the place in it of the first wrong byte": of the abstract memory at a place of a list
-unfoldable pub memoryQuestions : List ℕ → List ℕ → ℕ → List Question
-memoryQuestions s bytes at =
-    map (λ i. ask (wellFormed (getD (sizes s) i 0) (byteAt bytes (at + i))) 17 (at + i)) (indices (nameCount s))
+unfoldable pub memoryFormed : List ℕ → List ℕ → ℕ → Validity
+memoryFormed s bytes at =
+    askEach (nameCount s) (λ i. ask (wellFormed (sizeAt s i) (byteAt bytes (at + i))) 17 (at + i))
 
 -- every record of a start list
-unfoldable pub initialQuestions : List ℕ → List ℕ → List Question
-initialQuestions s bytes =
-    concatMap (λ k. memoryQuestions s bytes (initialWidth s * k)) (indices (recordCount (initialWidth s) bytes))
+unfoldable pub initialFormed : List ℕ → List ℕ → Validity
+initialFormed s bytes =
+    askEach (recordCount (initialWidth s) bytes) (λ k. memoryFormed s bytes (initialWidth s * k))
 
 -- every record of a solution: "for a wrong node its first byte"
-unfoldable pub solutionQuestions : List ℕ → List ℕ → List Question
-solutionQuestions s bytes =
-    concatMap
-    (λ k. ask (ltb (wordAt bytes (recordWidth s * k)) (nodeCount s)) 17 (recordWidth s * k)
-    ∷ memoryQuestions s bytes (recordWidth s * k + 2))
-    (indices (recordCount (recordWidth s) bytes))
+unfoldable pub solutionFormed : List ℕ → List ℕ → Validity
+solutionFormed s bytes =
+    askEach (recordCount (recordWidth s) bytes)
+    (λ k.
+    thenAsk (ask (ltb (wordAt bytes (recordWidth s * k)) (nodeCount s)) 17 (recordWidth s * k))
+    (memoryFormed s bytes (recordWidth s * k + 2)))
 
 -- questions 1 to 11, then 16, where a start list alone is handed in, and where a solution is too
 unfoldable pub initialValidity : List ℕ → List ℕ → Validity
-initialValidity s initial = thenAsk (validity s) (asked (askPlain (wholeRecords (initialWidth s) initial) 16 ∷ []))
+initialValidity s initial = thenAsk (validity s) (askPlain (wholeRecords (initialWidth s) initial) 16)
 
 unfoldable pub listsValidity : List ℕ → List ℕ → List ℕ → Validity
 listsValidity s initial solution =
-    thenAsk (initialValidity s initial) (asked (askPlain (wholeRecords (recordWidth s) solution) 16 ∷ []))
+    thenAsk (initialValidity s initial) (askPlain (wholeRecords (recordWidth s) solution) 16)

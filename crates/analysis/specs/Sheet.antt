@@ -4,12 +4,12 @@ use mathlib.Core.Bool.{not}
 use mathlib.Core.List.{List, [], _∷_, _++_}
 use lib.ListN.{length, getD}
 use Rattle.signs.specs.Lists.{concatMap, tabulate}
-use Rattle.program.specs.Asking.{asked, askPlain, thenAsk}
+use Rattle.program.specs.Asking.{askPlain, inTurn}
 use Rattle.program.specs.Graph.{edgeCount, nodeCount}
 use Rattle.program.specs.Questions.{inputValidity, programPart, initialPart}
 use Rattle.program.specs.declared.Validity.{Validity}
 use Rattle.program.specs.declared.Validity.the-variants.{Fit, Refused}
-use Rattle.analysis.specs.Records.{nodeOf, memoryOf, initialQuestions}
+use Rattle.analysis.specs.Records.{nodeOf, memoryOf, initialFormed}
 use Rattle.analysis.specs.Solver.{Found, solution, roomOf}
 use Rattle.analysis.specs.Verdict.{markOf, negativeIndexes}
 use Rattle.analysis.specs.declared.Mark.{Mark}
@@ -35,8 +35,11 @@ listing s rs =
 -- whether a listing is printed: after 1 to 11, 17, whose "place counts from the start list's first byte", and 18 (16 cannot be refused here: the fifth field is whole records, at most 512)
 unfoldable pub printValidity : List ℕ → Found → Validity
 printValidity input f =
-    thenAsk (inputValidity input)
-    (thenAsk (asked (initialQuestions (programPart input) (initialPart input))) (asked (askPlain (not (f .full)) 18 ∷ [])))
+    inTurn
+    (inputValidity input
+    ∷ initialFormed (programPart input) (initialPart input)
+    ∷ askPlain (not (f .full)) 18
+    ∷ [])
 
 -- "A refusal prints only 'refused N at PLACE', with 0 where there is no place."
 unfoldable pub rowsBy : List ℕ → Found → Validity → List (List ℕ)

@@ -5,13 +5,12 @@ use mathlib.Core.List.{List, [], _∷_, _++_, map}
 use lib.Dec.{ltb}
 use lib.ListN.{length, getD, drop}
 use Rattle.signs.specs.Lists.{filter, concatMap, indices}
-use Rattle.program.specs.Asking.{asked}
 use Rattle.program.specs.Drawing.{over}
 use Rattle.program.specs.Graph.{edgeCount}
 use Rattle.program.specs.declared.Validity.{Validity}
 use Rattle.program.specs.declared.Validity.the-variants.{Fit, Refused}
 use Rattle.semantics.specs.Step.{edgeAt, leaves}
-use Rattle.analysis.specs.Records.{initialWidth, recordWidth, recordsOf, recordFor, nodeOf, memoryOf, listed, initialQuestions, initialValidity}
+use Rattle.analysis.specs.Records.{initialWidth, recordWidth, recordsOf, recordFor, nodeOf, memoryOf, listed, initialFormed, initialValidity}
 use Rattle.analysis.specs.Results.{results}
 use Rattle.analysis.specs.declared.Solved.{Solved}
 use Rattle.analysis.specs.declared.Solving.{Solving}
@@ -71,7 +70,7 @@ solvedWith (Refused x) malformed f = record { solving = Refuses x; count = 0 }
 
 unfoldable pub solved : List ℕ → List ℕ → List ℕ → Solved
 solved s initial buffer =
-    solvedWith (initialValidity s initial) (asked (initialQuestions s initial)) (solution s initial (roomOf s (length buffer)))
+    solvedWith (initialValidity s initial) (initialFormed s initial) (solution s initial (roomOf s (length buffer)))
 
 -- the buffer afterwards: "After 18 the buffer holds the leading records that found room"
 unfoldable pub bufferWith : Validity → Validity → Found → List ℕ → List ℕ
@@ -83,7 +82,7 @@ unfoldable pub solvedBuffer : List ℕ → List ℕ → List ℕ → List ℕ
 solvedBuffer s initial buffer =
     bufferWith
     (initialValidity s initial)
-    (asked (initialQuestions s initial))
+    (initialFormed s initial)
     (solution s initial (roomOf s (length buffer)))
     buffer
 

@@ -4,13 +4,12 @@ use mathlib.Core.Bool.{Bool, not, _&&_}
 use mathlib.Core.List.{List, [], _∷_, _++_, map}
 use lib.ListN.{getD}
 use Rattle.signs.specs.Lists.{any, filter, concatMap, indices}
-use Rattle.program.specs.Asking.{asked}
 use Rattle.program.specs.Graph.{edgeCount}
 use Rattle.program.specs.declared.Validity.{Validity}
 use Rattle.program.specs.declared.Validity.the-variants.{Fit, Refused}
 use Rattle.semantics.specs.Step.{edgeAt, leaves}
 use Rattle.analysis.specs.Index.{mayBeNegative}
-use Rattle.analysis.specs.Records.{initialWidth, recordWidth, recordCount, recordAt, recordsOf, recordFor, nodeOf, memoryOf, listed, initialQuestions, solutionQuestions, listsValidity}
+use Rattle.analysis.specs.Records.{initialWidth, recordWidth, recordCount, recordAt, recordsOf, recordFor, nodeOf, memoryOf, listed, initialFormed, solutionFormed, listsValidity}
 use Rattle.analysis.specs.Results.{results}
 use Rattle.analysis.specs.declared.Mark.{Mark}
 use Rattle.analysis.specs.declared.Mark.the-variants.{Clean, Unclean}
@@ -79,8 +78,8 @@ unlessRefused (Refused x) v = Refuses x
 unfoldable pub verdict : List ℕ → List ℕ → List ℕ → Verdict
 verdict s initial solution =
     unlessRefused (listsValidity s initial solution)
-    (unlessMalformed Initial (asked (initialQuestions s initial))
-    (unlessMalformed Solution (asked (solutionQuestions s solution))
+    (unlessMalformed Initial (initialFormed s initial)
+    (unlessMalformed Solution (solutionFormed s solution)
     (verdictOn (missingInitial s initial solution) (missingResults s solution) (markOf (negativeIndexes s solution)))))
 
 -- "With 41 or 42 comes the offending record itself, as a part of whichever of the two lists it lies in; otherwise that part is empty."

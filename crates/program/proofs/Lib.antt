@@ -1,2 +1,3 @@
+pub mod Asking
 pub mod Open
 pub mod Examples

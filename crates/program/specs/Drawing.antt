@@ -3,7 +3,7 @@ use Prim.Native.Nat.{ℕ, _*_}
 use mathlib.Core.List.{List, [], _∷_, _++_}
 use lib.Dec.{leb}
 use lib.ListN.{length, drop}
-use Rattle.program.specs.Asking.{askPlain, asked, thenAsk, validityNumbers}
+use Rattle.program.specs.Asking.{askPlain, thenAsk, validityNumbers}
 use Rattle.program.specs.Graph.{edgeCount, nodeCount, graphBytes}
 use Rattle.program.specs.Questions.{validity}
 use Rattle.program.specs.declared.Drawn.{Drawn}
@@ -12,7 +12,7 @@ use Rattle.program.specs.declared.Validity.the-variants.{Fit, Refused}
 
 -- "Does the arrow buffer hold all arrows? 13", after questions 1 to 11
 unfoldable pub drawValidity : List ℕ → List ℕ → Validity
-drawValidity s buffer = thenAsk (validity s) (asked (askPlain (leb (7 * edgeCount s) (length buffer)) 13 ∷ []))
+drawValidity s buffer = thenAsk (validity s) (askPlain (leb (7 * edgeCount s) (length buffer)) 13)
 
 -- the reply: "other counts and nodes come back as zero"
 unfoldable pub drawnBy : List ℕ → Validity → Drawn

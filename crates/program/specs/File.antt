@@ -1,11 +1,16 @@
 -- The program file: numbers, fields and entries (document 01, "The script file"). All reading is total: a byte past the end is 0.
 use Prim.Native.Nat.{ℕ, zero, suc, _+_, _*_, _/_, _-_}
-use mathlib.Core.Bool.{Bool, cond}
+use mathlib.Core.Bool.{cond}
 use mathlib.Core.List.{List, [], _∷_, map}
 use lib.Dec.{eqb, ltb}
-use lib.ListN.{getD, take, drop}
+use lib.ListN.{getD, take}
 use lib.IntN.{ℤ, pos, negsuc}
 use Rattle.signs.specs.Lists.{tabulate, sum}
+use Rattle.program.specs.declared.Entry.{Entry}
+use Rattle.program.specs.declared.Layout.{Layout}
+use Rattle.program.specs.declared.Span.{Span}
+use Rattle.program.specs.declared.Table.{Table}
+use Rattle.program.specs.declared.Table.the-variants.{Arithmetic, Boolean, Commands}
 
 unfoldable pub byteAt : List ℕ → ℕ → ℕ
 byteAt s i = getD s i 0
@@ -41,50 +46,49 @@ contentLength s at = wordAt s (at + 1)
 unfoldable pub nextField : List ℕ → ℕ → ℕ
 nextField s at = at + 3 + contentLength s at
 
--- where the field with k fields before it starts, and where its content does
+-- where the field with k fields before it starts
 unfoldable pub fieldStart : List ℕ → ℕ → ℕ
 fieldStart s zero = 0
 fieldStart s (suc k) = nextField s (fieldStart s k)
 
-unfoldable pub contentStart : List ℕ → ℕ → ℕ
-contentStart s k = fieldStart s k + 3
+-- its content: where that starts, and how many entries of a width it has
+unfoldable pub span : List ℕ → ℕ → ℕ → Span
+span s k width = record { start = fieldStart s k + 3; count = contentLength s (fieldStart s k) / width }
 
--- the number of names, and their sizes: "0 is a variable, 1 to 64 an array of that size"
+-- "Four fields in order, tags 1 to 4"
+unfoldable pub layoutOf : List ℕ → Layout
+layoutOf s = record { names = span s 0 2; arithmetic = span s 1 7; boolean = span s 2 7; commands = span s 3 7 }
+
+-- a table's part of a file
+unfoldable pub spanOf : Layout → Table → Span
+spanOf l Arithmetic = l .arithmetic
+spanOf l Boolean = l .boolean
+spanOf l Commands = l .commands
+
+-- the number of names, where name i stands, and the sizes of the names: "0 is a variable, 1 to 64 an array of that size"
 unfoldable pub nameCount : List ℕ → ℕ
-nameCount s = contentLength s 0 / 2
+nameCount s = layoutOf s .names .count
 
 unfoldable pub nameOffset : ℕ → ℕ
 nameOffset i = 3 + 2 * i
 
+unfoldable pub sizeAt : List ℕ → ℕ → ℕ
+sizeAt s i = wordAt s (nameOffset i)
+
 unfoldable pub sizes : List ℕ → List ℕ
-sizes s = tabulate (nameCount s) (λ i. wordAt s (nameOffset i))
+sizes s = tabulate (nameCount s) (sizeAt s)
 
--- the three tables of entries, and the number of fields before each
-pub data Table : Type 0 where
-  arithmetic boolean commands : Table
-
-unfoldable pub tableField : Table → ℕ
-tableField arithmetic = 1
-tableField boolean = 2
-tableField commands = 3
-
+-- the number of entries of a table, and where entry n stands
 unfoldable pub entryCount : List ℕ → Table → ℕ
-entryCount s t = contentLength s (fieldStart s (tableField t)) / 7
+entryCount s t = spanOf (layoutOf s) t .count
 
 unfoldable pub entryOffset : List ℕ → Table → ℕ → ℕ
-entryOffset s t n = contentStart s (tableField t) + 7 * n
+entryOffset s t n = spanOf (layoutOf s) t .start + 7 * n
 
--- "a kind and three two-byte operands P, Q, R"
-pub record Entry : Type 0 where
-  pub kind : ℕ
-  pub p : ℕ
-  pub q : ℕ
-  pub r : ℕ
-
+-- "a kind and three two-byte operands P, Q, R": the entry at a place, and entry n of a table
 unfoldable pub entryAt : List ℕ → ℕ → Entry
 entryAt s at = record { kind = byteAt s at; p = wordAt s (at + 1); q = wordAt s (at + 3); r = wordAt s (at + 5) }
 
--- entry n of a table
 unfoldable pub entry : List ℕ → Table → ℕ → Entry
 entry s t n = entryAt s (entryOffset s t n)
 

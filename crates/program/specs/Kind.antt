@@ -4,70 +4,76 @@ use mathlib.Core.Bool.{Bool, _&&_}
 use mathlib.Core.List.{List, [], _∷_}
 use lib.Dec.{leb}
 use lib.ListN.{getD}
-use Rattle.program.specs.File.{Table, arithmetic, boolean, commands, Entry}
+use Rattle.program.specs.declared.Role.{Role}
+use Rattle.program.specs.declared.Role.the-variants.{Unused, Half, Variable, Array, To}
+use Rattle.program.specs.declared.Shape.{Shape}
+use Rattle.program.specs.declared.Shape.the-variants.{Unknown, Known}
+use Rattle.program.specs.declared.Sort.{Sort}
+use Rattle.program.specs.declared.Sort.the-variants.{Expression, Condition, Command, Guarded}
+use Rattle.program.specs.declared.Table.{Table}
+use Rattle.program.specs.declared.Table.the-variants.{Arithmetic, Boolean, Commands}
 
--- what an entry is an entry of: "each operand names the sort its rule needs"
-pub data Sort : Type 0 where
-  expression condition command guarded : Sort
+-- the roles of P, Q and R
+abbrev pub with : Role → Role → Role → Shape
+with a b c = Known (record { p = a; q = b; r = c })
 
--- an operand is unused, half of a number, the name of a variable or of an array, or a reference to an entry of a sort
-pub data Role : Type 0 where
-  unused half variable array : Role
-  to : Sort → Role
-
--- the roles of P, Q and R in each kind of entry, by the kind's number
-unfoldable pub kinds : Table → List (List Role)
-kinds arithmetic =
+-- the kinds of a table, by their numbers. "Operands not mentioned are zero": those are unused
+unfoldable pub kinds : Table → List Shape
+kinds Arithmetic =
     -- 0 number (P and Q together)
-    (half ∷ half ∷ unused ∷ [])
+    with Half Half Unused
     -- 1 variable P
-    ∷ (variable ∷ unused ∷ unused ∷ [])
+    ∷ with Variable Unused Unused
     -- 2 element of array P at index Q
-    ∷ (array ∷ to expression ∷ unused ∷ [])
+    ∷ with Array (To Expression) Unused
     -- 3 to 7: P + Q, P − Q, P × Q, P / Q, P ^ Q
-    ∷ (to expression ∷ to expression ∷ unused ∷ [])
-    ∷ (to expression ∷ to expression ∷ unused ∷ [])
-    ∷ (to expression ∷ to expression ∷ unused ∷ [])
-    ∷ (to expression ∷ to expression ∷ unused ∷ [])
-    ∷ (to expression ∷ to expression ∷ unused ∷ [])
+    ∷ with (To Expression) (To Expression) Unused
+    ∷ with (To Expression) (To Expression) Unused
+    ∷ with (To Expression) (To Expression) Unused
+    ∷ with (To Expression) (To Expression) Unused
+    ∷ with (To Expression) (To Expression) Unused
     ∷ []
-kinds boolean =
+kinds Boolean =
     -- 0 true
-    (unused ∷ unused ∷ unused ∷ [])
+    with Unused Unused Unused
     -- 1 P = Q; 2 P > Q; 3 P ≥ Q
-    ∷ (to expression ∷ to expression ∷ unused ∷ [])
-    ∷ (to expression ∷ to expression ∷ unused ∷ [])
-    ∷ (to expression ∷ to expression ∷ unused ∷ [])
+    ∷ with (To Expression) (To Expression) Unused
+    ∷ with (To Expression) (To Expression) Unused
+    ∷ with (To Expression) (To Expression) Unused
     -- 4 P ∧ Q; 5 P && Q
-    ∷ (to condition ∷ to condition ∷ unused ∷ [])
-    ∷ (to condition ∷ to condition ∷ unused ∷ [])
+    ∷ with (To Condition) (To Condition) Unused
+    ∷ with (To Condition) (To Condition) Unused
     -- 6 ¬P
-    ∷ (to condition ∷ unused ∷ unused ∷ [])
+    ∷ with (To Condition) Unused Unused
     ∷ []
-kinds commands =
+kinds Commands =
     -- 0 skip
-    (unused ∷ unused ∷ unused ∷ [])
+    with Unused Unused Unused
     -- 1 variable P := Q
-    ∷ (variable ∷ to expression ∷ unused ∷ [])
+    ∷ with Variable (To Expression) Unused
     -- 2 array P at Q := R
-    ∷ (array ∷ to expression ∷ to expression ∷ [])
+    ∷ with Array (To Expression) (To Expression)
     -- 3 P ; Q
-    ∷ (to command ∷ to command ∷ unused ∷ [])
+    ∷ with (To Command) (To Command) Unused
     -- 4 if P fi; 5 do P od
-    ∷ (to guarded ∷ unused ∷ unused ∷ [])
-    ∷ (to guarded ∷ unused ∷ unused ∷ [])
+    ∷ with (To Guarded) Unused Unused
+    ∷ with (To Guarded) Unused Unused
     -- 6 guarded P → Q
-    ∷ (to condition ∷ to command ∷ unused ∷ [])
+    ∷ with (To Condition) (To Command) Unused
     -- 7 choice P [] Q
-    ∷ (to guarded ∷ to guarded ∷ unused ∷ [])
+    ∷ with (To Guarded) (To Guarded) Unused
     ∷ []
+
+-- the shape of an entry of a table, by its kind
+unfoldable pub shape : Table → ℕ → Shape
+shape t kind = getD (kinds t) kind Unknown
 
 -- the table that a sort's entries stand in
 unfoldable pub tableOf : Sort → Table
-tableOf expression = arithmetic
-tableOf condition = boolean
-tableOf command = commands
-tableOf guarded = commands
+tableOf Expression = Arithmetic
+tableOf Condition = Boolean
+tableOf Command = Commands
+tableOf Guarded = Commands
 
 -- "Kinds 0 to 5 of tag 4 are commands, 6 and 7 guarded commands"
 unfoldable pub isCommand : ℕ → Bool
@@ -75,17 +81,3 @@ isCommand kind = leb kind 5
 
 unfoldable pub isGuarded : ℕ → Bool
 isGuarded kind = leb 6 kind && leb kind 7
-
--- an operand with its role
-pub record Operand : Type 0 where
-  pub role : Role
-  pub value : ℕ
-
-unfoldable pub withRoles : List Role → List ℕ → List Operand
-withRoles [] ns = []
-withRoles (x ∷ xs) [] = []
-withRoles (x ∷ xs) (n ∷ ns) = record { role = x; value = n } ∷ withRoles xs ns
-
--- the operands of an entry of a table; none where its kind is unknown
-unfoldable pub operands : Table → Entry → List Operand
-operands t e = withRoles (getD (kinds t) (e .kind) []) (e .p ∷ e .q ∷ e .r ∷ [])

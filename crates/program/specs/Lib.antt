@@ -5,5 +5,6 @@ pub mod Questions
 pub mod Syntax
 pub mod Tree
 pub mod Graph
+pub mod Sorted
 pub mod Drawing
 pub mod Examples

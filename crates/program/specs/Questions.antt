@@ -1,13 +1,22 @@
 -- Questions 1 to 11, of a program file and of the sheet program's input (document 01, "Questions asked, with the number when it is no").
-use Prim.Native.Nat.{ℕ, suc, _+_, _*_, _/_, _%_, _-_}
+use Prim.Native.Nat.{ℕ, zero, suc, _+_, _/_, _%_, _-_}
 use mathlib.Core.Bool.{Bool, true, false, cond, _&&_}
-use mathlib.Core.List.{List, [], _∷_, _++_, map}
+use mathlib.Core.List.{List, [], _∷_, _++_}
 use lib.Dec.{eqb, leb, ltb}
-use lib.ListN.{length, getD, take, drop}
-use Rattle.signs.specs.Lists.{all, filter, concatMap, indices, sum}
-use Rattle.program.specs.Asking.{Question, ask, asked, thenAsk}
-use Rattle.program.specs.File.{byteAt, Field, programFields, contentLength, nextField, fieldStart, contentStart, nameCount, nameOffset, sizes, Table, arithmetic, boolean, commands, tableField, entryCount, entryOffset, entry, cellCount}
-use Rattle.program.specs.Kind.{Sort, expression, condition, command, guarded, Role, unused, half, variable, array, to, kinds, tableOf, isCommand, isGuarded, Operand, operands}
+use lib.ListN.{length, take, drop}
+use Rattle.program.specs.Asking.{ask, thenAsk, inTurn, askEach}
+use Rattle.program.specs.File.{byteAt, Field, programFields, contentLength, nextField, fieldStart, nameCount, nameOffset, sizeAt, sizes, entryCount, entryOffset, entry, cellCount}
+use Rattle.program.specs.Kind.{shape, tableOf, isCommand, isGuarded}
+use Rattle.program.specs.declared.Entry.{Entry}
+use Rattle.program.specs.declared.Role.{Role}
+use Rattle.program.specs.declared.Role.the-variants.{Unused, Half, Variable, Array, To}
+use Rattle.program.specs.declared.Roles.{Roles}
+use Rattle.program.specs.declared.Shape.{Shape}
+use Rattle.program.specs.declared.Shape.the-variants.{Unknown, Known}
+use Rattle.program.specs.declared.Sort.{Sort}
+use Rattle.program.specs.declared.Sort.the-variants.{Expression, Condition, Command, Guarded}
+use Rattle.program.specs.declared.Table.{Table}
+use Rattle.program.specs.declared.Table.the-variants.{Arithmetic, Boolean, Commands}
 use Rattle.program.specs.declared.Validity.{Validity}
 
 -- "Is the length whole entries, as many as allowed?"
@@ -15,34 +24,42 @@ unfoldable pub wholeEntries : Field → ℕ → Bool
 wholeEntries f len = eqb (len % f .width) 0 && leb (f .least) (len / f .width) && leb (len / f .width) (f .most)
 
 -- "Are three bytes left for its head? 1. Is the tag the one due? 2. Is the length whole entries, as many as allowed? 3. Is all the content there? 4." Their place is where the head starts
-unfoldable pub headQuestions : List ℕ → ℕ → Field → List Question
-headQuestions s at f =
-    ask (leb (at + 3) (length s)) 1 at
+unfoldable pub headValidity : List ℕ → ℕ → Field → Validity
+headValidity s at f =
+    inTurn
+    (ask (leb (at + 3) (length s)) 1 at
     ∷ ask (eqb (byteAt s at) (f .tag)) 2 at
     ∷ ask (wholeEntries f (contentLength s at)) 3 at
     ∷ ask (leb (nextField s at) (length s)) 4 at
-    ∷ []
+    ∷ [])
 
 -- "For each field in turn"; "Then: does the file end after the fourth field? 5", whose place is the first extra byte
-unfoldable pub fieldQuestions : List ℕ → ℕ → List Field → List Question
-fieldQuestions s at [] = ask (eqb at (length s)) 5 at ∷ []
-fieldQuestions s at (f ∷ fs) = headQuestions s at f ++ fieldQuestions s (nextField s at) fs
+unfoldable pub fieldsValidity : List ℕ → ℕ → List Field → Validity
+fieldsValidity s at [] = ask (eqb at (length s)) 5 at
+fieldsValidity s at (f ∷ fs) = thenAsk (headValidity s at f) (fieldsValidity s (nextField s at) fs)
 
 -- "is the size 0 to 64 and the cell total so far at most 512? 6"
-unfoldable pub nameQuestion : List ℕ → ℕ → Question
-nameQuestion s i =
-    ask (leb (getD (sizes s) i 0) 64 && leb (cellCount (take (suc i) (sizes s))) 512) 6 (nameOffset i)
+unfoldable pub nameValidity : List ℕ → ℕ → Validity
+nameValidity s i = ask (leb (sizeAt s i) 64 && leb (cellCount (take (suc i) (sizes s))) 512) 6 (nameOffset i)
 
--- "Are unused operands zero, and is a named name there and of the right sort?", of one operand
+-- "Are unused operands zero, and is a named name there and of the right sort?", of an operand x with its role
 unfoldable pub named : List ℕ → Role → ℕ → Bool
-named ns unused x = eqb x 0
-named ns half x = true
-named ns variable x = ltb x (length ns) && eqb (getD ns x 0) 0
-named ns array x = ltb x (length ns) && ltb 0 (getD ns x 0)
-named ns (to sort) x = true
+named s Unused x = eqb x 0
+named s Half x = true
+named s Variable x = ltb x (nameCount s) && eqb (sizeAt s x) 0
+named s Array x = ltb x (nameCount s) && ltb 0 (sizeAt s x)
+named s (To sort) x = true
 
 unfoldable pub sameTable : Table → Table → Bool
-sameTable t u = eqb (tableField t) (tableField u)
+sameTable Arithmetic Arithmetic = true
+sameTable Arithmetic Boolean = false
+sameTable Arithmetic Commands = false
+sameTable Boolean Arithmetic = false
+sameTable Boolean Boolean = true
+sameTable Boolean Commands = false
+sameTable Commands Arithmetic = false
+sameTable Commands Boolean = false
+sameTable Commands Commands = true
 
 -- "A reference inside one table goes to a lower entry; one to an earlier table goes to an entry that exists": from entry n of table t to table u, the references below this number
 unfoldable pub limit : List ℕ → Table → ℕ → Table → ℕ
@@ -50,79 +67,95 @@ limit s t n u = cond (sameTable t u) n (entryCount s u)
 
 -- "each operand names the sort its rule needs": whether entry x of a sort's table is of that sort
 unfoldable pub ofSort : List ℕ → Sort → ℕ → Bool
-ofSort s expression x = true
-ofSort s condition x = true
-ofSort s command x = isCommand (entry s commands x .kind)
-ofSort s guarded x = isGuarded (entry s commands x .kind)
+ofSort s Expression x = true
+ofSort s Condition x = true
+ofSort s Command x = isCommand (entry s Commands x .kind)
+ofSort s Guarded x = isGuarded (entry s Commands x .kind)
 
--- "Do all references point as above?", of one operand of entry n of table t
+-- "Do all references point as above?", of an operand x of entry n of table t, with its role
 unfoldable pub points : List ℕ → Table → ℕ → Role → ℕ → Bool
-points s t n unused x = true
-points s t n half x = true
-points s t n variable x = true
-points s t n array x = true
-points s t n (to sort) x = ltb x (limit s t n (tableOf sort)) && ofSort s sort x
+points s t n Unused x = true
+points s t n Half x = true
+points s t n Variable x = true
+points s t n Array x = true
+points s t n (To sort) x = ltb x (limit s t n (tableOf sort)) && ofSort s sort x
+
+-- a test of each of an entry's operands
+unfoldable pub eachOperand : (Role → ℕ → Bool) → Roles → Entry → Bool
+eachOperand f x e = f (x .p) (e .p) && f (x .q) (e .q) && f (x .r) (e .r)
 
 -- "Is the kind known? 7. Are unused operands zero, and is a named name there and of the right sort? 8. Do all references point as above? 9." Their place is where the entry starts
-unfoldable pub entryQuestions : List ℕ → Table → ℕ → List Question
-entryQuestions s t n =
-    ask (ltb (entry s t n .kind) (length (kinds t))) 7 (entryOffset s t n)
-    ∷ ask (all (λ o. named (sizes s) (o .role) (o .value)) (operands t (entry s t n))) 8 (entryOffset s t n)
-    ∷ ask (all (λ o. points s t n (o .role) (o .value)) (operands t (entry s t n))) 9 (entryOffset s t n)
-    ∷ []
+unfoldable pub shapeValidity : List ℕ → Table → ℕ → Shape → Validity
+shapeValidity s t n Unknown = ask false 7 (entryOffset s t n)
+shapeValidity s t n (Known x) =
+    inTurn
+    (ask (eachOperand (named s) x (entry s t n)) 8 (entryOffset s t n)
+    ∷ ask (eachOperand (points s t n) x (entry s t n)) 9 (entryOffset s t n)
+    ∷ [])
 
-unfoldable pub tableQuestions : List ℕ → Table → List Question
-tableQuestions s t = concatMap (entryQuestions s t) (indices (entryCount s t))
+unfoldable pub entryValidity : List ℕ → Table → ℕ → Validity
+entryValidity s t n = shapeValidity s t n (shape t (entry s t n .kind))
 
--- "Then each entry in file order"
-unfoldable pub contentQuestions : List ℕ → List Question
-contentQuestions s =
-    map (nameQuestion s) (indices (nameCount s))
-    ++ tableQuestions s arithmetic
-    ++ tableQuestions s boolean
-    ++ tableQuestions s commands
+unfoldable pub tableValidity : List ℕ → Table → Validity
+tableValidity s t = askEach (entryCount s t) (entryValidity s t)
 
--- whether an operand refers to entry n of table u
-unfoldable pub refersTo : Table → ℕ → Role → ℕ → Bool
-refersTo u n unused x = false
-refersTo u n half x = false
-refersTo u n variable x = false
-refersTo u n array x = false
-refersTo u n (to sort) x = sameTable (tableOf sort) u && eqb x n
+-- how often an operand x with its role refers to entry n of table u: once or not
+unfoldable pub refersTo : Table → ℕ → Role → ℕ → ℕ
+refersTo u n Unused x = 0
+refersTo u n Half x = 0
+refersTo u n Variable x = 0
+refersTo u n Array x = 0
+refersTo u n (To sort) x = cond (sameTable (tableOf sort) u && eqb x n) 1 0
 
--- how often the entries of table t refer to entry n of table u, and how often all do
-unfoldable pub usesFrom : List ℕ → Table → ℕ → Table → ℕ
-usesFrom s u n t =
-    sum (map (λ m. length (filter (λ o. refersTo u n (o .role) (o .value)) (operands t (entry s t m)))) (indices (entryCount s t)))
+unfoldable pub shapeUses : Table → ℕ → Shape → Entry → ℕ
+shapeUses u n Unknown e = 0
+shapeUses u n (Known x) e = refersTo u n (x .p) (e .p) + refersTo u n (x .q) (e .q) + refersTo u n (x .r) (e .r)
 
+-- how often entry m of table t refers to entry n of table u
+unfoldable pub entryUses : List ℕ → Table → ℕ → Table → ℕ → ℕ
+entryUses s u n t m = shapeUses u n (shape t (entry s t m .kind)) (entry s t m)
+
+-- how often the first k entries of table t do
+unfoldable pub tableUses : List ℕ → Table → ℕ → Table → ℕ → ℕ
+tableUses s u n t zero = 0
+tableUses s u n t (suc k) = tableUses s u n t k + entryUses s u n t k
+
+-- how often entry n of table u is used
 unfoldable pub uses : List ℕ → Table → ℕ → ℕ
-uses s u n = usesFrom s u n arithmetic + usesFrom s u n boolean + usesFrom s u n commands
+uses s u n =
+    tableUses s u n Arithmetic (entryCount s Arithmetic)
+    + tableUses s u n Boolean (entryCount s Boolean)
+    + tableUses s u n Commands (entryCount s Commands)
+
+-- "is each entry of tags 2 to 4 but the last command used once? 10 (first in file order)"
+unfoldable pub useValidity : List ℕ → Table → ℕ → Validity
+useValidity s t n = ask (eqb (uses s t n) 1) 10 (entryOffset s t n)
 
 -- "The last is the script."
 unfoldable pub lastCommand : List ℕ → ℕ
-lastCommand s = entryCount s commands - 1
-
--- "is each entry of tags 2 to 4 but the last command used once? 10 (first in file order)"
-unfoldable pub useQuestion : List ℕ → Table → ℕ → Question
-useQuestion s t n = ask (eqb (uses s t n) 1) 10 (entryOffset s t n)
-
-unfoldable pub useQuestions : List ℕ → List Question
-useQuestions s =
-    map (useQuestion s arithmetic) (indices (entryCount s arithmetic))
-    ++ map (useQuestion s boolean) (indices (entryCount s boolean))
-    ++ map (useQuestion s commands) (indices (lastCommand s))
+lastCommand s = entryCount s Commands - 1
 
 -- "Is the last one a command? 11"
-unfoldable pub lastQuestion : List ℕ → Question
-lastQuestion s = ask (isCommand (entry s commands (lastCommand s) .kind)) 11 (entryOffset s commands (lastCommand s))
+unfoldable pub lastValidity : List ℕ → Validity
+lastValidity s = ask (isCommand (entry s Commands (lastCommand s) .kind)) 11 (entryOffset s Commands (lastCommand s))
 
--- questions 6 to 11
+-- questions 6 to 11: "each entry in file order", then uses in file order, then the last command
 unfoldable pub contentValidity : List ℕ → Validity
-contentValidity s = thenAsk (asked (contentQuestions s)) (asked (useQuestions s ++ (lastQuestion s ∷ [])))
+contentValidity s =
+    inTurn
+    (askEach (nameCount s) (nameValidity s)
+    ∷ tableValidity s Arithmetic
+    ∷ tableValidity s Boolean
+    ∷ tableValidity s Commands
+    ∷ askEach (entryCount s Arithmetic) (useValidity s Arithmetic)
+    ∷ askEach (entryCount s Boolean) (useValidity s Boolean)
+    ∷ askEach (lastCommand s) (useValidity s Commands)
+    ∷ lastValidity s
+    ∷ [])
 
 -- questions 1 to 11 of a program file
 unfoldable pub validity : List ℕ → Validity
-validity s = thenAsk (asked (fieldQuestions s 0 programFields)) (contentValidity s)
+validity s = thenAsk (fieldsValidity s 0 programFields) (contentValidity s)
 
 -- "a field of tag 5 with the start list (0 to 512 records)", a record one byte per name
 unfoldable pub initialField : List ℕ → Field
@@ -130,11 +163,11 @@ initialField s = record { tag = 5; width = nameCount s; least = 0; most = 512 }
 
 -- questions 1 to 11 of the sheet program's input: "Here 1 to 4 are asked of the fifth field too, and 5 after it"
 unfoldable pub inputValidity : List ℕ → Validity
-inputValidity s = thenAsk (asked (fieldQuestions s 0 (programFields ++ (initialField s ∷ [])))) (contentValidity s)
+inputValidity s = thenAsk (fieldsValidity s 0 (programFields ++ (initialField s ∷ []))) (contentValidity s)
 
 -- the parts of that input: the program, and the start list
 unfoldable pub programPart : List ℕ → List ℕ
 programPart s = take (fieldStart s 4) s
 
 unfoldable pub initialPart : List ℕ → List ℕ
-initialPart s = take (contentLength s (fieldStart s 4)) (drop (contentStart s 4) s)
+initialPart s = take (contentLength s (fieldStart s 4)) (drop (fieldStart s 4 + 3) s)

@@ -30,7 +30,13 @@ pub data Command : Type 0 where
   guarded : ℕ → Boolean → Command → Command
   choice : ℕ → Command → Command → Command
 
--- the entry of a boolean, and of a command
+-- the entry of a tree
+unfoldable pub arithEntry : Arith → ℕ
+arithEntry (number n z) = n
+arithEntry (variable n x) = n
+arithEntry (element n x i) = n
+arithEntry (operator n o a b) = n
+
 unfoldable pub booleanEntry : Boolean → ℕ
 booleanEntry (truth n) = n
 booleanEntry (comparison n c a b) = n

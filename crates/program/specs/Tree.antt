@@ -5,8 +5,10 @@ use lib.IntN.{pos}
 use lib.ListN.{getD}
 use Rattle.signs.specs.declared.Comparison.the-variants.{Equal, Greater, AtLeast}
 use Rattle.signs.specs.declared.Operator.the-variants.{Add, Sub, Mul, Div, Pow}
-use Rattle.program.specs.File.{signed32, arithmetic, boolean, commands, Entry, entry}
+use Rattle.program.specs.File.{signed32, entry}
 use Rattle.program.specs.Questions.{lastCommand}
+use Rattle.program.specs.declared.Entry.{Entry}
+use Rattle.program.specs.declared.Table.the-variants.{Arithmetic, Boolean as Booleans, Commands}
 use Rattle.program.specs.Syntax.{Arith, number, variable, element, operator, Boolean, truth, comparison, conjunction, shortCircuit, negation, Command, skip, assign, store, sequence, conditional, iteration, guarded, choice}
 
 -- the tree that a reference r leads to, out of the trees of the entries below
@@ -38,10 +40,10 @@ arithNode below n e =
 -- the trees of the first n arithmetic entries, and the tree at entry n
 unfoldable pub arithTrees : List ℕ → ℕ → List Arith
 arithTrees s zero = []
-arithTrees s (suc n) = let below = arithTrees s n in below ++ (arithNode below n (entry s arithmetic n) ∷ [])
+arithTrees s (suc n) = let below = arithTrees s n in below ++ (arithNode below n (entry s Arithmetic n) ∷ [])
 
 unfoldable pub arithAt : List ℕ → ℕ → Arith
-arithAt s n = arithNode (arithTrees s n) n (entry s arithmetic n)
+arithAt s n = arithNode (arithTrees s n) n (entry s Arithmetic n)
 
 -- "0 true; 1 P = Q; 2 P > Q; 3 P ≥ Q; 4 P ∧ Q; 5 P && Q; 6 ¬P"
 unfoldable pub booleanNode : List ℕ → List Boolean → ℕ → Entry → Boolean
@@ -60,10 +62,10 @@ booleanNode s below n e =
 
 unfoldable pub booleanTrees : List ℕ → ℕ → List Boolean
 booleanTrees s zero = []
-booleanTrees s (suc n) = let below = booleanTrees s n in below ++ (booleanNode s below n (entry s boolean n) ∷ [])
+booleanTrees s (suc n) = let below = booleanTrees s n in below ++ (booleanNode s below n (entry s Booleans n) ∷ [])
 
 unfoldable pub booleanAt : List ℕ → ℕ → Boolean
-booleanAt s n = booleanNode s (booleanTrees s n) n (entry s boolean n)
+booleanAt s n = booleanNode s (booleanTrees s n) n (entry s Booleans n)
 
 -- "0 skip; 1 variable P := Q; 2 array P at Q := R; 3 P ; Q; 4 if P fi; 5 do P od; 6 guarded P → Q; 7 choice P [] Q"
 unfoldable pub commandNode : List ℕ → List Command → ℕ → Entry → Command
@@ -83,10 +85,10 @@ commandNode s below n e =
 
 unfoldable pub commandTrees : List ℕ → ℕ → List Command
 commandTrees s zero = []
-commandTrees s (suc n) = let below = commandTrees s n in below ++ (commandNode s below n (entry s commands n) ∷ [])
+commandTrees s (suc n) = let below = commandTrees s n in below ++ (commandNode s below n (entry s Commands n) ∷ [])
 
 unfoldable pub commandAt : List ℕ → ℕ → Command
-commandAt s n = commandNode s (commandTrees s n) n (entry s commands n)
+commandAt s n = commandNode s (commandTrees s n) n (entry s Commands n)
 
 -- "The last is the script."
 unfoldable pub script : List ℕ → Command

@@ -1,5 +1,64 @@
 // Script and graph: a program file read and validated, its syntax trees, and its program graph.
 
+// The three tables of entries of a file.
+pub enum Table {
+    Arithmetic,
+    Boolean,
+    Commands,
+}
+
+// An entry of a table: its kind and three operands.
+pub struct Entry {
+    pub kind: u8,
+    pub p: u16,
+    pub q: u16,
+    pub r: u16,
+}
+
+// Where the content of a field starts, and how many entries it has.
+pub struct Span {
+    pub start: usize,
+    pub count: usize,
+}
+
+// Where a file has its names and its tables.
+pub struct Layout {
+    pub names: Span,
+    pub arithmetic: Span,
+    pub boolean: Span,
+    pub commands: Span,
+}
+
+// The sorts of entries that an operand can refer to.
+pub enum Sort {
+    Expression,
+    Condition,
+    Command,
+    Guarded,
+}
+
+// What an operand is: unused, half of a number, the name of a variable or of an array, or a reference to an entry.
+pub enum Role {
+    Unused,
+    Half,
+    Variable,
+    Array,
+    To(Sort),
+}
+
+// The roles of the three operands of an entry.
+pub struct Roles {
+    pub p: Role,
+    pub q: Role,
+    pub r: Role,
+}
+
+// What a kind number says of its entry's operands.
+pub enum Shape {
+    Unknown,
+    Known(Roles),
+}
+
 // The number of the question whose answer is no, and the byte of the file that it concerns (0 where the question has no place).
 pub struct Refusal {
     pub number: u8,

@@ -6,7 +6,7 @@ use lib.Dec.{eqb, ltb}
 use lib.ListN.{length, getD}
 use lib.IntN.{ℤ}
 use Rattle.signs.specs.Number.{reasonNumber}
-use Rattle.program.specs.Asking.{askPlain, asked, thenAsk}
+use Rattle.program.specs.Asking.{askPlain, thenAsk, inTurn}
 use Rattle.program.specs.File.{sizes, cellCount}
 use Rattle.program.specs.Graph.{Edge, edge, perform, edges, edgeCount, nodeCount}
 use Rattle.program.specs.Questions.{validity}
@@ -32,7 +32,7 @@ pub record Configuration : Type 0 where
 
 -- "Has the memory as many cells as the script? 12", after questions 1 to 11
 unfoldable pub memoryValidity : List ℕ → List ℤ → Validity
-memoryValidity s m = thenAsk (validity s) (asked (askPlain (eqb (length m) (cellCount (sizes s))) 12 ∷ []))
+memoryValidity s m = thenAsk (validity s) (askPlain (eqb (length m) (cellCount (sizes s))) 12)
 
 -- edge number e of a program; past the last, a skip at node 0
 unfoldable pub edgeAt : List ℕ → ℕ → Edge
@@ -45,12 +45,11 @@ leaves s e node = ltb e (edgeCount s) && eqb (edgeAt s e .source) node
 -- "Is the node in the graph? 14. Does the arrow exist and leave the node? 15."
 unfoldable pub stepValidity : List ℕ → ℕ → Configuration → Validity
 stepValidity s e c =
-    thenAsk
-    (memoryValidity s (c .memory))
-    (asked
-    (askPlain (ltb (c .run .node) (nodeCount s)) 14
+    inTurn
+    (memoryValidity s (c .memory)
+    ∷ askPlain (ltb (c .run .node) (nodeCount s)) 14
     ∷ askPlain (leaves s e (c .run .node)) 15
-    ∷ []))
+    ∷ [])
 
 -- the effect of an edge's action in a memory
 unfoldable pub edgeEffect : List ℕ → List ℤ → ℕ → Effect
