@@ -51,13 +51,19 @@ unfoldable pub fieldStart : List ℕ → ℕ → ℕ
 fieldStart s zero = 0
 fieldStart s (suc k) = nextField s (fieldStart s k)
 
--- its content: where that starts, and how many entries of a width it has
-unfoldable pub span : List ℕ → ℕ → ℕ → Span
-span s k width = record { start = fieldStart s k + 3; count = contentLength s (fieldStart s k) / width }
+-- the content of the field at a place: where it starts, and how many entries of a width it has
+unfoldable pub spanAt : List ℕ → ℕ → ℕ → Span
+spanAt s at width = record { start = at + 3; count = contentLength s at / width }
 
 -- "Four fields in order, tags 1 to 4"
 unfoldable pub layoutOf : List ℕ → Layout
-layoutOf s = record { names = span s 0 2; arithmetic = span s 1 7; boolean = span s 2 7; commands = span s 3 7 }
+layoutOf s =
+    record {
+      names = spanAt s (fieldStart s 0) 2;
+      arithmetic = spanAt s (fieldStart s 1) 7;
+      boolean = spanAt s (fieldStart s 2) 7;
+      commands = spanAt s (fieldStart s 3) 7;
+    }
 
 -- a table's part of a file
 unfoldable pub spanOf : Layout → Table → Span

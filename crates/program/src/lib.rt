@@ -1,5 +1,7 @@
 // Script and graph: a program file read and validated, its syntax trees, and its program graph.
 
+pub mod file;
+
 // The three tables of entries of a file.
 pub enum Table {
     Arithmetic,
@@ -18,7 +20,7 @@ pub struct Entry {
 // Where the content of a field starts, and how many entries it has.
 pub struct Span {
     pub start: usize,
-    pub count: usize,
+    pub count: u16,
 }
 
 // Where a file has its names and its tables.

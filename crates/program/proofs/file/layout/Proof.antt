@@ -1,0 +1,43 @@
+-- `program::file::layout` meets its contract.
+use borrow.Author.Needs.{needs}
+use Rattle.program.specs.File.{layoutOf, fieldStart}
+use Rattle.program.proofs.file.layout.Statement.{statement}
+use Rattle.program.proofs.file.layout.Tie as tie
+
+next-field-requires : tie.Need-next-field-requires
+next-field-requires c κs = search needs
+
+next-field-requires-2 : tie.Need-next-field-requires-2
+next-field-requires-2 c κs = search needs
+
+next-field-requires-3 : tie.Need-next-field-requires-3
+next-field-requires-3 c κs = search needs
+
+span-at-requires : tie.Need-span-at-requires
+span-at-requires c κs = search needs
+
+span-at-requires-2 : tie.Need-span-at-requires-2
+span-at-requires-2 c κs = search needs
+
+span-at-requires-3 : tie.Need-span-at-requires-3
+span-at-requires-3 c κs = search needs
+
+span-at-requires-4 : tie.Need-span-at-requires-4
+span-at-requires-4 c κs = search needs
+
+returns : tie.Need-returns
+unfolding layoutOf fieldStart
+returns c = cc
+
+pub layout-spec : {M : Type 1} → statement M
+layout-spec =
+    tie.close
+    (tie.spec
+    next-field-requires
+    next-field-requires-2
+    next-field-requires-3
+    span-at-requires
+    span-at-requires-2
+    span-at-requires-3
+    span-at-requires-4
+    returns)
