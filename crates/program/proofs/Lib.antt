@@ -1,4 +1,5 @@
 pub mod Asking
 pub mod Reading
+pub mod Cells
 pub mod Open
 pub mod Examples

@@ -1,8 +1,8 @@
 // Reading a program file. All of it is total: a byte past the end is 0.
 
 ghost use mathlib.Core.Path.{_≡_};
-ghost use Prim.Native.Nat.{_<_, _≤_, _+_};
-ghost use Rattle.program.specs.File.{byteAt, wordAt, entryAt, nextField, spanAt, layoutOf, spanOf, nameCount, sizeAt, entryCount, entryOffset, entry};
+ghost use Prim.Native.Nat.{_<_, _≤_, _+_, min};
+ghost use Rattle.program.specs.File.{byteAt, wordAt, entryAt, nextField, spanAt, layoutOf, spanOf, nameCount, sizeAt, sizes, cellsOf, cellCount, firstCell, entryCount, entryOffset, entry};
 use crate::Entry;
 use crate::Layout;
 use crate::Span;
@@ -144,4 +144,37 @@ pub fn entry(s: &[u8], table: Table, n: u16) -> Entry
             r: 0,
         }
     }
+}
+
+fn least(a: u16, b: u16) -> u16
+    ensures { λ r. ⌜ r ≡ min a b ⌝ }
+{
+    if a < b { a } else { b }
+}
+
+fn cells_of(size: u16) -> usize
+    ensures { λ r. ⌜ (r ≡ cellsOf size) × (r < 65536) ⌝ }
+{
+    if size == 0 { 1 } else { long(size) }
+}
+
+// The number of cells of the names before name `i`, or of all where there are no more.
+pub fn first_cell(s: &[u8], i: u16) -> usize
+    ensures { λ r. ⌜ r ≡ firstCell (sizes (now (s .entry))) i ⌝ }
+{
+    let end = least(name_count(s), i);
+    let mut total: usize = 0;
+    let mut k: u16 = 0;
+    while k < end {
+        total += cells_of(size_at(s, k));
+        k += 1;
+    }
+    total
+}
+
+// The number of cells of a memory.
+pub fn cell_count(s: &[u8]) -> usize
+    ensures { λ r. ⌜ r ≡ cellCount (sizes (now (s .entry))) ⌝ }
+{
+    first_cell(s, name_count(s))
 }
