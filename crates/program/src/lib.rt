@@ -1,6 +1,7 @@
 // Script and graph: a program file read and validated, its syntax trees, and its program graph.
 
 pub mod file;
+pub mod kinds;
 
 // The three tables of entries of a file.
 pub enum Table {
