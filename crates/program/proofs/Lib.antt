@@ -1,7 +1,11 @@
 pub mod Asking
 pub mod Lists
 pub mod Fit
+pub mod Operands
 pub mod Trees
+pub mod Expressions
+pub mod Made
+pub mod Sorting
 pub mod Nodes
 pub mod Open
 pub mod Examples

@@ -37,6 +37,18 @@ from-below P step n = step n (below n)
     below zero m h = absurd (not-suc-le-zero h)
     below (suc n) m h = step m (λ k l. below n k (omega arith))
 
+-- the kinds 0 to 7, and any other
+pub by-kind : (P : ℕ → Type 0) → P 0 → P 1 → P 2 → P 3 → P 4 → P 5 → P 6 → P 7 → ((k : ℕ) → P (suc (suc (suc (suc (suc (suc (suc (suc k))))))))) → (k : ℕ) → P k
+by-kind P a b c d e f g h other zero = a
+by-kind P a b c d e f g h other (suc zero) = b
+by-kind P a b c d e f g h other (suc (suc zero)) = c
+by-kind P a b c d e f g h other (suc (suc (suc zero))) = d
+by-kind P a b c d e f g h other (suc (suc (suc (suc zero)))) = e
+by-kind P a b c d e f g h other (suc (suc (suc (suc (suc zero))))) = f
+by-kind P a b c d e f g h other (suc (suc (suc (suc (suc (suc zero)))))) = g
+by-kind P a b c d e f g h other (suc (suc (suc (suc (suc (suc (suc zero))))))) = h
+by-kind P a b c d e f g h other (suc (suc (suc (suc (suc (suc (suc (suc k)))))))) = other k
+
 -- a list that gets one element more at its end each time: its length is the number of times, and it holds each element at its place
 module _ {A : Type 0} (list : ℕ → List A) (at : ℕ → A) (empty : list 0 ≡ []) (grows : (n : ℕ) → list (suc n) ≡ list n ++ (at n ∷ [])) where
   pub grown-length : (n : ℕ) → length (list n) ≡ n
