@@ -7,5 +7,6 @@ pub mod Expressions
 pub mod Made
 pub mod Sorting
 pub mod Nodes
+pub mod Actions
 pub mod Open
 pub mod Examples
