@@ -1,22 +1,23 @@
 -- The actions of a well-formed program's graph: each is the one at its kind and entry, that entry exists, and it is well sorted.
-use mathlib.Core.Path.{_≡_, refl, sym, _∙_, ap}
-use mathlib.Core.Bool.{Bool, true, false}
+use mathlib.Core.Path.{_≡_, ap}
+use mathlib.Core.Bool.{Bool, true}
 use mathlib.Core.List.{List}
 use Prim.Native.Nat.{ℕ, _+_, _<_}
 use lib.Dec.{T}
 use lib.ListN.{getD}
 use Rattle.program.specs.File.{sizes, entryCount}
-use Rattle.program.specs.Graph.{Action, perform, test, leave, Edge, guardAction, part, graph, edges, edgeCount, actionKind, actionEntry, actionTable, actionOf}
+use Rattle.program.specs.Graph.{perform, leave, Edge, edge, guardAction, part, graph, edges, edgeCount, actionKind, actionEntry, actionTable, actionOf}
 use Rattle.program.specs.Questions.{validity}
 use Rattle.program.specs.Sorted.{actionSorted}
 use Rattle.program.specs.Syntax.{Command}
 use Rattle.program.specs.Tree.{booleanAt}
-use Rattle.program.specs.declared.Table.the-variants.{Boolean as Booleans, Commands}
+use Rattle.program.specs.declared.Table.the-variants.{Boolean as Booleans}
 use Rattle.program.specs.declared.Validity.the-variants.{Fit}
-use Rattle.program.proofs.Lists.{both, passed, Each, none, more, each-append, each-at}
-use Rattle.program.proofs.Made.{Entry, Made, makeSkip, makeAssign, makeStore, makeSequence, makeConditional, makeIteration, makeGuarded, makeChoice}
+use Rattle.program.proofs.Lists.{Each, none, more, each-append, each-at}
+use Rattle.program.proofs.Made.{Made, makeSkip, makeAssign, makeStore, makeSequence, makeConditional, makeIteration, makeGuarded, makeChoice}
 use Rattle.program.proofs.Sorting.{made-at, made-entry, made-guarded, made-sorted, boolean-sorted, script-made}
-use Rattle.program.proofs.Trees.{boolean-entry, command-entry}
+use Rattle.program.proofs.Tests.{both, passed}
+use Rattle.program.proofs.Trees.{boolean-entry}
 
 -- what holds of the action of an edge
 pub record Faithful (s : List ℕ) (e : Edge) : Type 0 where
@@ -26,7 +27,7 @@ pub record Faithful (s : List ℕ) (e : Edge) : Type 0 where
 
 module _ (s : List ℕ) (fit : validity s ≡ Fit) where
   -- of a command, a guard and an exit
-  performed : {a b n : ℕ} {c : Command} {g : Bool} → Made s g n c → Faithful s (record { source = a; target = b; action = perform c })
+  performed : {a b n : ℕ} {c : Command} {g : Bool} → Made s g n c → Faithful s (edge a (perform c) b)
   unfolding actionKind actionEntry actionTable actionOf actionSorted
   performed m =
       record {
@@ -35,11 +36,11 @@ module _ (s : List ℕ) (fit : validity s ≡ Fit) where
         exists = rw (made-entry m) (made-at m .exists);
       }
 
-  tested : {a b : ℕ} (n : ℕ) → n < entryCount s Booleans → Faithful s (record { source = a; target = b; action = guardAction (booleanAt s n) })
+  tested : {a b : ℕ} (n : ℕ) → n < entryCount s Booleans → Faithful s (edge a (guardAction (booleanAt s n)) b)
   unfolding guardAction actionKind actionEntry actionTable actionOf actionSorted
   tested n h = record { same = rw (boolean-entry s n); sorted = boolean-sorted s fit n h; exists = rw (boolean-entry s n) h }
 
-  left : {a b n : ℕ} {c : Command} → Made s true n c → Faithful s (record { source = a; target = b; action = leave c })
+  left : {a b n : ℕ} {c : Command} → Made s true n c → Faithful s (edge a (leave c) b)
   unfolding actionKind actionEntry actionTable actionOf actionSorted
   left m =
       record {

@@ -15,8 +15,9 @@ use Rattle.program.specs.Tree.{arithBelow, arithNode, arithTrees, arithA
 use Rattle.program.specs.declared.Sort.the-variants.{Expression, Condition}
 use Rattle.program.specs.declared.Table.the-variants.{Arithmetic, Boolean as Booleans}
 use Rattle.program.specs.declared.Validity.the-variants.{Fit}
-use Rattle.program.proofs.Lists.{both, from-below, by-kind}
+use Rattle.program.proofs.Induction.{from-below, by-kind}
 use Rattle.program.proofs.Operands.{Reference, Operands, operands-fit}
+use Rattle.program.proofs.Tests.{both}
 use Rattle.program.proofs.Trees.{arith-below, arith-entry, boolean-below, boolean-entry}
 
 -- arithmetic entry n, where the entries below are well sorted

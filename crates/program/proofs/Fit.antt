@@ -8,15 +8,15 @@ use lib.Dec.{leb, eqb}
 use lib.ListN.{getD}
 use borrow.Author.Tests.{leb-true, eqb-true}
 use Rattle.program.specs.Asking.{inTurn}
-use Rattle.program.specs.File.{Field, programFields, contentLength, nextField, fieldStart, span, layoutOf, spanOf, nameCount, sizeAt, sizes, entryCount, entry, cellCount}
+use Rattle.program.specs.File.{Field, programFields, contentLength, fieldStart, span, layoutOf, spanOf, entryCount, entry}
 use Rattle.program.specs.Kind.{isCommand}
-use Rattle.program.specs.Questions.{wholeEntries, headValidity, fieldsValidity, nameValidity, entryValidity, tableValidity, uses, useValidity, lastCommand, lastValidity, contentValidity, validity}
+use Rattle.program.specs.Questions.{wholeEntries, headValidity, fieldsValidity, entryValidity, tableValidity, uses, useValidity, lastCommand, lastValidity, contentValidity, validity}
 use Rattle.program.specs.declared.Table.{Table}
 use Rattle.program.specs.declared.Table.the-variants.{Arithmetic, Boolean, Commands}
 use Rattle.program.specs.declared.Validity.{Validity}
 use Rattle.program.specs.declared.Validity.the-variants.{Fit}
 use Rattle.program.proofs.Asking.{ask-fit, then-first, then-second, each-fit}
-use Rattle.program.proofs.Lists.{three}
+use Rattle.program.proofs.Tests.{three}
 
 -- questions in turn, all answered yes: yes to each
 pub turn-fit : (xs : List Validity) (k : ℕ) → inTurn xs ≡ Fit → getD xs k Fit ≡ Fit
@@ -26,9 +26,9 @@ turn-fit (x ∷ xs) zero e = then-first x (inTurn xs) e
 turn-fit (x ∷ xs) (suc k) e = turn-fit xs k (then-second x (inTurn xs) e)
 
 -- a field's number of entries is one that is allowed
-pub record Allowed (f : Field) (count : ℕ) : Type 0 where
-  pub enough : f .least ≤ count
-  pub few : count ≤ f .most
+record Allowed (f : Field) (count : ℕ) : Type 0 where
+  enough : f .least ≤ count
+  few : count ≤ f .most
 
 head-fit : (s : List ℕ) (at : ℕ) (f : Field) → headValidity s at f ≡ Fit → Allowed f (contentLength s at / f .width)
 unfolding headValidity wholeEntries
@@ -52,6 +52,10 @@ module _ (s : List ℕ) (fit : validity s ≡ Fit) where
   commands-allowed =
       let allowed = head-fit s (fieldStart s 3) _ (then-first _ _ (then-second _ _ (then-second _ _ (then-second _ _ fields-fit)))) in
       (allowed .enough, allowed .few)
+
+  pub one-last : entryCount s Commands ≡ suc (lastCommand s)
+  unfolding lastCommand
+  one-last = omega (arith, commands-allowed)
 
   -- questions 7 to 9, of each entry
   pub entry-fit : (t : Table) (n : ℕ) → n < entryCount s t → entryValidity s t n ≡ Fit

@@ -1,5 +1,8 @@
-pub mod Asking
+pub mod Tests
+pub mod Induction
 pub mod Lists
+pub mod Sums
+pub mod Asking
 pub mod Fit
 pub mod Operands
 pub mod Trees
@@ -8,5 +11,6 @@ pub mod Made
 pub mod Sorting
 pub mod Nodes
 pub mod Actions
+pub mod Counts
 pub mod Open
 pub mod Examples

@@ -1,53 +1,16 @@
--- Laws of lists: lists that grow at their end, what holds of every element, two lists side by side; and induction from below.
+-- Laws of lists: lists that grow at their end, and what holds of every element.
 use mathlib.Core.Path.{_≡_, refl, sym, _∙_, ap}
-use mathlib.Core.Bool.{Bool, true, false, _&&_, and-eq-true-iff}
+use mathlib.Core.Bool.{Bool}
 use mathlib.Core.List.{List, [], _∷_, _++_}
-use Prim.Native.Nat.{ℕ, zero, suc, _+_, _≤_, _<_}
+use Prim.Native.Nat.{ℕ, zero, suc, _≤_, _<_}
 use native.Mathlib.Nat.{le-of-suc-le-suc, not-suc-le-zero}
 use native.Mathlib.Omega.{arith}
 use native.Mathlib.Decide.{ℕ-discrete}
 use lib.Dec.{T}
 use lib.ListN.{length, getD, length-append, List·getD-append, List·getD-eq-default, replicate}
 use lib.Seq.{getD-append-seam}
-use Rattle.signs.specs.Lists.{all}
-
--- the parts of a test of two and of three
-pub two : (a b : Bool) → (a && b) ≡ true → (a ≡ true) × (b ≡ true)
-two a b e = and-eq-true-iff a b .0 e
-
-pub three : (a b c : Bool) → (a && b && c) ≡ true → (a ≡ true) × (b ≡ true) × (c ≡ true)
-three a b c e = let h = two (a && b) c e in let k = two a b (h .0) in (k .0, k .1, h .1)
-
-pub both : {a b : Bool} → a ≡ true → b ≡ true → (a && b) ≡ true
-both {a} {b} p q = and-eq-true-iff a b .1 (p, q)
-
--- a test that came out true has passed, and the other way round
-pub passed : {b : Bool} → b ≡ true → T b
-passed e = rw e tt
-
-pub is-true : (b : Bool) → T b → b ≡ true
-is-true true h = refl
-is-true false h = absurd h
-
--- what follows from the numbers below holds everywhere
-pub from-below : (P : ℕ → Type 0) → ((n : ℕ) → ((m : ℕ) → m < n → P m) → P n) → (n : ℕ) → P n
-from-below P step n = step n (below n)
-  where
-    below : (n m : ℕ) → m < n → P m
-    below zero m h = absurd (not-suc-le-zero h)
-    below (suc n) m h = step m (λ k l. below n k (omega arith))
-
--- the kinds 0 to 7, and any other
-pub by-kind : (P : ℕ → Type 0) → P 0 → P 1 → P 2 → P 3 → P 4 → P 5 → P 6 → P 7 → ((k : ℕ) → P (suc (suc (suc (suc (suc (suc (suc (suc k))))))))) → (k : ℕ) → P k
-by-kind P a b c d e f g h other zero = a
-by-kind P a b c d e f g h other (suc zero) = b
-by-kind P a b c d e f g h other (suc (suc zero)) = c
-by-kind P a b c d e f g h other (suc (suc (suc zero))) = d
-by-kind P a b c d e f g h other (suc (suc (suc (suc zero)))) = e
-by-kind P a b c d e f g h other (suc (suc (suc (suc (suc zero))))) = f
-by-kind P a b c d e f g h other (suc (suc (suc (suc (suc (suc zero)))))) = g
-by-kind P a b c d e f g h other (suc (suc (suc (suc (suc (suc (suc zero))))))) = h
-by-kind P a b c d e f g h other (suc (suc (suc (suc (suc (suc (suc (suc k)))))))) = other k
+use Rattle.signs.specs.Lists.{all, tabulate}
+use Rattle.program.proofs.Tests.{both, passed, is-true}
 
 -- a list that gets one element more at its end each time: its length is the number of times, and it holds each element at its place
 module _ {A : Type 0} (list : ℕ → List A) (at : ℕ → A) (empty : list 0 ≡ []) (grows : (n : ℕ) → list (suc n) ≡ list n ++ (at n ∷ [])) where
@@ -65,6 +28,16 @@ module _ {A : Type 0} (list : ℕ → List A) (at : ℕ → A) (empty : list 0 �
 
   pub grown-past : (n r : ℕ) (d : A) → n ≤ r → getD (list n) r d ≡ d
   grown-past n r d h = List·getD-eq-default (list n) d (omega (arith, grown-length n))
+
+-- the same of what a function gives at 0, 1, … n - 1
+module _ {A : Type 0} (n : ℕ) (f : ℕ → A) where
+  pub length-tabulate : length (tabulate n f) ≡ n
+  unfolding tabulate
+  length-tabulate = grown-length (λ k. tabulate k f) f refl (λ k. refl) n
+
+  pub getD-tabulate : (i : ℕ) (d : A) → i < n → getD (tabulate n f) i d ≡ f i
+  unfolding tabulate
+  getD-tabulate i d h = grown-at (λ k. tabulate k f) f refl (λ k. refl) n i d h
 
 -- one value all along and past the end
 pub getD-same : {A : Type 0} (m : ℕ) (a : A) (k : ℕ) → getD (replicate m a) k a ≡ a

@@ -11,29 +11,29 @@ use Rattle.program.specs.Questions.{sameTable, limit, ofSort, validity}
 use Rattle.program.specs.Sorted.{isVariable, isArray, arithSorted}
 use Rattle.program.specs.Syntax.{Arith, Command, skip, assign, store, sequence, conditional, iteration, guarded, choice}
 use Rattle.program.specs.Tree.{arithAt, booleanAt, commandBelow, commandNode, commandTrees, commandAt}
-use Rattle.program.specs.declared.Sort.the-variants.{Expression, Condition, Command as Commanding, Guarded}
-use Rattle.program.specs.declared.Table.the-variants.{Arithmetic, Boolean as Booleans, Commands}
+use Rattle.program.specs.declared.Sort.the-variants.{Expression, Command as Commanding, Guarded}
+use Rattle.program.specs.declared.Table.the-variants.{Boolean as Booleans, Commands}
 use Rattle.program.specs.declared.Validity.the-variants.{Fit}
 use Rattle.program.proofs.Expressions.{arith-true}
-use Rattle.program.proofs.Lists.{from-below, by-kind}
+use Rattle.program.proofs.Induction.{from-below, by-kind}
 use Rattle.program.proofs.Operands.{Reference, Operands, operands-fit}
 use Rattle.program.proofs.Trees.{command-below}
 
 -- an entry of the commands that exists, with its tree
-pub record Entry (s : List ℕ) (n : ℕ) (c : Command) : Type 0 where
+pub record AtEntry (s : List ℕ) (n : ℕ) (c : Command) : Type 0 where
   pub exists : n < entryCount s Commands
   pub tree : c ≡ commandAt s n
 
 -- how the trees of a well-formed program's commands are made: whether it is a guarded command, the entry and the tree
 pub data Made (s : List ℕ) : Bool → ℕ → Command → Type 0 where
-  makeSkip : {n : ℕ} → Entry s n (skip n) → Made s false n (skip n)
-  makeAssign : {n x : ℕ} {a : Arith} → Entry s n (assign n x a) → isVariable (sizes s) x ≡ true → arithSorted (sizes s) a ≡ true → Made s false n (assign n x a)
-  makeStore : {n x : ℕ} {i a : Arith} → Entry s n (store n x i a) → isArray (sizes s) x ≡ true → arithSorted (sizes s) i ≡ true → arithSorted (sizes s) a ≡ true → Made s false n (store n x i a)
-  makeSequence : {n p q : ℕ} {c d : Command} → Entry s n (sequence n c d) → p < n → q < n → Made s false p c → Made s false q d → Made s false n (sequence n c d)
-  makeConditional : {n p : ℕ} {c : Command} → Entry s n (conditional n c) → p < n → Made s true p c → Made s false n (conditional n c)
-  makeIteration : {n p : ℕ} {c : Command} → Entry s n (iteration n c) → p < n → Made s true p c → Made s false n (iteration n c)
-  makeGuarded : {n g p : ℕ} {c : Command} → Entry s n (guarded n (booleanAt s g) c) → g < entryCount s Booleans → p < n → Made s false p c → Made s true n (guarded n (booleanAt s g) c)
-  makeChoice : {n p q : ℕ} {c d : Command} → Entry s n (choice n c d) → p < n → q < n → Made s true p c → Made s true q d → Made s true n (choice n c d)
+  makeSkip : {n : ℕ} → AtEntry s n (skip n) → Made s false n (skip n)
+  makeAssign : {n x : ℕ} {a : Arith} → AtEntry s n (assign n x a) → isVariable (sizes s) x ≡ true → arithSorted (sizes s) a ≡ true → Made s false n (assign n x a)
+  makeStore : {n x : ℕ} {i a : Arith} → AtEntry s n (store n x i a) → isArray (sizes s) x ≡ true → arithSorted (sizes s) i ≡ true → arithSorted (sizes s) a ≡ true → Made s false n (store n x i a)
+  makeSequence : {n p q : ℕ} {c d : Command} → AtEntry s n (sequence n c d) → p < n → q < n → Made s false p c → Made s false q d → Made s false n (sequence n c d)
+  makeConditional : {n p : ℕ} {c : Command} → AtEntry s n (conditional n c) → p < n → Made s true p c → Made s false n (conditional n c)
+  makeIteration : {n p : ℕ} {c : Command} → AtEntry s n (iteration n c) → p < n → Made s true p c → Made s false n (iteration n c)
+  makeGuarded : {n g p : ℕ} {c : Command} → AtEntry s n (guarded n (booleanAt s g) c) → g < entryCount s Booleans → p < n → Made s false p c → Made s true n (guarded n (booleanAt s g) c)
+  makeChoice : {n p q : ℕ} {c d : Command} → AtEntry s n (choice n c d) → p < n → q < n → Made s true p c → Made s true q d → Made s true n (choice n c d)
 
 -- a kind of command is no kind of guarded command
 pub not-guarded : (k : ℕ) → isCommand k ≡ true → isGuarded k ≡ false
@@ -41,7 +41,7 @@ unfolding isCommand isGuarded
 not-guarded k e = let h = leb-true k 5 e in rw (lt-leb 6 k (omega arith))
 
 -- the entry with its tree
-here : {s : List ℕ} {n : ℕ} {c : Command} → n < entryCount s Commands → c ≡ commandAt s n → Entry s n c
+here : {s : List ℕ} {n : ℕ} {c : Command} → n < entryCount s Commands → c ≡ commandAt s n → AtEntry s n c
 here h e = record { exists = h; tree = e }
 
 -- command entry n, where those below are made

@@ -1,6 +1,6 @@
 -- Edges leave and enter nodes of the graph, and no edge leaves the end node (book, Proposition 2.12).
 use mathlib.Core.Path.{ap}
-use mathlib.Core.Bool.{Bool, not, _&&_}
+use mathlib.Core.Bool.{not, _&&_}
 use mathlib.Core.Logic.{_≢_}
 use mathlib.Core.List.{List}
 use Prim.Native.Nat.{ℕ, _+_, _≤_, _<_}
@@ -13,7 +13,8 @@ use Rattle.signs.specs.Lists.{all}
 use Rattle.program.specs.Graph.{Action, Edge, edge, part, graph, edges, edgeCount, nodeCount}
 use Rattle.program.specs.Syntax.{Command, skip, assign, store, sequence, conditional, iteration, guarded, choice}
 use Rattle.program.specs.Tree.{script}
-use Rattle.program.proofs.Lists.{both, passed, Each, none, more, each-append, each-at, each-all}
+use Rattle.program.proofs.Lists.{Each, none, more, each-append, each-at, each-all}
+use Rattle.program.proofs.Tests.{both, passed}
 
 -- what holds of an edge in a graph of so many nodes
 pub record Inside (nodes : ℕ) (e : Edge) : Type 0 where

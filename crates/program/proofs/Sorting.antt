@@ -1,8 +1,8 @@
 -- The trees of a well-formed program are well sorted: every name is there and of the right sort, every reference lower and of the sort its rule needs.
-use mathlib.Core.Path.{_≡_, refl, sym, _∙_, ap}
+use mathlib.Core.Path.{_≡_, refl, _∙_, ap}
 use mathlib.Core.Bool.{Bool, true, false, not}
 use mathlib.Core.List.{List}
-use Prim.Native.Nat.{ℕ, _<_, _-_}
+use Prim.Native.Nat.{ℕ, _<_}
 use native.Mathlib.Omega.{arith}
 use lib.Dec.{T, ltb}
 use borrow.Author.Tests.{lt-ltb}
@@ -15,13 +15,13 @@ use Rattle.program.specs.Tree.{arithAt, booleanAt, commandAt, script}
 use Rattle.program.specs.declared.Table.the-variants.{Arithmetic, Boolean as Booleans, Commands}
 use Rattle.program.specs.declared.Validity.the-variants.{Fit}
 use Rattle.program.proofs.Expressions.{arith-true, boolean-true}
-use Rattle.program.proofs.Fit.{commands-allowed, last-fit}
-use Rattle.program.proofs.Lists.{both, passed}
-use Rattle.program.proofs.Made.{Entry, Made, makeSkip, makeAssign, makeStore, makeSequence, makeConditional, makeIteration, makeGuarded, makeChoice, not-guarded, made}
+use Rattle.program.proofs.Fit.{one-last, last-fit}
+use Rattle.program.proofs.Made.{AtEntry, Made, makeSkip, makeAssign, makeStore, makeSequence, makeConditional, makeIteration, makeGuarded, makeChoice, not-guarded, made}
+use Rattle.program.proofs.Tests.{both, passed}
 use Rattle.program.proofs.Trees.{command-entry}
 
 -- a tree that is made is the tree at its entry, with that entry's number, and is guarded or not as its kind says
-pub made-at : {s : List ℕ} {g : Bool} {n : ℕ} {c : Command} → Made s g n c → Entry s n c
+pub made-at : {s : List ℕ} {g : Bool} {n : ℕ} {c : Command} → Made s g n c → AtEntry s n c
 made-at (makeSkip e) = e
 made-at (makeAssign e x a) = e
 made-at (makeStore e x i a) = e
@@ -81,8 +81,7 @@ module _ (s : List ℕ) (fit : validity s ≡ Fit) where
 
   -- the script exists
   pub script-exists : lastCommand s < entryCount s Commands
-  unfolding lastCommand
-  script-exists = omega (arith, commands-allowed s fit)
+  script-exists = omega (arith, one-last s fit)
 
   pub script-made : Made s false (lastCommand s) (script s)
   unfolding script

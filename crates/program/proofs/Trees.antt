@@ -1,7 +1,7 @@
 -- Laws of trees: the trees of the entries below are those at these entries, and a tree has the number of its entry.
 use mathlib.Core.Path.{_≡_, refl}
-use mathlib.Core.List.{List, []}
-use Prim.Native.Nat.{ℕ, suc, _≤_, _<_}
+use mathlib.Core.List.{List}
+use Prim.Native.Nat.{ℕ, _≤_, _<_}
 use lib.IntN.{pos}
 use lib.ListN.{List·getD-map}
 use Rattle.program.specs.File.{entry}
