@@ -3,17 +3,12 @@ use mathlib.Core.Path.{_≡_, refl, sym, _∙_, ap}
 use mathlib.Core.List.{List, [], _∷_, _++_, map}
 use Prim.Native.Nat.{ℕ, zero, suc, _+_, _≤_, _<_, min}
 use native.Mathlib.Decide.{ℕ-discrete, decLe}
-use native.Mathlib.Numerals.{add-one}
 use native.Mathlib.Omega.{arith}
-use lib.ListN.{length, take, length-append}
+use lib.ListN.{take}
 use lib.Seq.{take-append-le, take-all}
 use Rattle.signs.specs.Lists.{tabulate, sum}
 use Rattle.program.specs.File.{nameCount, sizeAt, sizes, cellsOf, cellCount, firstCell}
-
-length-tabulate : {A : Type 0} (n : ℕ) (f : ℕ → A) → length (tabulate n f) ≡ n
-unfolding tabulate
-length-tabulate zero f = refl
-length-tabulate (suc n) f = length-append (tabulate n f) (f n ∷ []) ∙ omega (arith, length-tabulate n f)
+use Rattle.program.proofs.Lists.{length-tabulate}
 
 -- the first of what a function gives
 take-tabulate : {A : Type 0} (n i : ℕ) (f : ℕ → A) → i ≤ n → take i (tabulate n f) ≡ tabulate i f

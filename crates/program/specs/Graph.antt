@@ -1,10 +1,14 @@
 -- The program graph (document 01, "The graph"; book, Definitions 2.7, 2.8 and 2.19).
 use Prim.Native.Nat.{ℕ, _+_, _/_, _%_}
+use mathlib.Core.Bool.{cond}
 use mathlib.Core.List.{List, [], _∷_, _++_}
+use lib.Dec.{eqb}
 use lib.ListN.{length, getD}
 use Rattle.signs.specs.Lists.{concatMap}
 use Rattle.program.specs.Syntax.{Boolean, truth, conjunction, negation, booleanEntry, Command, skip, assign, store, sequence, conditional, iteration, guarded, choice, commandEntry}
 use Rattle.program.specs.Tree.{booleanAt, commandAt, script}
+use Rattle.program.specs.declared.Table.{Table}
+use Rattle.program.specs.declared.Table.the-variants.{Boolean as Booleans, Commands}
 
 -- an action performs skip, an assignment or a store, tests a boolean, or leaves the do whose operand is a guarded command
 pub data Action : Type 0 where
@@ -85,6 +89,10 @@ unfoldable pub actionEntry : Action → ℕ
 actionEntry (perform c) = commandEntry c
 actionEntry (test b) = booleanEntry b
 actionEntry (leave c) = commandEntry c
+
+-- the table of that entry, by the action's kind
+unfoldable pub actionTable : ℕ → Table
+actionTable kind = cond (eqb kind 2) Booleans Commands
 
 -- the action of a kind and an entry; any other kind is a skip
 unfoldable pub actionOf : List ℕ → ℕ → ℕ → Action

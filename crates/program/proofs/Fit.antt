@@ -1,0 +1,75 @@
+-- What the questions say of a program that passes them all.
+use mathlib.Core.Path.{_≡_, refl}
+use mathlib.Core.Bool.{true}
+use mathlib.Core.List.{List, [], _∷_}
+use Prim.Native.Nat.{ℕ, zero, suc, _/_, _%_, _≤_, _<_}
+use native.Mathlib.Omega.{arith}
+use lib.Dec.{leb, eqb}
+use lib.ListN.{getD}
+use borrow.Author.Tests.{leb-true, eqb-true}
+use Rattle.program.specs.Asking.{inTurn}
+use Rattle.program.specs.File.{Field, programFields, contentLength, fieldStart, spanAt, layoutOf, spanOf, entryCount, entry}
+use Rattle.program.specs.Kind.{isCommand}
+use Rattle.program.specs.Questions.{wholeEntries, headValidity, fieldsValidity, entryValidity, tableValidity, uses, useValidity, lastCommand, lastValidity, contentValidity, validity}
+use Rattle.program.specs.declared.Table.{Table}
+use Rattle.program.specs.declared.Table.the-variants.{Arithmetic, Boolean, Commands}
+use Rattle.program.specs.declared.Validity.{Validity}
+use Rattle.program.specs.declared.Validity.the-variants.{Fit}
+use Rattle.program.proofs.Asking.{ask-fit, then-first, then-second, each-fit}
+use Rattle.program.proofs.Tests.{three}
+
+-- questions in turn, all answered yes: yes to each
+pub turn-fit : (xs : List Validity) (k : ℕ) → inTurn xs ≡ Fit → getD xs k Fit ≡ Fit
+unfolding inTurn
+turn-fit [] k e = refl
+turn-fit (x ∷ xs) zero e = then-first x (inTurn xs) e
+turn-fit (x ∷ xs) (suc k) e = turn-fit xs k (then-second x (inTurn xs) e)
+
+-- a field's number of entries is one that is allowed
+record Allowed (f : Field) (count : ℕ) : Type 0 where
+  enough : f .least ≤ count
+  few : count ≤ f .most
+
+head-fit : (s : List ℕ) (at : ℕ) (f : Field) → headValidity s at f ≡ Fit → Allowed f (contentLength s at / f .width)
+unfolding headValidity wholeEntries
+head-fit s at f e =
+    let count = contentLength s at / f .width in
+    let whole = three (eqb (contentLength s at % f .width) 0) (leb (f .least) count) (leb count (f .most)) (ask-fit _ 3 at (turn-fit _ 2 e)) in
+    record { enough = leb-true _ _ (whole .1); few = leb-true _ _ (whole .2) }
+
+module _ (s : List ℕ) (fit : validity s ≡ Fit) where
+  content-fit : contentValidity s ≡ Fit
+  unfolding validity
+  content-fit = then-second (fieldsValidity s 0 programFields) _ fit
+
+  fields-fit : fieldsValidity s 0 programFields ≡ Fit
+  unfolding validity
+  fields-fit = then-first _ (contentValidity s) fit
+
+  -- "Tag 4, commands: 1 to 256."
+  pub commands-allowed : (1 ≤ entryCount s Commands) × (entryCount s Commands ≤ 256)
+  unfolding fieldsValidity programFields entryCount spanOf layoutOf spanAt fieldStart
+  commands-allowed =
+      let allowed = head-fit s (fieldStart s 3) _ (then-first _ _ (then-second _ _ (then-second _ _ (then-second _ _ fields-fit)))) in
+      (allowed .enough, allowed .few)
+
+  pub one-last : entryCount s Commands ≡ suc (lastCommand s)
+  unfolding lastCommand
+  one-last = omega (arith, commands-allowed)
+
+  -- questions 7 to 9, of each entry
+  pub entry-fit : (t : Table) (n : ℕ) → n < entryCount s t → entryValidity s t n ≡ Fit
+  unfolding contentValidity tableValidity
+  entry-fit Arithmetic n h = each-fit _ _ (turn-fit _ 1 content-fit) n h
+  entry-fit Boolean n h = each-fit _ _ (turn-fit _ 2 content-fit) n h
+  entry-fit Commands n h = each-fit _ _ (turn-fit _ 3 content-fit) n h
+
+  -- question 10, of the commands
+  pub used-once : (n : ℕ) → n < lastCommand s → uses s Commands n ≡ 1
+  unfolding contentValidity useValidity
+  used-once n h = eqb-true (uses s Commands n) 1 (ask-fit _ 10 _ (each-fit _ _ (turn-fit _ 6 content-fit) n h))
+
+  -- question 11
+  pub last-fit : isCommand (entry s Commands (lastCommand s) .kind) ≡ true
+  unfolding contentValidity lastValidity
+  last-fit = ask-fit _ 11 _ (turn-fit _ 7 content-fit)
