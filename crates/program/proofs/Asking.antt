@@ -1,10 +1,10 @@
 -- Laws of asking: what a fit answer says of each question, and what the first refusal says of all.
 use mathlib.Core.Path.{_≡_, refl, sym, _∙_, ap}
-use mathlib.Core.Bool.{Bool, true, false}
+use mathlib.Core.Bool.{Bool, true, false, false≢true}
 use Prim.Native.Nat.{ℕ, zero, suc, _≤_, _<_}
 use native.Mathlib.Omega.{arith}
 use native.Mathlib.Decide.{ℕ-discrete}
-use Rattle.program.specs.Asking.{ask, thenAsk, askEach}
+use Rattle.program.specs.Asking.{ask, thenAsk, isRefused, askEach}
 use Rattle.program.specs.declared.Refusal.{Refusal}
 use Rattle.program.specs.declared.Validity.{Validity}
 use Rattle.program.specs.declared.Validity.the-variants.{Fit, Refused}
@@ -28,10 +28,31 @@ unfolding thenAsk
 then-second Fit b e = e
 then-second (Refused x) b e = refused-unfit x e
 
+pub then-fit : (a : Validity) → thenAsk a Fit ≡ a
+unfolding thenAsk
+then-fit Fit = refl
+then-fit (Refused x) = refl
+
 pub then-assoc : (a b c : Validity) → thenAsk (thenAsk a b) c ≡ thenAsk a (thenAsk b c)
 unfolding thenAsk
 then-assoc Fit b c = refl
 then-assoc (Refused x) b c = refl
+
+-- how code asks: an answer v to the first questions is returned where it is a refusal, and the next asked where it is not
+pub stops : (a b v : Validity) (r : Bool) → v ≡ a → r ≡ isRefused v → r ≡ true → v ≡ thenAsk a b
+unfolding thenAsk isRefused
+stops (Refused x) b v r e i t = e
+stops Fit b v r e i t = absurd (false≢true (sym (i ∙ ap isRefused e) ∙ t))
+
+pub goes-on : (a b v w : Validity) (r : Bool) → v ≡ a → r ≡ isRefused v → r ≡ false → w ≡ b → w ≡ thenAsk a b
+unfolding thenAsk isRefused
+goes-on Fit b v w r e i f h = h
+goes-on (Refused x) b v w r e i f h = absurd (false≢true (sym f ∙ i ∙ ap isRefused e))
+
+pub not-refused : (v : Validity) (r : Bool) → r ≡ isRefused v → r ≡ false → v ≡ Fit
+unfolding isRefused
+not-refused Fit r i f = refl
+not-refused (Refused x) r i f = absurd (false≢true (sym f ∙ i))
 
 -- asked up to n and all yes: yes to each
 pub each-fit : (n : ℕ) (q : ℕ → Validity) → askEach n q ≡ Fit → (k : ℕ) → k < n → q k ≡ Fit
@@ -52,3 +73,13 @@ each-refused (suc n) q k x h e r =
       | yes p ↦ rw (← p, e, r)
       | no f ↦ rw (each-refused n q k x (omega arith) e r)
     ]
+
+-- how code asks in a loop: the answer v at k is returned where it is a refusal
+pub each-stops : (n : ℕ) (q : ℕ → Validity) (k : ℕ) (v : Validity) (r : Bool) → k < n → askEach k q ≡ Fit → v ≡ q k → r ≡ isRefused v → r ≡ true → v ≡ askEach n q
+unfolding isRefused
+each-stops n q k (Refused x) r h e p i t = sym (each-refused n q k x h e (sym p))
+each-stops n q k Fit r h e p i t = absurd (false≢true (sym i ∙ t))
+
+pub each-goes-on : (q : ℕ → Validity) (k : ℕ) (v : Validity) (r : Bool) → askEach k q ≡ Fit → v ≡ q k → r ≡ isRefused v → r ≡ false → askEach (suc k) q ≡ Fit
+unfolding askEach thenAsk
+each-goes-on q k v r e p i f = rw (e, ← p) (not-refused v r i f)

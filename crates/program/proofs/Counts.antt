@@ -21,7 +21,7 @@ use Rattle.program.specs.declared.Sort.the-variants.{Expression, Conditi
 use Rattle.program.specs.declared.Table.{Table}
 use Rattle.program.specs.declared.Table.the-variants.{Arithmetic, Boolean as Booleans, Commands}
 use Rattle.program.specs.declared.Validity.the-variants.{Fit}
-use Rattle.program.proofs.Fit.{commands-allowed, one-last, used-once}
+use Rattle.program.proofs.Fit.{counts, one-last, used-once}
 use Rattle.program.proofs.Induction.{by-kind}
 use Rattle.program.proofs.Made.{Made, makeSkip, makeAssign, makeStore, makeSequence, makeConditional, makeIteration, makeGuarded, makeChoice}
 use Rattle.program.proofs.Operands.{Operand, Operands, operands-fit}
@@ -170,8 +170,8 @@ module _ (s : List ℕ) where
     -- "There are at most 129 nodes and 255 arrows."
     pub few-nodes : nodeCount s ≤ 129
     unfolding nodeCount graph
-    few-nodes = omega (arith, script-bounded, script-size, commands-allowed s fit)
+    few-nodes = omega (arith, script-bounded, script-size, counts s fit .commands)
 
     pub few-edges : edgeCount s ≤ 255
     unfolding edgeCount edges graph
-    few-edges = omega (arith, script-bounded, script-size, commands-allowed s fit)
+    few-edges = omega (arith, script-bounded, script-size, counts s fit .commands)

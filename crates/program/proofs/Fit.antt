@@ -8,9 +8,9 @@ use lib.Dec.{leb, eqb}
 use lib.ListN.{getD}
 use borrow.Author.Tests.{leb-true, eqb-true}
 use Rattle.program.specs.Asking.{inTurn}
-use Rattle.program.specs.File.{Field, programFields, contentLength, fieldStart, spanAt, layoutOf, spanOf, entryCount, entry}
+use Rattle.program.specs.File.{Field, programFields, contentLength, fieldStart, spanAt, layoutOf, spanOf, nameCount, entryCount, entry}
 use Rattle.program.specs.Kind.{isCommand}
-use Rattle.program.specs.Questions.{wholeEntries, headValidity, fieldsValidity, entryValidity, tableValidity, uses, useValidity, lastCommand, lastValidity, contentValidity, validity}
+use Rattle.program.specs.Questions.{wholeEntries, headValidity, headsValidity, entryValidity, tableValidity, uses, useValidity, lastCommand, lastValidity, contentValidity, validity}
 use Rattle.program.specs.declared.Table.{Table}
 use Rattle.program.specs.declared.Table.the-variants.{Arithmetic, Boolean, Commands}
 use Rattle.program.specs.declared.Validity.{Validity}
@@ -37,25 +37,40 @@ head-fit s at f e =
     let whole = three (eqb (contentLength s at % f .width) 0) (leb (f .least) count) (leb count (f .most)) (ask-fit _ 3 at (turn-fit _ 2 e)) in
     record { enough = leb-true _ _ (whole .1); few = leb-true _ _ (whole .2) }
 
+-- the numbers of entries that the heads of the four fields allow: "1 to 32", "0 to 512", "0 to 256", "1 to 256"
+pub record Counts (s : List ℕ) : Type 0 where
+  pub names : nameCount s ≤ 32
+  pub arithmetic : entryCount s Arithmetic ≤ 512
+  pub boolean : entryCount s Boolean ≤ 256
+  pub some-command : 1 ≤ entryCount s Commands
+  pub commands : entryCount s Commands ≤ 256
+
+pub counts-allowed : (s : List ℕ) → headsValidity s 0 programFields ≡ Fit → Counts s
+unfolding headsValidity programFields nameCount entryCount spanOf layoutOf spanAt
+counts-allowed s e =
+    let second = then-second _ _ e in
+    let third = then-second _ _ second in
+    let last = head-fit s (fieldStart s 3) _ (then-first _ _ (then-second _ _ third)) in
+    record {
+      names = head-fit s (fieldStart s 0) _ (then-first _ _ e) .few;
+      arithmetic = head-fit s (fieldStart s 1) _ (then-first _ _ second) .few;
+      boolean = head-fit s (fieldStart s 2) _ (then-first _ _ third) .few;
+      some-command = last .enough;
+      commands = last .few;
+    }
+
 module _ (s : List ℕ) (fit : validity s ≡ Fit) where
   content-fit : contentValidity s ≡ Fit
   unfolding validity
-  content-fit = then-second (fieldsValidity s 0 programFields) _ fit
+  content-fit = turn-fit _ 2 fit
 
-  fields-fit : fieldsValidity s 0 programFields ≡ Fit
+  pub counts : Counts s
   unfolding validity
-  fields-fit = then-first _ (contentValidity s) fit
-
-  -- "Tag 4, commands: 1 to 256."
-  pub commands-allowed : (1 ≤ entryCount s Commands) × (entryCount s Commands ≤ 256)
-  unfolding fieldsValidity programFields entryCount spanOf layoutOf spanAt fieldStart
-  commands-allowed =
-      let allowed = head-fit s (fieldStart s 3) _ (then-first _ _ (then-second _ _ (then-second _ _ (then-second _ _ fields-fit)))) in
-      (allowed .enough, allowed .few)
+  counts = counts-allowed s (turn-fit _ 0 fit)
 
   pub one-last : entryCount s Commands ≡ suc (lastCommand s)
   unfolding lastCommand
-  one-last = omega (arith, commands-allowed)
+  one-last = omega (arith, counts .some-command)
 
   -- questions 7 to 9, of each entry
   pub entry-fit : (t : Table) (n : ℕ) → n < entryCount s t → entryValidity s t n ≡ Fit

@@ -1,6 +1,6 @@
 -- Questions asked in order, and what the first "no" answers (document 01, "Questions asked, with the number when it is no").
 use Prim.Native.Nat.{ℕ, zero, suc}
-use mathlib.Core.Bool.{Bool, cond}
+use mathlib.Core.Bool.{Bool, true, false, cond}
 use mathlib.Core.List.{List, [], _∷_}
 use Rattle.program.specs.declared.Validity.{Validity}
 use Rattle.program.specs.declared.Validity.the-variants.{Fit, Refused}
@@ -17,6 +17,11 @@ askPlain yes? n = ask yes? n 0
 unfoldable pub thenAsk : Validity → Validity → Validity
 thenAsk Fit later = later
 thenAsk (Refused x) later = Refused x
+
+-- whether an answer is a refusal
+unfoldable pub isRefused : Validity → Bool
+isRefused Fit = false
+isRefused (Refused x) = true
 
 -- questions in turn
 unfoldable pub inTurn : List Validity → Validity

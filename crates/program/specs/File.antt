@@ -1,5 +1,5 @@
 -- The program file: numbers, fields and entries (document 01, "The script file"). All reading is total: a byte past the end is 0.
-use Prim.Native.Nat.{ℕ, zero, suc, _+_, _*_, _/_, _-_}
+use Prim.Native.Nat.{ℕ, zero, suc, _+_, _*_, _/_, _-_, _<_}
 use mathlib.Core.Bool.{cond}
 use mathlib.Core.List.{List, [], _∷_, map}
 use lib.Dec.{eqb, ltb}
@@ -64,6 +64,12 @@ layoutOf s =
       boolean = spanAt s (fieldStart s 2) 7;
       commands = spanAt s (fieldStart s 3) 7;
     }
+
+-- every table starts within reach of four fields' heads and contents, 65,538 bytes each
+pub record Near (l : Layout) : Type 0 where
+  pub arithmetic : l .arithmetic .start < 262152
+  pub boolean : l .boolean .start < 262152
+  pub commands : l .commands .start < 262152
 
 -- a table's part of a file
 unfoldable pub spanOf : Layout → Table → Span

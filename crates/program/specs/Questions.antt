@@ -1,7 +1,7 @@
 -- Questions 1 to 11, of a program file and of the sheet program's input (document 01, "Questions asked, with the number when it is no").
 use Prim.Native.Nat.{ℕ, zero, suc, _+_, _/_, _%_, _-_}
 use mathlib.Core.Bool.{Bool, true, false, cond, _&&_}
-use mathlib.Core.List.{List, [], _∷_, _++_}
+use mathlib.Core.List.{List, [], _∷_}
 use lib.Dec.{eqb, leb, ltb}
 use lib.ListN.{length, take, drop}
 use Rattle.program.specs.Asking.{ask, thenAsk, inTurn, askEach}
@@ -18,6 +18,7 @@ use Rattle.program.specs.declared.Sort.the-variants.{Expression, Conditi
 use Rattle.program.specs.declared.Table.{Table}
 use Rattle.program.specs.declared.Table.the-variants.{Arithmetic, Boolean, Commands}
 use Rattle.program.specs.declared.Validity.{Validity}
+use Rattle.program.specs.declared.Validity.the-variants.{Fit}
 
 -- "Is the length whole entries, as many as allowed?"
 unfoldable pub wholeEntries : Field → ℕ → Bool
@@ -33,10 +34,14 @@ headValidity s at f =
     ∷ ask (leb (nextField s at) (length s)) 4 at
     ∷ [])
 
--- "For each field in turn"; "Then: does the file end after the fourth field? 5", whose place is the first extra byte
-unfoldable pub fieldsValidity : List ℕ → ℕ → List Field → Validity
-fieldsValidity s at [] = ask (eqb at (length s)) 5 at
-fieldsValidity s at (f ∷ fs) = thenAsk (headValidity s at f) (fieldsValidity s (nextField s at) fs)
+-- "For each field in turn", from the field with k fields before it
+unfoldable pub headsValidity : List ℕ → ℕ → List Field → Validity
+headsValidity s k [] = Fit
+headsValidity s k (f ∷ fs) = thenAsk (headValidity s (fieldStart s k) f) (headsValidity s (suc k) fs)
+
+-- "Then: does the file end after the fourth field? 5", after k fields; its place is the first extra byte
+unfoldable pub endValidity : List ℕ → ℕ → Validity
+endValidity s k = ask (eqb (fieldStart s k) (length s)) 5 (fieldStart s k)
 
 -- "is the size 0 to 64 and the cell total so far at most 512? 6"
 unfoldable pub nameValidity : List ℕ → ℕ → Validity
@@ -155,7 +160,7 @@ contentValidity s =
 
 -- questions 1 to 11 of a program file
 unfoldable pub validity : List ℕ → Validity
-validity s = thenAsk (fieldsValidity s 0 programFields) (contentValidity s)
+validity s = inTurn (headsValidity s 0 programFields ∷ endValidity s 4 ∷ contentValidity s ∷ [])
 
 -- "a field of tag 5 with the start list (0 to 512 records)", a record one byte per name
 unfoldable pub initialField : List ℕ → Field
@@ -163,7 +168,13 @@ initialField s = record { tag = 5; width = nameCount s; least = 0; most = 512 }
 
 -- questions 1 to 11 of the sheet program's input: "Here 1 to 4 are asked of the fifth field too, and 5 after it"
 unfoldable pub inputValidity : List ℕ → Validity
-inputValidity s = thenAsk (fieldsValidity s 0 (programFields ++ (initialField s ∷ []))) (contentValidity s)
+inputValidity s =
+    inTurn
+    (headsValidity s 0 programFields
+    ∷ headValidity s (fieldStart s 4) (initialField s)
+    ∷ endValidity s 5
+    ∷ contentValidity s
+    ∷ [])
 
 -- the parts of that input: the program, and the start list
 unfoldable pub programPart : List ℕ → List ℕ

@@ -2,7 +2,7 @@
 
 ghost use mathlib.Core.Path.{_≡_};
 ghost use Prim.Native.Nat.{_<_, _≤_, _+_, min};
-ghost use Rattle.program.specs.File.{byteAt, wordAt, entryAt, nextField, spanAt, layoutOf, spanOf, nameCount, sizeAt, sizes, cellsOf, cellCount, firstCell, entryCount, entryOffset, entry};
+ghost use Rattle.program.specs.File.{byteAt, wordAt, entryAt, nextField, spanAt, layoutOf, Near, spanOf, nameCount, sizeAt, sizes, cellsOf, cellCount, firstCell, entryCount, entryOffset, entry};
 use crate::Entry;
 use crate::Layout;
 use crate::Span;
@@ -53,14 +53,14 @@ pub fn entry_at(s: &[u8], at: usize) -> Entry
     }
 }
 
-fn long(x: u16) -> usize
+pub(crate) fn long(x: u16) -> usize
     ensures { λ r. ⌜ r ≡ x ⌝ }
 {
     x as usize
 }
 
 // Where the field after the one at `at` starts.
-fn next_field(s: &[u8], at: usize) -> usize
+pub(crate) fn next_field(s: &[u8], at: usize) -> usize
     requires { ⌜ at < 1000000 ⌝ }
     ensures { λ r. ⌜ (r ≡ nextField (now (s .entry)) at) × (r < at + 65539) ⌝ }
 {
@@ -80,7 +80,7 @@ fn span_at(s: &[u8], at: usize, width: u16) -> Span
 
 // Where a file has its names and its tables.
 pub fn layout(s: &[u8]) -> Layout
-    ensures { λ r. ⌜ r ≡ layoutOf (now (s .entry)) ⌝ }
+    ensures { λ r. ⌜ (r ≡ layoutOf (now (s .entry))) × Near r ⌝ }
 {
     let arithmetic = next_field(s, 0);
     let boolean = next_field(s, arithmetic);
@@ -152,7 +152,7 @@ fn least(a: u16, b: u16) -> u16
     if a < b { a } else { b }
 }
 
-fn cells_of(size: u16) -> usize
+pub(crate) fn cells_of(size: u16) -> usize
     ensures { λ r. ⌜ (r ≡ cellsOf size) × (r < 65536) ⌝ }
 {
     if size == 0 { 1 } else { long(size) }

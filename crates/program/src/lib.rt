@@ -2,6 +2,7 @@
 
 pub mod file;
 pub mod kinds;
+pub mod validation;
 
 // The three tables of entries of a file.
 pub enum Table {

@@ -1,3 +1,8 @@
+use Rattle.program.specs.declared.Span.{Span}
+use Rattle.program.specs.File.{spanAt}
+use native.Mathlib.Omega.{arith}
+use Prim.Native.Nat.{ℕ}
+use mathlib.Core.Path.{_≡_, ap}
 -- `program::file::layout` meets its contract.
 use borrow.Author.Needs.{needs}
 use Rattle.program.specs.File.{layoutOf, fieldStart}
@@ -26,8 +31,16 @@ span-at-requires-4 : tie.Need-span-at-requires-4
 span-at-requires-4 c κs = search needs
 
 returns : tie.Need-returns
-unfolding layoutOf fieldStart
-returns c = cc
+unfolding layoutOf fieldStart spanAt
+returns c =
+    let start : (x y : Span) → x ≡ y → x .start ≡ y .start = λ x y e. ap (λ (z : Span). z .start) e in (
+      cc,
+      record {
+        arithmetic = omega (arith, start _ _ (c .before .before .span-at2 .ensures));
+        boolean = omega (arith, start _ _ (c .before .span-at3 .ensures));
+        commands = omega (arith, start _ _ (c .span-at4 .ensures));
+      },
+    )
 
 pub layout-spec : {M : Type 1} → statement M
 layout-spec =
