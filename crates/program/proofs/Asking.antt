@@ -49,6 +49,9 @@ unfolding thenAsk isRefused
 goes-on Fit b v w r e i f h = h
 goes-on (Refused x) b v w r e i f h = absurd (false≢true (sym f ∙ i ∙ ap isRefused e))
 
+pub last-asked : (a w : Validity) → w ≡ a → w ≡ thenAsk a Fit
+last-asked a w e = e ∙ sym (then-fit a)
+
 pub not-refused : (v : Validity) (r : Bool) → r ≡ isRefused v → r ≡ false → v ≡ Fit
 unfolding isRefused
 not-refused Fit r i f = refl

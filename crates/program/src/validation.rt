@@ -2,6 +2,8 @@
 
 ghost use mathlib.Core.Path.{_≡_};
 ghost use Prim.Native.Nat.{_<_, _≤_, _+_};
+ghost use mathlib.Core.Bool.{_&&_};
+ghost use lib.Dec.{leb};
 ghost use Rattle.program.specs.Asking.{ask, isRefused, askEach};
 ghost use Rattle.program.specs.File.{layoutOf, Near, nameCount, entryCount, entryOffset, entry, programFields};
 ghost use Rattle.program.specs.declared.Table.the-variants.{Commands};
@@ -78,5 +80,132 @@ fn named(s: &[u8], names: u16, role: Role, x: u16) -> bool
         Role::Variable => x < names && file::size_at(s, x) == 0,
         Role::Array => x < names && 0 < file::size_at(s, x),
         Role::To(_) => true,
+    }
+}
+
+// Questions 1 to 4 of the four fields.
+fn check_heads(s: &[u8]) -> Validity
+    ensures { λ r. ⌜ r ≡ headsValidity (now (s .entry)) 0 programFields ⌝ }
+{
+    let names = check_head(s, 0, 1, 2, 1, 32);
+    if refused(names) {
+        return names;
+    }
+    let second = file::next_field(s, 0);
+    let arithmetic = check_head(s, second, 2, 7, 0, 512);
+    if refused(arithmetic) {
+        return arithmetic;
+    }
+    let third = file::next_field(s, second);
+    let boolean = check_head(s, third, 3, 7, 0, 256);
+    if refused(boolean) {
+        return boolean;
+    }
+    let fourth = file::next_field(s, third);
+    check_head(s, fourth, 4, 7, 1, 256)
+}
+
+// Whether a size is 0 to 64 and a cell total at most 512.
+fn in_bounds(size: u16, total: usize) -> bool
+    ensures { λ r. ⌜ r ≡ (leb size 64 && leb total 512) ⌝ }
+{
+    size <= 64 && total <= 512
+}
+
+// Question 6 of every name.
+fn check_names(s: &[u8], names: u16) -> Validity
+    requires { ⌜ names ≡ nameCount (now s) ⌝ }
+    ensures { λ r. ⌜ r ≡ askEach (nameCount (now (s .entry))) (nameValidity (now (s .entry))) ⌝ }
+{
+    let mut total: usize = 0;
+    let mut i: u16 = 0;
+    while i < names {
+        let size = file::size_at(s, i);
+        total += file::cells_of(size);
+        let v = ask(in_bounds(size, total), 6, 3 + 2 * file::long(i));
+        if refused(v) {
+            return v;
+        }
+        i += 1;
+    }
+    Validity::Fit
+}
+
+// Whether two tables are the same.
+fn same_table(t: Table, u: Table) -> bool
+    ensures { λ r. ⌜ r ≡ sameTable t u ⌝ }
+{
+    match t {
+        Table::Arithmetic => match u {
+            Table::Arithmetic => true,
+            Table::Boolean => false,
+            Table::Commands => false,
+        },
+        Table::Boolean => match u {
+            Table::Arithmetic => false,
+            Table::Boolean => true,
+            Table::Commands => false,
+        },
+        Table::Commands => match u {
+            Table::Arithmetic => false,
+            Table::Boolean => false,
+            Table::Commands => true,
+        },
+    }
+}
+
+// The references from entry `n` of a table to `target` are below this number.
+fn limit(s: &[u8], l: Layout, table: Table, n: u16, target: Table) -> u16
+    requires { ⌜ l ≡ layoutOf (now s) ⌝ }
+    ensures { λ r. ⌜ r ≡ limit (now (s .entry)) table n target ⌝ }
+{
+    if same_table(table, target) {
+        return n;
+    }
+    let span = file::span_of(l, target);
+    span.count
+}
+
+// The kind of command entry `n`.
+fn command_kind(s: &[u8], l: Layout, n: u16) -> u8
+    requires { ⌜ (l ≡ layoutOf (now s)) × Near l ⌝ }
+    ensures { λ r. ⌜ r ≡ entry (now (s .entry)) Commands n .kind ⌝ }
+{
+    let span = l.commands;
+    file::byte_at(s, span.start + 7 * file::long(n))
+}
+
+// Whether entry `x` of a sort's table is of that sort.
+fn of_sort(s: &[u8], l: Layout, sort: Sort, x: u16) -> bool
+    requires { ⌜ (l ≡ layoutOf (now s)) × Near l ⌝ }
+    ensures { λ r. ⌜ r ≡ ofSort (now (s .entry)) sort x ⌝ }
+{
+    match sort {
+        Sort::Expression => true,
+        Sort::Condition => true,
+        Sort::Command => kinds::is_command(command_kind(s, l, x)),
+        Sort::Guarded => kinds::is_guarded(command_kind(s, l, x)),
+    }
+}
+
+// Whether a reference `x` from entry `n` of a table points to an entry of a sort that it may point to.
+fn points_to(s: &[u8], l: Layout, table: Table, n: u16, sort: Sort, x: u16) -> bool
+    requires { ⌜ (l ≡ layoutOf (now s)) × Near l ⌝ }
+    ensures { λ r. ⌜ r ≡ points (now (s .entry)) table n (Role.To sort) x ⌝ }
+{
+    x < limit(s, l, table, n, kinds::table_of(sort)) && of_sort(s, l, sort, x)
+}
+
+// Whether operand `x` of entry `n` of a table points as it must, where it is a reference.
+fn points(s: &[u8], l: Layout, table: Table, n: u16, role: Role, x: u16) -> bool
+    requires { ⌜ (l ≡ layoutOf (now s)) × Near l ⌝ }
+    ensures { λ r. ⌜ r ≡ points (now (s .entry)) table n role x ⌝ }
+{
+    match role {
+        Role::Unused => true,
+        Role::Half => true,
+        Role::Variable => true,
+        Role::Array => true,
+        Role::To(sort) => points_to(s, l, table, n, sort, x),
     }
 }
