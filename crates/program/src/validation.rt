@@ -5,7 +5,7 @@ ghost use Prim.Native.Nat.{_<_, _≤_, _+_};
 ghost use mathlib.Core.Bool.{_&&_};
 ghost use lib.Dec.{leb};
 ghost use Rattle.program.specs.Asking.{ask, isRefused, askEach};
-ghost use Rattle.program.specs.File.{layoutOf, Near, nameCount, entryCount, entryOffset, entry, programFields};
+ghost use Rattle.program.specs.File.{layoutOf, spanOf, Near, nameCount, entryCount, entryOffset, entry, programFields};
 ghost use Rattle.program.specs.declared.Table.the-variants.{Commands};
 ghost use Rattle.program.specs.Questions.{wholeEntries, headValidity, headsValidity, endValidity, nameValidity, named, sameTable, limit, ofSort, points, eachOperand, shapeValidity, entryValidity, tableValidity};
 use crate::Entry;
@@ -166,13 +166,41 @@ fn limit(s: &[u8], l: Layout, table: Table, n: u16, target: Table) -> u16
     span.count
 }
 
+// Where a table's entries start.
+fn start_of(l: Layout, table: Table) -> usize
+    requires { ⌜ Near l ⌝ }
+    ensures { λ r. ⌜ (r ≡ spanOf l table .start) × (r < 262152) ⌝ }
+{
+    match table {
+        Table::Arithmetic => {
+            let span = l.arithmetic;
+            span.start
+        }
+        Table::Boolean => {
+            let span = l.boolean;
+            span.start
+        }
+        Table::Commands => {
+            let span = l.commands;
+            span.start
+        }
+    }
+}
+
+// Where entry `n` of a table stands.
+fn offset(s: &[u8], l: Layout, table: Table, n: u16) -> usize
+    requires { ⌜ (l ≡ layoutOf (now s)) × Near l ⌝ }
+    ensures { λ r. ⌜ r ≡ entryOffset (now (s .entry)) table n ⌝ }
+{
+    start_of(l, table) + 7 * file::long(n)
+}
+
 // The kind of command entry `n`.
 fn command_kind(s: &[u8], l: Layout, n: u16) -> u8
     requires { ⌜ (l ≡ layoutOf (now s)) × Near l ⌝ }
     ensures { λ r. ⌜ r ≡ entry (now (s .entry)) Commands n .kind ⌝ }
 {
-    let span = l.commands;
-    file::byte_at(s, span.start + 7 * file::long(n))
+    file::byte_at(s, offset(s, l, Table::Commands, n))
 }
 
 // Whether entry `x` of a sort's table is of that sort.
@@ -208,4 +236,83 @@ fn points(s: &[u8], l: Layout, table: Table, n: u16, role: Role, x: u16) -> bool
         Role::Array => true,
         Role::To(sort) => points_to(s, l, table, n, sort, x),
     }
+}
+
+// Whether all operands are named as they must be.
+fn all_named(s: &[u8], names: u16, roles: Roles, e: Entry) -> bool
+    requires { ⌜ names ≡ nameCount (now s) ⌝ }
+    ensures { λ r. ⌜ r ≡ eachOperand (named (now (s .entry))) roles e ⌝ }
+{
+    let p = roles.p;
+    let q = roles.q;
+    let r = roles.r;
+    if !named(s, names, p, e.p) {
+        return false;
+    }
+    named(s, names, q, e.q) && named(s, names, r, e.r)
+}
+
+// Whether all operands point as they must.
+fn all_point(s: &[u8], l: Layout, table: Table, n: u16, roles: Roles, e: Entry) -> bool
+    requires { ⌜ (l ≡ layoutOf (now s)) × Near l ⌝ }
+    ensures { λ r. ⌜ r ≡ eachOperand (points (now (s .entry)) table n) roles e ⌝ }
+{
+    let p = roles.p;
+    let q = roles.q;
+    let r = roles.r;
+    if !points(s, l, table, n, p, e.p) {
+        return false;
+    }
+    points(s, l, table, n, q, e.q) && points(s, l, table, n, r, e.r)
+}
+
+// Questions 8 and 9 of the entry `e`, which is entry `n` of a table and stands at `at`.
+fn check_operands(
+    s: &[u8],
+    l: Layout,
+    table: Table,
+    n: u16,
+    roles: Roles,
+    e: Entry,
+    at: usize,
+) -> Validity
+    requires { ⌜ (l ≡ layoutOf (now s)) × Near l × (e ≡ entry (now s) table n) × (at ≡ entryOffset (now s) table n) ⌝ }
+    ensures { λ r. ⌜ r ≡ shapeValidity (now (s .entry)) table n (Shape.Known roles) ⌝ }
+{
+    let names = l.names;
+    if !all_named(s, names.count, roles, e) {
+        return ask(false, 8, at);
+    }
+    ask(all_point(s, l, table, n, roles, e), 9, at)
+}
+
+// Questions 7 to 9 of entry `n` of a table.
+fn check_entry(s: &[u8], l: Layout, table: Table, n: u16) -> Validity
+    requires { ⌜ (l ≡ layoutOf (now s)) × Near l ⌝ }
+    ensures { λ r. ⌜ r ≡ entryValidity (now (s .entry)) table n ⌝ }
+{
+    let at = offset(s, l, table, n);
+    let e = file::entry_at(s, at);
+    match kinds::shape(table, e.kind) {
+        Shape::Unknown => ask(false, 7, at),
+        Shape::Known(roles) => check_operands(s, l, table, n, roles, e, at),
+    }
+}
+
+// Questions 7 to 9 of a table's entries.
+fn check_table(s: &[u8], l: Layout, table: Table) -> Validity
+    requires { ⌜ (l ≡ layoutOf (now s)) × Near l ⌝ }
+    ensures { λ r. ⌜ r ≡ tableValidity (now (s .entry)) table ⌝ }
+{
+    let span = file::span_of(l, table);
+    let count = span.count;
+    let mut n: u16 = 0;
+    while n < count {
+        let v = check_entry(s, l, table, n);
+        if refused(v) {
+            return v;
+        }
+        n += 1;
+    }
+    Validity::Fit
 }

@@ -1,0 +1,64 @@
+-- `program::validation::check_entry` meets its contract.
+use borrow.Author.Needs.{needs}
+use mathlib.Core.Path.{ap, sym, _∙_, _≡_}
+use Rattle.program.specs.File.{entryAt, entry}
+use Rattle.program.specs.Kind.{shape}
+use Rattle.program.specs.Questions.{entryValidity, shapeValidity}
+use Rattle.program.specs.declared.Entry.{Entry}
+use Rattle.program.specs.declared.Shape.the-variants.{Unknown}
+use Rattle.program.proofs.validation.check_entry.Statement.{statement}
+use Rattle.program.proofs.validation.check_entry.Tie as tie
+
+offset-requires : tie.Need-offset-requires
+offset-requires c κs = search needs
+
+entry-at-requires : tie.Need-entry-at-requires
+entry-at-requires c κs = search needs
+
+shape-requires : tie.Need-shape-requires
+shape-requires c κs = search needs
+
+enum-told : tie.Need-enum-told
+enum-told c = search needs
+
+ask-requires : tie.Need-ask-requires
+ask-requires c κs = search needs
+
+enum-known-roles : tie.Need-enum-known-roles
+enum-known-roles c = search needs
+
+check-operands-requires : tie.Need-check-operands-requires
+unfolding entry
+check-operands-requires c κs =
+    let pre = c .before .before .before .before .before .before .before .pre in
+    (pre .0, pre .1, cc, cc)
+
+returns : tie.Need-returns
+unfolding entryValidity shapeValidity entry
+returns c =
+    let a = c .before .before .before .before .before .before .before .args in
+    let told : shape (a .table) (entry (a .s .now) (a .table) (a .n) .kind) ≡ Unknown = cc in
+    rw told (cc)
+
+returns-2 : tie.Need-returns-2
+unfolding entryValidity entry
+returns-2 c =
+    let a = c .before .before .before .before .before .before .before .before .args in
+    let d = c .before .before .before .before in
+    let e : d .before .entry-at .result ≡ entry (a .s .now) (a .table) (a .n) = d .before .entry-at .ensures ∙ ap (entryAt (a .s .now)) (d .before .before .offset .ensures) in
+    let told : shape (a .table) (entry (a .s .now) (a .table) (a .n) .kind) ≡ d .shape .result = ap (λ (x : Entry). shape (a .table) (x .kind)) (sym e) ∙ sym (d .shape .ensures) in
+    rw (told, c .before .before .roles .given .1) (c .check-operands .ensures)
+
+pub check-entry-spec : {M : Type 1} → statement M
+check-entry-spec =
+    tie.close
+    (tie.spec
+    offset-requires
+    entry-at-requires
+    shape-requires
+    enum-told
+    ask-requires
+    enum-known-roles
+    check-operands-requires
+    returns
+    returns-2)
