@@ -6,6 +6,7 @@ pub mod Asking
 pub mod Reading
 pub mod Cells
 pub mod Shapes
+pub mod Counting
 pub mod Fit
 pub mod Operands
 pub mod Trees

@@ -2,6 +2,7 @@ pub mod File
 pub mod Asking
 pub mod Kind
 pub mod Questions
+pub mod Counting
 pub mod Syntax
 pub mod Tree
 pub mod Graph

@@ -188,7 +188,7 @@ fn start_of(l: Layout, table: Table) -> usize
 }
 
 // Where entry `n` of a table stands.
-fn offset(s: &[u8], l: Layout, table: Table, n: u16) -> usize
+pub(crate) fn offset(s: &[u8], l: Layout, table: Table, n: u16) -> usize
     requires { ⌜ (l ≡ layoutOf (now s)) × Near l ⌝ }
     ensures { λ r. ⌜ r ≡ entryOffset (now (s .entry)) table n ⌝ }
 {

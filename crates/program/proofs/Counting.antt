@@ -1,0 +1,81 @@
+-- Laws of counting uses.
+use mathlib.Core.Path.{_≡_, refl, sym, _∙_, ap}
+use mathlib.Core.Logic.{_≢_}
+use mathlib.Core.Bool.{Bool, true, false, cond, _&&_}
+use mathlib.Core.List.{List}
+use Prim.Native.Nat.{ℕ, zero, suc, _+_, _≤_, _<_, min}
+use native.Mathlib.Decide.{ℕ-discrete}
+use native.Mathlib.Omega.{arith}
+use borrow.Author.Tests.{eq-eqb, ne-eqb}
+use lib.Dec.{eqb}
+use lib.ListN.{length, getD, set, length-set}
+use lib.Seq.{getD-set-same, getD-set-other}
+use Rattle.program.specs.Counting.{capacity, slot, Counted}
+use Rattle.program.specs.Questions.{sameTable}
+use Rattle.program.specs.declared.Table.{Table}
+use Rattle.program.specs.declared.Table.the-variants.{Arithmetic, Boolean, Commands}
+
+-- nothing counted
+pub counted-none : (a : List ℕ) (f : Table → ℕ → ℕ) → ((u : Table) (n : ℕ) → n < capacity u → f u n ≡ 0) → Counted a a f
+counted-none a f none = record { same-length = refl; counts = λ u n h few. omega (arith, none u n h) }
+
+-- counted one after the other
+pub counted-then : (a b c : List ℕ) (f g : Table → ℕ → ℕ) → Counted a b f → Counted b c g → Counted a c (λ u n. f u n + g u n)
+counted-then a b c f g p q =
+    record {
+      same-length = q .same-length ∙ p .same-length;
+      counts = λ u n h few. omega (arith, p .counts u n h few, q .counts u n h (omega (arith, p .counts u n h few)));
+    }
+
+-- two entries have one slot only where they are the same
+slot-same : (t u : Table) (x n : ℕ) → x < capacity t → n < capacity u → slot t x ≡ slot u n → (sameTable t u && eqb x n) ≡ true
+unfolding capacity slot sameTable
+slot-same Arithmetic Arithmetic x n h k e = eq-eqb x n e
+slot-same Arithmetic Boolean x n h k e = absurd (omega arith)
+slot-same Arithmetic Commands x n h k e = absurd (omega arith)
+slot-same Boolean Arithmetic x n h k e = absurd (omega arith)
+slot-same Boolean Boolean x n h k e = eq-eqb x n (omega arith)
+slot-same Boolean Commands x n h k e = absurd (omega arith)
+slot-same Commands Arithmetic x n h k e = absurd (omega arith)
+slot-same Commands Boolean x n h k e = absurd (omega arith)
+slot-same Commands Commands x n h k e = eq-eqb x n (omega arith)
+
+slot-other : (t u : Table) (x n : ℕ) → slot t x ≢ slot u n → (sameTable t u && eqb x n) ≡ false
+unfolding slot sameTable
+slot-other Arithmetic Arithmetic x n f = ne-eqb x n f
+slot-other Arithmetic Boolean x n f = refl
+slot-other Arithmetic Commands x n f = refl
+slot-other Boolean Arithmetic x n f = refl
+slot-other Boolean Boolean x n f = ne-eqb x n (λ e. f (ap (λ (k : ℕ). 512 + k) e))
+slot-other Boolean Commands x n f = refl
+slot-other Commands Arithmetic x n f = refl
+slot-other Commands Boolean x n f = refl
+slot-other Commands Commands x n f = ne-eqb x n (λ e. f (ap (λ (k : ℕ). 768 + k) e))
+
+-- one use of entry x of table t counted
+pub counted-one : (a : List ℕ) (t : Table) (x : ℕ) → x < capacity t → slot t x < length a → Counted a (set a (slot t x) (min 2 (getD a (slot t x) 0 + 1))) (λ u n. cond (sameTable t u && eqb x n) 1 0)
+counted-one a t x h room =
+    record {
+      same-length = length-set a (slot t x) _;
+      counts = λ u n k few.
+          elim (ℕ-discrete (slot t x) (slot u n)) [
+            | yes e ↦ rw (slot-same t u x n h k e, ← e) (getD-set-same a (slot t x) _ 0 room)
+            | no f ↦ rw (slot-other t u x n f) (getD-set-other a (slot t x) (slot u n) _ 0 (λ e. f (sym e)) ∙ omega arith)
+          ];
+    }
+
+-- a reference past a table's capacity is to no entry
+far-other : (t u : Table) (x n : ℕ) → capacity t ≤ x → n < capacity u → (sameTable t u && eqb x n) ≡ false
+unfolding capacity sameTable
+far-other Arithmetic Arithmetic x n h k = ne-eqb x n (omega arith)
+far-other Arithmetic Boolean x n h k = refl
+far-other Arithmetic Commands x n h k = refl
+far-other Boolean Arithmetic x n h k = refl
+far-other Boolean Boolean x n h k = ne-eqb x n (omega arith)
+far-other Boolean Commands x n h k = refl
+far-other Commands Arithmetic x n h k = refl
+far-other Commands Boolean x n h k = refl
+far-other Commands Commands x n h k = ne-eqb x n (omega arith)
+
+pub counted-far : (a : List ℕ) (t : Table) (x : ℕ) → capacity t ≤ x → Counted a a (λ u n. cond (sameTable t u && eqb x n) 1 0)
+counted-far a t x h = counted-none a _ (λ u n k. rw (far-other t u x n h k))

@@ -1,0 +1,61 @@
+-- `program::uses::count_entry` meets its contract.
+use borrow.Author.Needs.{needs}
+use mathlib.Core.Path.{_≡_, refl, ap, sym, _∙_}
+use Rattle.program.specs.File.{entry, entryAt}
+use Rattle.program.specs.Kind.{shape}
+use Rattle.program.specs.Questions.{entryUses, shapeUses}
+use Rattle.program.specs.declared.Entry.{Entry}
+use Rattle.program.proofs.Counting.{counted-none}
+use Rattle.program.proofs.uses.count_entry.Statement.{statement}
+use Rattle.program.proofs.uses.count_entry.Tie as tie
+
+offset-requires : tie.Need-offset-requires
+offset-requires c κs = search needs
+
+entry-at-requires : tie.Need-entry-at-requires
+entry-at-requires c κs = search needs
+
+shape-requires : tie.Need-shape-requires
+shape-requires c κs = search needs
+
+enum-told : tie.Need-enum-told
+enum-told c = search needs
+
+enum-known-roles : tie.Need-enum-known-roles
+enum-known-roles c = search needs
+
+count-operands-requires : tie.Need-count-operands-requires
+count-operands-requires c κs = search needs
+
+returns : tie.Need-returns
+unfolding entryUses shapeUses entry
+returns c =
+    let a = c .before .before .before .before .before .before .before .args in
+    let e : c .before .before .before .entry-at .result ≡ entry (a .s .now) (a .table) (a .m) = c .before .before .before .entry-at .ensures ∙ ap (entryAt (a .s .now)) (c .before .before .before .before .offset .ensures) in
+    let told : shape (a .table) (entry (a .s .now) (a .table) (a .m) .kind) ≡ c .before .before .shape .result = ap (λ (x : Entry). shape (a .table) (x .kind)) (sym e) ∙ sym (c .before .before .shape .ensures) in
+    simp (told, c .enum-told .given .1) (counted-none _ _ (λ u n h. refl))
+
+same-length : tie.Need-same-length
+same-length c = search needs
+
+returns-2 : tie.Need-returns-2
+unfolding entryUses entry
+returns-2 c =
+    let a = c .before .before .before .before .before .before .before .before .before .before .before .before .args in
+    let e : c .before .before .before .before .before .before .before .before .entry-at .result ≡ entry (a .s .now) (a .table) (a .m) = c .before .before .before .before .before .before .before .before .entry-at .ensures ∙ ap (entryAt (a .s .now)) (c .before .before .before .before .before .before .before .before .before .offset .ensures) in
+    let told : shape (a .table) (entry (a .s .now) (a .table) (a .m) .kind) ≡ c .before .before .before .before .before .before .before .shape .result = ap (λ (x : Entry). shape (a .table) (x .kind)) (sym e) ∙ sym (c .before .before .before .before .before .before .before .shape .ensures) in
+    simp (told, c .before .before .before .before .before .roles .given .1, ← e) (c .before .before .count-operands .ensures)
+
+pub count-entry-spec : {M : Type 1} → statement M
+count-entry-spec =
+    tie.close
+    (tie.spec
+    offset-requires
+    entry-at-requires
+    shape-requires
+    enum-told
+    enum-known-roles
+    count-operands-requires
+    returns
+    same-length
+    returns-2)

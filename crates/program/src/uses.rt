@@ -1,0 +1,119 @@
+// Question 10: how often each entry is used, counted in one pass over the tables.
+
+ghost use mathlib.Core.Path.{_≡_};
+ghost use Prim.Native.Nat.{_<_, _≤_, _+_, min};
+ghost use lib.ListN.{length, getD, set};
+ghost use Rattle.program.specs.Counting.{capacity, slot, Counted};
+ghost use Rattle.program.specs.File.{layoutOf, Near, entryCount};
+ghost use Rattle.program.specs.Questions.{refersTo, shapeUses, entryUses, tableUses};
+use crate::Entry;
+use crate::Layout;
+use crate::Role;
+use crate::Roles;
+use crate::Shape;
+use crate::Sort;
+use crate::Table;
+use crate::file;
+use crate::kinds;
+use crate::validation;
+
+fn capacity(table: Table) -> u16
+    ensures { λ r. ⌜ r ≡ capacity table ⌝ }
+{
+    match table {
+        Table::Arithmetic => 512,
+        Table::Boolean => 256,
+        Table::Commands => 256,
+    }
+}
+
+// The slot of entry `n` of a table.
+fn slot(table: Table, n: u16) -> usize
+    requires { ⌜ n < capacity table ⌝ }
+    ensures { λ r. ⌜ (r ≡ slot table n) × (r < 1024) ⌝ }
+{
+    match table {
+        Table::Arithmetic => file::long(n),
+        Table::Boolean => 512 + file::long(n),
+        Table::Commands => 768 + file::long(n),
+    }
+}
+
+// One more, two at most.
+fn one_more(n: u8) -> u8
+    ensures { λ r. ⌜ r ≡ min 2 (n + 1) ⌝ }
+{
+    if n < 2 { n + 1 } else { 2 }
+}
+
+fn bump(uses: &mut [u8], k: usize)
+    requires { ⌜ k < length (now uses) ⌝ }
+    ensures { λ _. ⌜ now (uses .exit) ≡ set (now (uses .entry)) k (min 2 (getD (now (uses .entry)) k 0 + 1)) ⌝ }
+{
+    let n = uses[k];
+    uses[k] = one_more(n);
+}
+
+// Counts a reference `x` to an entry of a sort.
+fn count_reference(uses: &mut [u8], sort: Sort, x: u16)
+    requires { ⌜ length (now uses) ≡ 1024 ⌝ }
+    ensures { λ _. ⌜ Counted (now (uses .entry)) (now (uses .exit)) (λ u n. refersTo u n (Role.To sort) x) ⌝ }
+{
+    let table = kinds::table_of(sort);
+    if x < capacity(table) {
+        bump(uses, slot(table, x));
+    }
+}
+
+// Counts an operand `x` with its role.
+fn count_operand(uses: &mut [u8], role: Role, x: u16)
+    requires { ⌜ length (now uses) ≡ 1024 ⌝ }
+    ensures { λ _. ⌜ Counted (now (uses .entry)) (now (uses .exit)) (λ u n. refersTo u n role x) ⌝ }
+{
+    match role {
+        Role::Unused => {}
+        Role::Half => {}
+        Role::Variable => {}
+        Role::Array => {}
+        Role::To(sort) => count_reference(uses, sort, x),
+    }
+}
+
+// Counts the operands of an entry.
+fn count_operands(uses: &mut [u8], roles: Roles, e: Entry)
+    requires { ⌜ length (now uses) ≡ 1024 ⌝ }
+    ensures { λ _. ⌜ Counted (now (uses .entry)) (now (uses .exit)) (λ u n. shapeUses u n (Shape.Known roles) e) ⌝ }
+{
+    let p = roles.p;
+    let q = roles.q;
+    let r = roles.r;
+    count_operand(uses, p, e.p);
+    count_operand(uses, q, e.q);
+    count_operand(uses, r, e.r);
+}
+
+// Counts the operands of entry `m` of a table.
+fn count_entry(s: &[u8], l: Layout, table: Table, m: u16, uses: &mut [u8])
+    requires { ⌜ (l ≡ layoutOf (now s)) × Near l × (length (now uses) ≡ 1024) ⌝ }
+    ensures { λ _. ⌜ Counted (now (uses .entry)) (now (uses .exit)) (λ u n. entryUses (now (s .entry)) u n table m) ⌝ }
+{
+    let e = file::entry_at(s, validation::offset(s, l, table, m));
+    match kinds::shape(table, e.kind) {
+        Shape::Unknown => {}
+        Shape::Known(roles) => count_operands(uses, roles, e),
+    }
+}
+
+// Counts the operands of a table's entries.
+pub(crate) fn count_table(s: &[u8], l: Layout, table: Table, uses: &mut [u8])
+    requires { ⌜ (l ≡ layoutOf (now s)) × Near l × (length (now uses) ≡ 1024) ⌝ }
+    ensures { λ _. ⌜ Counted (now (uses .entry)) (now (uses .exit)) (λ u n. tableUses (now (s .entry)) u n table (entryCount (now (s .entry)) table)) ⌝ }
+{
+    let span = file::span_of(l, table);
+    let count = span.count;
+    let mut m: u16 = 0;
+    while m < count {
+        count_entry(s, l, table, m, uses);
+        m += 1;
+    }
+}
