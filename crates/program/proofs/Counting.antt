@@ -79,3 +79,11 @@ far-other Commands Commands x n h k = ne-eqb x n (omega arith)
 
 pub counted-far : (a : List ℕ) (t : Table) (x : ℕ) → capacity t ≤ x → Counted a a (λ u n. cond (sameTable t u && eqb x n) 1 0)
 counted-far a t x h = counted-none a _ (λ u n k. rw (far-other t u x n h k))
+
+-- a count of one tells that there is one use
+pub once : (x : ℕ) → eqb (min 2 x) 1 ≡ eqb x 1
+once x =
+    elim (ℕ-discrete x 1) [
+      | yes e ↦ eq-eqb (min 2 x) 1 (omega arith) ∙ sym (eq-eqb x 1 e)
+      | no f ↦ ne-eqb (min 2 x) 1 (omega arith) ∙ sym (ne-eqb x 1 f)
+    ]

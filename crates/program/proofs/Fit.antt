@@ -10,7 +10,7 @@ use borrow.Author.Tests.{leb-true, eqb-true}
 use Rattle.program.specs.Asking.{inTurn}
 use Rattle.program.specs.File.{Field, programFields, contentLength, fieldStart, spanAt, layoutOf, spanOf, nameCount, entryCount, entry}
 use Rattle.program.specs.Kind.{isCommand}
-use Rattle.program.specs.Questions.{wholeEntries, headValidity, headsValidity, entryValidity, tableValidity, uses, useValidity, lastCommand, lastValidity, contentValidity, validity}
+use Rattle.program.specs.Questions.{wholeEntries, headValidity, headsValidity, entryValidity, tableValidity, uses, useValidity, lastCommand, lastValidity, usesValidity, contentValidity, validity}
 use Rattle.program.specs.declared.Table.{Table}
 use Rattle.program.specs.declared.Table.the-variants.{Arithmetic, Boolean, Commands}
 use Rattle.program.specs.declared.Validity.{Validity}
@@ -39,6 +39,7 @@ head-fit s at f e =
 
 -- the numbers of entries that the heads of the four fields allow: "1 to 32", "0 to 512", "0 to 256", "1 to 256"
 pub record Counts (s : List ℕ) : Type 0 where
+  pub some-name : 1 ≤ nameCount s
   pub names : nameCount s ≤ 32
   pub arithmetic : entryCount s Arithmetic ≤ 512
   pub boolean : entryCount s Boolean ≤ 256
@@ -48,11 +49,13 @@ pub record Counts (s : List ℕ) : Type 0 where
 pub counts-allowed : (s : List ℕ) → headsValidity s 0 programFields ≡ Fit → Counts s
 unfolding headsValidity programFields nameCount entryCount spanOf layoutOf spanAt
 counts-allowed s e =
+    let first = head-fit s (fieldStart s 0) _ (then-first _ _ e) in
     let second = then-second _ _ e in
     let third = then-second _ _ second in
     let last = head-fit s (fieldStart s 3) _ (then-first _ _ (then-second _ _ third)) in
     record {
-      names = head-fit s (fieldStart s 0) _ (then-first _ _ e) .few;
+      some-name = first .enough;
+      names = first .few;
       arithmetic = head-fit s (fieldStart s 1) _ (then-first _ _ second) .few;
       boolean = head-fit s (fieldStart s 2) _ (then-first _ _ third) .few;
       some-command = last .enough;
@@ -63,6 +66,10 @@ module _ (s : List ℕ) (fit : validity s ≡ Fit) where
   content-fit : contentValidity s ≡ Fit
   unfolding validity
   content-fit = turn-fit _ 2 fit
+
+  uses-fit : usesValidity s ≡ Fit
+  unfolding contentValidity
+  uses-fit = turn-fit _ 4 content-fit
 
   pub counts : Counts s
   unfolding validity
@@ -81,10 +88,10 @@ module _ (s : List ℕ) (fit : validity s ≡ Fit) where
 
   -- question 10, of the commands
   pub used-once : (n : ℕ) → n < lastCommand s → uses s Commands n ≡ 1
-  unfolding contentValidity useValidity
-  used-once n h = eqb-true (uses s Commands n) 1 (ask-fit _ 10 _ (each-fit _ _ (turn-fit _ 6 content-fit) n h))
+  unfolding useValidity usesValidity
+  used-once n h = eqb-true (uses s Commands n) 1 (ask-fit _ 10 _ (each-fit _ _ (turn-fit _ 2 uses-fit) n h))
 
   -- question 11
   pub last-fit : isCommand (entry s Commands (lastCommand s) .kind) ≡ true
-  unfolding contentValidity lastValidity
-  last-fit = ask-fit _ 11 _ (turn-fit _ 7 content-fit)
+  unfolding lastValidity usesValidity
+  last-fit = ask-fit _ 11 _ (turn-fit _ 3 uses-fit)

@@ -1,11 +1,12 @@
--- What stands past the end of a file reads as zero.
-use mathlib.Core.Path.{_≡_, refl}
+-- What stands past the end of a file reads as zero; and the counts in a layout.
+use mathlib.Core.Path.{_≡_, ap}
 use mathlib.Core.List.{List}
 use Prim.Native.Nat.{ℕ, _+_, _*_, _≤_}
 use native.Mathlib.Omega.{arith}
 use lib.ListN.{length, List·getD-eq-default}
-use Rattle.program.specs.File.{byteAt, wordAt, entryAt}
-use Rattle.program.specs.declared.Entry.{Entry}
+use Rattle.program.specs.File.{byteAt, wordAt, entryAt, layoutOf, spanOf, nameCount, entryCount}
+use Rattle.program.specs.declared.Layout.{Layout}
+use Rattle.program.specs.declared.Table.the-variants.{Arithmetic, Boolean, Commands}
 
 pub byte-past : (s : List ℕ) (i : ℕ) → length s ≤ i → byteAt s i ≡ 0
 unfolding byteAt
@@ -19,3 +20,20 @@ pub entry-past : (s : List ℕ) (i : ℕ) → length s ≤ i → record { kind =
 unfolding entryAt
 entry-past s i h =
     rw (byte-past s i h, word-past s (i + 1) (omega arith), word-past s (i + 3) (omega arith), word-past s (i + 5) (omega arith))
+
+-- the counts that a file's layout holds
+pub record LayoutCounts (s : List ℕ) (l : Layout) : Type 0 where
+  pub names : l .names .count ≡ nameCount s
+  pub arithmetic : l .arithmetic .count ≡ entryCount s Arithmetic
+  pub boolean : l .boolean .count ≡ entryCount s Boolean
+  pub commands : l .commands .count ≡ entryCount s Commands
+
+pub layout-counts : (s : List ℕ) (l : Layout) → l ≡ layoutOf s → LayoutCounts s l
+unfolding nameCount entryCount spanOf
+layout-counts s l e =
+    record {
+      names = ap (λ (x : Layout). x .names .count) e;
+      arithmetic = ap (λ (x : Layout). x .arithmetic .count) e;
+      boolean = ap (λ (x : Layout). x .boolean .count) e;
+      commands = ap (λ (x : Layout). x .commands .count) e;
+    }

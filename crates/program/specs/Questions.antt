@@ -144,7 +144,17 @@ lastCommand s = entryCount s Commands - 1
 unfoldable pub lastValidity : List ℕ → Validity
 lastValidity s = ask (isCommand (entry s Commands (lastCommand s) .kind)) 11 (entryOffset s Commands (lastCommand s))
 
--- questions 6 to 11: "each entry in file order", then uses in file order, then the last command
+-- questions 10, "first in file order", and 11
+unfoldable pub usesValidity : List ℕ → Validity
+usesValidity s =
+    inTurn
+    (askEach (entryCount s Arithmetic) (useValidity s Arithmetic)
+    ∷ askEach (entryCount s Boolean) (useValidity s Boolean)
+    ∷ askEach (lastCommand s) (useValidity s Commands)
+    ∷ lastValidity s
+    ∷ [])
+
+-- questions 6 to 11: "each entry in file order", then their uses
 unfoldable pub contentValidity : List ℕ → Validity
 contentValidity s =
     inTurn
@@ -152,10 +162,7 @@ contentValidity s =
     ∷ tableValidity s Arithmetic
     ∷ tableValidity s Boolean
     ∷ tableValidity s Commands
-    ∷ askEach (entryCount s Arithmetic) (useValidity s Arithmetic)
-    ∷ askEach (entryCount s Boolean) (useValidity s Boolean)
-    ∷ askEach (lastCommand s) (useValidity s Commands)
-    ∷ lastValidity s
+    ∷ usesValidity s
     ∷ [])
 
 -- questions 1 to 11 of a program file

@@ -1,9 +1,9 @@
 // Question 10: how often each entry is used, counted in one pass over the tables.
 
 ghost use mathlib.Core.Path.{_≡_};
-ghost use Prim.Native.Nat.{_<_, _≤_, _+_, min};
+ghost use Prim.Native.Nat.{ℕ, _<_, _≤_, _+_, min};
 ghost use lib.ListN.{length, getD, set};
-ghost use Rattle.program.specs.Counting.{capacity, slot, Counted};
+ghost use Rattle.program.specs.Counting.{capacity, slot, Counted, UsesIn};
 ghost use Rattle.program.specs.File.{layoutOf, Near, entryCount};
 ghost use Rattle.program.specs.Questions.{refersTo, shapeUses, entryUses, tableUses};
 use crate::Entry;
@@ -28,7 +28,7 @@ fn capacity(table: Table) -> u16
 }
 
 // The slot of entry `n` of a table.
-fn slot(table: Table, n: u16) -> usize
+pub(crate) fn slot(table: Table, n: u16) -> usize
     requires { ⌜ n < capacity table ⌝ }
     ensures { λ r. ⌜ (r ≡ slot table n) × (r < 1024) ⌝ }
 {
@@ -105,7 +105,7 @@ fn count_entry(s: &[u8], l: Layout, table: Table, m: u16, uses: &mut [u8])
 }
 
 // Counts the operands of a table's entries.
-pub(crate) fn count_table(s: &[u8], l: Layout, table: Table, uses: &mut [u8])
+fn count_table(s: &[u8], l: Layout, table: Table, uses: &mut [u8])
     requires { ⌜ (l ≡ layoutOf (now s)) × Near l × (length (now uses) ≡ 1024) ⌝ }
     ensures { λ _. ⌜ Counted (now (uses .entry)) (now (uses .exit)) (λ u n. tableUses (now (s .entry)) u n table (entryCount (now (s .entry)) table)) ⌝ }
 {
@@ -116,4 +116,14 @@ pub(crate) fn count_table(s: &[u8], l: Layout, table: Table, uses: &mut [u8])
         count_entry(s, l, table, m, uses);
         m += 1;
     }
+}
+
+// Counts the operands of all entries, from slots that are zero.
+pub(crate) fn count_all(s: &[u8], l: Layout, uses: &mut [u8])
+    requires { ⌜ (l ≡ layoutOf (now s)) × Near l × (length (now uses) ≡ 1024) × ((k : ℕ) → getD (now uses) k 0 ≡ 0) ⌝ }
+    ensures { λ _. ⌜ UsesIn (now (s .entry)) (now (uses .exit)) ⌝ }
+{
+    count_table(s, l, Table::Arithmetic, uses);
+    count_table(s, l, Table::Boolean, uses);
+    count_table(s, l, Table::Commands, uses);
 }

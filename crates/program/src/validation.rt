@@ -2,12 +2,14 @@
 
 ghost use mathlib.Core.Path.{_≡_};
 ghost use Prim.Native.Nat.{_<_, _≤_, _+_};
+ghost use Rattle.program.specs.Counting.{capacity, UsesIn};
 ghost use mathlib.Core.Bool.{_&&_};
 ghost use lib.Dec.{leb};
 ghost use Rattle.program.specs.Asking.{ask, isRefused, askEach};
-ghost use Rattle.program.specs.File.{layoutOf, spanOf, Near, nameCount, entryCount, entryOffset, entry, programFields};
+ghost use Rattle.program.specs.File.{layoutOf, spanOf, Near, nameCount, entryCount, entryOffset, entry, fieldStart, programFields};
 ghost use Rattle.program.specs.declared.Table.the-variants.{Commands};
-ghost use Rattle.program.specs.Questions.{wholeEntries, headValidity, headsValidity, endValidity, nameValidity, named, sameTable, limit, ofSort, points, eachOperand, shapeValidity, entryValidity, tableValidity};
+ghost use Rattle.program.specs.declared.Validity.the-variants.{Fit};
+ghost use Rattle.program.specs.Questions.{wholeEntries, headValidity, headsValidity, endValidity, nameValidity, named, sameTable, limit, ofSort, points, eachOperand, shapeValidity, entryValidity, tableValidity, useValidity, lastValidity, usesValidity, contentValidity, validity, inputValidity};
 use crate::Entry;
 use crate::Layout;
 use crate::Refusal;
@@ -19,6 +21,7 @@ use crate::Table;
 use crate::Validity;
 use crate::file;
 use crate::kinds;
+use crate::uses;
 
 // One question: its answer, and its number and place when that is no.
 fn ask(yes: bool, number: u8, offset: usize) -> Validity
@@ -315,4 +318,136 @@ fn check_table(s: &[u8], l: Layout, table: Table) -> Validity
         n += 1;
     }
     Validity::Fit
+}
+
+// Question 10 of the first `count` entries of a table, whose uses stand in `counts`.
+fn check_uses(s: &[u8], l: Layout, table: Table, count: u16, counts: &[u8]) -> Validity
+    requires { ⌜ (l ≡ layoutOf (now s)) × Near l × (count ≤ capacity table) × UsesIn (now s) (now counts) ⌝ }
+    ensures { λ r. ⌜ r ≡ askEach count (useValidity (now (s .entry)) table) ⌝ }
+{
+    let mut n: u16 = 0;
+    while n < count {
+        let v = ask(
+            counts[uses::slot(table, n)] == 1,
+            10,
+            offset(s, l, table, n),
+        );
+        if refused(v) {
+            return v;
+        }
+        n += 1;
+    }
+    Validity::Fit
+}
+
+// Question 11.
+fn check_last(s: &[u8], l: Layout) -> Validity
+    requires { ⌜ (l ≡ layoutOf (now s)) × Near l × (0 < entryCount (now s) Commands) ⌝ }
+    ensures { λ r. ⌜ r ≡ lastValidity (now (s .entry)) ⌝ }
+{
+    let span = l.commands;
+    let last = span.count - 1;
+    ask(
+        kinds::is_command(command_kind(s, l, last)),
+        11,
+        offset(s, l, Table::Commands, last),
+    )
+}
+
+// Questions 10 and 11, where questions 1 to 4 are answered yes.
+fn check_all_uses(s: &[u8], l: Layout) -> Validity
+    requires { ⌜ (l ≡ layoutOf (now s)) × Near l × (headsValidity (now s) 0 programFields ≡ Fit) ⌝ }
+    ensures { λ r. ⌜ r ≡ usesValidity (now (s .entry)) ⌝ }
+{
+    let mut counts = [0u8; 1024];
+    uses::count_all(s, l, &mut counts);
+    let arithmetic = l.arithmetic;
+    let first = check_uses(s, l, Table::Arithmetic, arithmetic.count, &counts);
+    if refused(first) {
+        return first;
+    }
+    let boolean = l.boolean;
+    let second = check_uses(s, l, Table::Boolean, boolean.count, &counts);
+    if refused(second) {
+        return second;
+    }
+    let commands = l.commands;
+    let third = check_uses(s, l, Table::Commands, commands.count - 1, &counts);
+    if refused(third) {
+        return third;
+    }
+    check_last(s, l)
+}
+
+// Questions 6 to 11, where questions 1 to 4 are answered yes.
+fn check_content(s: &[u8]) -> Validity
+    requires { ⌜ headsValidity (now s) 0 programFields ≡ Fit ⌝ }
+    ensures { λ r. ⌜ r ≡ contentValidity (now (s .entry)) ⌝ }
+{
+    let l = file::layout(s);
+    let spans = l.names;
+    let names = check_names(s, spans.count);
+    if refused(names) {
+        return names;
+    }
+    let arithmetic = check_table(s, l, Table::Arithmetic);
+    if refused(arithmetic) {
+        return arithmetic;
+    }
+    let boolean = check_table(s, l, Table::Boolean);
+    if refused(boolean) {
+        return boolean;
+    }
+    let commands = check_table(s, l, Table::Commands);
+    if refused(commands) {
+        return commands;
+    }
+    check_all_uses(s, l)
+}
+
+// Where the field after the four of a program starts.
+pub fn program_end(s: &[u8]) -> usize
+    ensures { λ r. ⌜ (r ≡ fieldStart (now (s .entry)) 4) × (r < 262157) ⌝ }
+{
+    let second = file::next_field(s, 0);
+    let third = file::next_field(s, second);
+    let fourth = file::next_field(s, third);
+    file::next_field(s, fourth)
+}
+
+// Questions 1 to 11 of a program file.
+pub fn validate(s: &[u8]) -> Validity
+    ensures { λ r. ⌜ r ≡ validity (now (s .entry)) ⌝ }
+{
+    let heads = check_heads(s);
+    if refused(heads) {
+        return heads;
+    }
+    let after = program_end(s);
+    let end = ask(after == s.len(), 5, after);
+    if refused(end) {
+        return end;
+    }
+    check_content(s)
+}
+
+// Questions 1 to 11 of the sheet program's input, whose fifth field is the start list.
+pub fn validate_input(s: &[u8]) -> Validity
+    ensures { λ r. ⌜ r ≡ inputValidity (now (s .entry)) ⌝ }
+{
+    let heads = check_heads(s);
+    if refused(heads) {
+        return heads;
+    }
+    let fifth = program_end(s);
+    let initial = check_head(s, fifth, 5, file::name_count(s), 0, 512);
+    if refused(initial) {
+        return initial;
+    }
+    let after = file::next_field(s, fifth);
+    let end = ask(after == s.len(), 5, after);
+    if refused(end) {
+        return end;
+    }
+    check_content(s)
 }

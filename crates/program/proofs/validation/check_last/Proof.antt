@@ -1,0 +1,43 @@
+-- `program::validation::check_last` meets its contract.
+use borrow.Author.Needs.{needs}
+use mathlib.Core.Path.{_≡_, ap}
+use native.Mathlib.Omega.{arith}
+use Rattle.program.specs.File.{entryCount, spanOf}
+use Rattle.program.specs.Questions.{lastValidity, lastCommand}
+use Rattle.program.specs.declared.Layout.{Layout}
+use Rattle.program.specs.declared.Table.the-variants.{Commands}
+use Rattle.program.proofs.validation.check_last.Statement.{statement}
+use Rattle.program.proofs.validation.check_last.Tie as tie
+
+sub-last : tie.Need-sub-last
+unfolding entryCount spanOf
+sub-last c =
+    let e : c .before .before .before .args .l .commands .count ≡ entryCount (c .before .before .before .args .s .now) Commands = ap (λ (l : Layout). l .commands .count) (c .before .before .before .pre .0) in
+    omega arith
+
+command-kind-requires : tie.Need-command-kind-requires
+command-kind-requires c κs = search needs
+
+is-command-requires : tie.Need-is-command-requires
+is-command-requires c κs = search needs
+
+offset-requires : tie.Need-offset-requires
+offset-requires c κs = search needs
+
+ask-requires : tie.Need-ask-requires
+ask-requires c κs = search needs
+
+returns : tie.Need-returns
+unfolding lastValidity lastCommand entryCount spanOf
+returns c = cc
+
+pub check-last-spec : {M : Type 1} → statement M
+check-last-spec =
+    tie.close
+    (tie.spec
+    sub-last
+    command-kind-requires
+    is-command-requires
+    offset-requires
+    ask-requires
+    returns)

@@ -1,0 +1,84 @@
+-- `program::validation::validate_input` meets its contract.
+use borrow.Author.Needs.{needs}
+use mathlib.Core.Path.{sym, _∙_}
+use native.Mathlib.Omega.{arith}
+use Rattle.program.specs.Asking.{inTurn}
+use Rattle.program.specs.File.{fieldStart}
+use Rattle.program.specs.Questions.{inputValidity, endValidity, initialField}
+use Rattle.program.proofs.Asking.{stops, goes-on, last-asked, not-refused}
+use Rattle.program.proofs.Fit.{counts-allowed}
+use Rattle.program.proofs.validation.validate_input.Statement.{statement}
+use Rattle.program.proofs.validation.validate_input.Tie as tie
+
+check-heads-requires : tie.Need-check-heads-requires
+check-heads-requires c κs = search needs
+
+refused-requires : tie.Need-refused-requires
+refused-requires c κs = search needs
+
+returns : tie.Need-returns
+unfolding inputValidity inTurn endValidity initialField fieldStart
+returns c = stops _ _ _ _ (c .before .before .check-heads .ensures) (c .before .refused .ensures) (c .if1 .taken)
+
+program-end-requires : tie.Need-program-end-requires
+program-end-requires c κs = search needs
+
+name-count-requires : tie.Need-name-count-requires
+name-count-requires c κs = search needs
+
+check-head-requires : tie.Need-check-head-requires
+check-head-requires c κs =
+    let heads = sym (c .before .before .before .before .check-heads .ensures) ∙ not-refused _ _ (c .before .before .before .refused .ensures) (c .before .before .if1 .left) in
+    (search needs, omega (arith, counts-allowed _ heads .some-name))
+
+refused-requires-2 : tie.Need-refused-requires-2
+refused-requires-2 c κs = search needs
+
+returns-2 : tie.Need-returns-2
+unfolding inputValidity inTurn endValidity initialField fieldStart
+returns-2 c = goes-on _ _ _ _ _ (c .before .before .before .before .before .before .before .check-heads .ensures) (c .before .before .before .before .before .before .refused .ensures) (c .before .before .before .before .before .if1 .left)
+    (stops _ _ _ _ (cc) (c .before .refused2 .ensures) (c .if2 .taken))
+
+next-field-requires : tie.Need-next-field-requires
+next-field-requires c κs = search needs
+
+ask-requires : tie.Need-ask-requires
+ask-requires c κs = search needs
+
+refused-requires-3 : tie.Need-refused-requires-3
+refused-requires-3 c κs = search needs
+
+returns-3 : tie.Need-returns-3
+unfolding inputValidity inTurn endValidity initialField fieldStart
+returns-3 c = goes-on _ _ _ _ _ (c .before .before .before .before .before .before .before .before .before .before .before .check-heads .ensures) (c .before .before .before .before .before .before .before .before .before .before .refused .ensures) (c .before .before .before .before .before .before .before .before .before .if1 .left)
+    (goes-on _ _ _ _ _ (cc) (c .before .before .before .before .before .refused2 .ensures) (c .before .before .before .before .if2 .left)
+    (stops _ _ _ _ (cc) (c .before .refused3 .ensures) (c .if3 .taken)))
+
+check-content-requires : tie.Need-check-content-requires
+check-content-requires c κs = sym (c .before .before .before .before .before .before .before .before .before .before .before .check-heads .ensures) ∙ not-refused _ _ (c .before .before .before .before .before .before .before .before .before .before .refused .ensures) (c .before .before .before .before .before .before .before .before .before .if1 .left)
+
+returns-4 : tie.Need-returns-4
+unfolding inputValidity inTurn endValidity initialField fieldStart
+returns-4 c = goes-on _ _ _ _ _ (c .before .before .before .before .before .before .before .before .before .before .before .before .check-heads .ensures) (c .before .before .before .before .before .before .before .before .before .before .before .refused .ensures) (c .before .before .before .before .before .before .before .before .before .before .if1 .left)
+    (goes-on _ _ _ _ _ (cc) (c .before .before .before .before .before .before .refused2 .ensures) (c .before .before .before .before .before .if2 .left)
+    (goes-on _ _ _ _ _ (cc) (c .before .before .refused3 .ensures) (c .before .if3 .left)
+    (last-asked _ _ (c .check-content .ensures))))
+
+pub validate-input-spec : {M : Type 1} → statement M
+validate-input-spec =
+    tie.close
+    (tie.spec
+    check-heads-requires
+    refused-requires
+    returns
+    program-end-requires
+    name-count-requires
+    check-head-requires
+    refused-requires-2
+    returns-2
+    next-field-requires
+    ask-requires
+    refused-requires-3
+    returns-3
+    check-content-requires
+    returns-4)
