@@ -87,3 +87,9 @@ once x =
       | yes e ↦ eq-eqb (min 2 x) 1 (omega arith) ∙ sym (eq-eqb x 1 e)
       | no f ↦ ne-eqb (min 2 x) 1 (omega arith) ∙ sym (ne-eqb x 1 f)
     ]
+
+pub slot-small : (t : Table) (n : ℕ) → n < capacity t → slot t n < 1024
+unfolding capacity slot
+slot-small Arithmetic n h = omega arith
+slot-small Boolean n h = omega arith
+slot-small Commands n h = omega arith

@@ -1,8 +1,8 @@
 // Reading a program file. All of it is total: a byte past the end is 0.
 
 ghost use mathlib.Core.Path.{_≡_};
-ghost use Prim.Native.Nat.{_<_, _≤_, _+_, min};
-ghost use Rattle.program.specs.File.{byteAt, wordAt, entryAt, nextField, spanAt, layoutOf, Near, spanOf, nameCount, sizeAt, sizes, cellsOf, cellCount, firstCell, entryCount, entryOffset, entry};
+ghost use Prim.Native.Nat.{_<_, _≤_, _+_, _*_, min};
+ghost use Rattle.program.specs.File.{byteAt, wordAt, entryAt, nextField, fieldStart, spanAt, layoutOf, Near, spanOf, nameCount, sizeAt, sizes, cellsOf, cellCount, firstCell, entryCount, entryOffset, entry};
 use crate::Entry;
 use crate::Layout;
 use crate::Span;
@@ -60,11 +60,24 @@ pub(crate) fn long(x: u16) -> usize
 }
 
 // Where the field after the one at `at` starts.
-pub(crate) fn next_field(s: &[u8], at: usize) -> usize
-    requires { ⌜ at < 1000000 ⌝ }
-    ensures { λ r. ⌜ (r ≡ nextField (now (s .entry)) at) × (r < at + 65539) ⌝ }
+fn next_field(s: &[u8], at: usize) -> usize
+    requires { ⌜ at < 100000000 ⌝ }
+    ensures { λ r. ⌜ (r ≡ nextField (now (s .entry)) at) × (r ≤ at + 65538) ⌝ }
 {
     at + 3 + long(word_at(s, at + 1))
+}
+
+// Where the field with `k` fields before it starts.
+pub fn field_start(s: &[u8], k: u8) -> usize
+    ensures { λ r. ⌜ (r ≡ fieldStart (now (s .entry)) k) × (r ≤ 65538 * k) ⌝ }
+{
+    let mut at: usize = 0;
+    let mut i: u8 = 0;
+    while i < k {
+        at = next_field(s, at);
+        i += 1;
+    }
+    at
 }
 
 // The content of the field at `at`, in entries of `width` bytes.

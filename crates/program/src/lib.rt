@@ -2,7 +2,6 @@
 
 pub mod file;
 pub mod kinds;
-mod uses;
 pub mod validation;
 
 // The three tables of entries of a file.

@@ -6,7 +6,7 @@ ghost use Rattle.program.specs.Counting.{capacity, UsesIn};
 ghost use mathlib.Core.Bool.{_&&_};
 ghost use lib.Dec.{leb};
 ghost use Rattle.program.specs.Asking.{ask, isRefused, askEach};
-ghost use Rattle.program.specs.File.{layoutOf, spanOf, Near, nameCount, entryCount, entryOffset, entry, fieldStart, programFields};
+ghost use Rattle.program.specs.File.{layoutOf, spanOf, Near, nameCount, entryCount, entryOffset, entry, programFields};
 ghost use Rattle.program.specs.declared.Table.the-variants.{Commands};
 ghost use Rattle.program.specs.declared.Validity.the-variants.{Fit};
 ghost use Rattle.program.specs.Questions.{wholeEntries, headValidity, headsValidity, endValidity, nameValidity, named, sameTable, limit, ofSort, points, eachOperand, shapeValidity, entryValidity, tableValidity, useValidity, lastValidity, usesValidity, contentValidity, validity, inputValidity};
@@ -19,9 +19,11 @@ use crate::Shape;
 use crate::Sort;
 use crate::Table;
 use crate::Validity;
+
+mod uses;
+
 use crate::file;
 use crate::kinds;
-use crate::uses;
 
 // One question: its answer, and its number and place when that is no.
 fn ask(yes: bool, number: u8, offset: usize) -> Validity
@@ -66,10 +68,11 @@ fn check_head(s: &[u8], at: usize, tag: u8, width: u16, least: u16, most: u16) -
     if file::byte_at(s, at) != tag {
         return ask(false, 2, at);
     }
-    if !whole_entries(file::word_at(s, at + 1), tag, width, least, most) {
+    let len = file::word_at(s, at + 1);
+    if !whole_entries(len, tag, width, least, most) {
         return ask(false, 3, at);
     }
-    ask(file::next_field(s, at) <= s.len(), 4, at)
+    ask(at + 3 + file::long(len) <= s.len(), 4, at)
 }
 
 // Whether operand `x` is zero where it is unused, and names a name of its sort where it is a name.
@@ -94,18 +97,15 @@ fn check_heads(s: &[u8]) -> Validity
     if refused(names) {
         return names;
     }
-    let second = file::next_field(s, 0);
-    let arithmetic = check_head(s, second, 2, 7, 0, 512);
+    let arithmetic = check_head(s, file::field_start(s, 1), 2, 7, 0, 512);
     if refused(arithmetic) {
         return arithmetic;
     }
-    let third = file::next_field(s, second);
-    let boolean = check_head(s, third, 3, 7, 0, 256);
+    let boolean = check_head(s, file::field_start(s, 2), 3, 7, 0, 256);
     if refused(boolean) {
         return boolean;
     }
-    let fourth = file::next_field(s, third);
-    check_head(s, fourth, 4, 7, 1, 256)
+    check_head(s, file::field_start(s, 3), 4, 7, 1, 256)
 }
 
 // Whether a size is 0 to 64 and a cell total at most 512.
@@ -191,7 +191,7 @@ fn start_of(l: Layout, table: Table) -> usize
 }
 
 // Where entry `n` of a table stands.
-pub(crate) fn offset(s: &[u8], l: Layout, table: Table, n: u16) -> usize
+fn offset(s: &[u8], l: Layout, table: Table, n: u16) -> usize
     requires { ⌜ (l ≡ layoutOf (now s)) × Near l ⌝ }
     ensures { λ r. ⌜ r ≡ entryOffset (now (s .entry)) table n ⌝ }
 {
@@ -359,8 +359,7 @@ fn check_all_uses(s: &[u8], l: Layout) -> Validity
     requires { ⌜ (l ≡ layoutOf (now s)) × Near l × (headsValidity (now s) 0 programFields ≡ Fit) ⌝ }
     ensures { λ r. ⌜ r ≡ usesValidity (now (s .entry)) ⌝ }
 {
-    let mut counts = [0u8; 1024];
-    uses::count_all(s, l, &mut counts);
+    let counts = uses::count_all(s);
     let arithmetic = l.arithmetic;
     let first = check_uses(s, l, Table::Arithmetic, arithmetic.count, &counts);
     if refused(first) {
@@ -405,14 +404,12 @@ fn check_content(s: &[u8]) -> Validity
     check_all_uses(s, l)
 }
 
-// Where the field after the four of a program starts.
-pub fn program_end(s: &[u8]) -> usize
-    ensures { λ r. ⌜ (r ≡ fieldStart (now (s .entry)) 4) × (r < 262157) ⌝ }
+// Question 5, after `k` fields.
+fn check_end(s: &[u8], k: u8) -> Validity
+    ensures { λ r. ⌜ r ≡ endValidity (now (s .entry)) k ⌝ }
 {
-    let second = file::next_field(s, 0);
-    let third = file::next_field(s, second);
-    let fourth = file::next_field(s, third);
-    file::next_field(s, fourth)
+    let at = file::field_start(s, k);
+    ask(at == s.len(), 5, at)
 }
 
 // Questions 1 to 11 of a program file.
@@ -423,8 +420,7 @@ pub fn validate(s: &[u8]) -> Validity
     if refused(heads) {
         return heads;
     }
-    let after = program_end(s);
-    let end = ask(after == s.len(), 5, after);
+    let end = check_end(s, 4);
     if refused(end) {
         return end;
     }
@@ -439,13 +435,11 @@ pub fn validate_input(s: &[u8]) -> Validity
     if refused(heads) {
         return heads;
     }
-    let fifth = program_end(s);
-    let initial = check_head(s, fifth, 5, file::name_count(s), 0, 512);
+    let initial = check_head(s, file::field_start(s, 4), 5, file::name_count(s), 0, 512);
     if refused(initial) {
         return initial;
     }
-    let after = file::next_field(s, fifth);
-    let end = ask(after == s.len(), 5, after);
+    let end = check_end(s, 5);
     if refused(end) {
         return end;
     }

@@ -1,11 +1,9 @@
-use Rattle.program.specs.declared.Span.{Span}
-use Rattle.program.specs.File.{spanAt}
-use native.Mathlib.Omega.{arith}
-use Prim.Native.Nat.{ℕ}
-use mathlib.Core.Path.{_≡_, ap}
 -- `program::file::layout` meets its contract.
 use borrow.Author.Needs.{needs}
-use Rattle.program.specs.File.{layoutOf, fieldStart}
+use mathlib.Core.Path.{_≡_, ap}
+use native.Mathlib.Omega.{arith}
+use Rattle.program.specs.File.{spanAt, layoutOf, fieldStart}
+use Rattle.program.specs.declared.Span.{Span}
 use Rattle.program.proofs.file.layout.Statement.{statement}
 use Rattle.program.proofs.file.layout.Tie as tie
 

@@ -2,7 +2,7 @@
 use borrow.Author.Needs.{needs}
 use Rattle.program.specs.File.{programFields, fieldStart}
 use Rattle.program.specs.Questions.{headsValidity}
-use Rattle.program.proofs.Asking.{last-asked, stops, goes-on}
+use Rattle.program.proofs.Asking.{stops, goes-on, last-asked}
 use Rattle.program.proofs.validation.check_heads.Statement.{statement}
 use Rattle.program.proofs.validation.check_heads.Tie as tie
 
@@ -16,8 +16,8 @@ returns : tie.Need-returns
 unfolding headsValidity programFields fieldStart
 returns c = stops _ _ _ _ (c .before .before .check-head .ensures) (c .before .refused .ensures) (c .if1 .taken)
 
-next-field-requires : tie.Need-next-field-requires
-next-field-requires c κs = search needs
+field-start-requires : tie.Need-field-start-requires
+field-start-requires c κs = search needs
 
 check-head-requires-2 : tie.Need-check-head-requires-2
 check-head-requires-2 c κs = search needs
@@ -30,8 +30,8 @@ unfolding headsValidity programFields fieldStart
 returns-2 c = goes-on _ _ _ _ _ (c .before .before .before .before .before .before .check-head .ensures) (c .before .before .before .before .before .refused .ensures) (c .before .before .before .before .if1 .left)
     (stops _ _ _ _ (cc) (c .before .refused2 .ensures) (c .if2 .taken))
 
-next-field-requires-2 : tie.Need-next-field-requires-2
-next-field-requires-2 c κs = search needs
+field-start-requires-2 : tie.Need-field-start-requires-2
+field-start-requires-2 c κs = search needs
 
 check-head-requires-3 : tie.Need-check-head-requires-3
 check-head-requires-3 c κs = search needs
@@ -45,8 +45,8 @@ returns-3 c = goes-on _ _ _ _ _ (c .before .before .before .before .before .befo
     (goes-on _ _ _ _ _ (cc) (c .before .before .before .before .before .refused2 .ensures) (c .before .before .before .before .if2 .left)
     (stops _ _ _ _ (cc) (c .before .refused3 .ensures) (c .if3 .taken)))
 
-next-field-requires-3 : tie.Need-next-field-requires-3
-next-field-requires-3 c κs = search needs
+field-start-requires-3 : tie.Need-field-start-requires-3
+field-start-requires-3 c κs = search needs
 
 check-head-requires-4 : tie.Need-check-head-requires-4
 check-head-requires-4 c κs = search needs
@@ -65,14 +65,14 @@ check-heads-spec =
     check-head-requires
     refused-requires
     returns
-    next-field-requires
+    field-start-requires
     check-head-requires-2
     refused-requires-2
     returns-2
-    next-field-requires-2
+    field-start-requires-2
     check-head-requires-3
     refused-requires-3
     returns-3
-    next-field-requires-3
+    field-start-requires-3
     check-head-requires-4
     returns-4)

@@ -1,14 +1,14 @@
 -- `program::validation::check_uses` meets its contract.
 use Prim.Native.Nat.{_≤_, _-_}
 use borrow.Author.Needs.{needs}
-use mathlib.Core.Path.{sym, refl, ap, _∙_, _≡_}
+use mathlib.Core.Path.{_≡_, sym, refl, ap, _∙_}
 use native.Mathlib.Numerals.{add-one}
 use native.Mathlib.Omega.{arith}
 use Rattle.program.specs.Asking.{askEach}
 use Rattle.program.specs.Questions.{uses, useValidity}
 use Rattle.program.specs.declared.Validity.the-variants.{Fit}
 use Rattle.program.proofs.Asking.{each-stops, each-goes-on}
-use Rattle.program.proofs.Counting.{once}
+use Rattle.program.proofs.Counting.{slot-small, once}
 use Rattle.program.proofs.validation.check_uses.Statement.{statement}
 use Rattle.program.proofs.validation.check_uses.Tie as tie
 
@@ -26,7 +26,9 @@ slot-requires : tie.Need-slot-requires Inv-loop μ-loop
 slot-requires c κs = search needs
 
 shared-slice-read-ask : tie.Need-shared-slice-read-ask Inv-loop μ-loop
-shared-slice-read-ask c = search needs
+shared-slice-read-ask c =
+    let a = c .before .before .before .before .before .before .args in
+    omega (arith, c .before .slot .ensures, c .before .before .before .before .before .before .pre .3 .room, slot-small (a .table) (c .before .before .before .loop .n) (omega arith))
 
 offset-requires : tie.Need-offset-requires Inv-loop μ-loop
 offset-requires c κs = search needs
@@ -43,7 +45,7 @@ unfolding useValidity
 asked c =
     let a = c .before .before .before .before .before .before .before .before .before .args in
     let n = c .before .before .before .before .before .before .loop .n in
-    rw (← once (uses (a .s .now) (a .table) n), ← c .before .before .before .before .before .before .before .before .before .pre .3 .each (a .table) n (omega arith), ← c .before .before .before .before .slot .ensures .0, ← c .before .before .offset .ensures)
+    rw (← once (uses (a .s .now) (a .table) n), ← c .before .before .before .before .before .before .before .before .before .pre .3 .each (a .table) n (omega arith), ← c .before .before .before .before .slot .ensures, ← c .before .before .offset .ensures)
     (c .before .ask .ensures)
 
 returns : tie.Need-returns Inv-loop μ-loop

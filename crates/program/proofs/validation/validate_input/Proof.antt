@@ -3,8 +3,7 @@ use borrow.Author.Needs.{needs}
 use mathlib.Core.Path.{sym, _∙_}
 use native.Mathlib.Omega.{arith}
 use Rattle.program.specs.Asking.{inTurn}
-use Rattle.program.specs.File.{fieldStart}
-use Rattle.program.specs.Questions.{inputValidity, endValidity, initialField}
+use Rattle.program.specs.Questions.{inputValidity, initialField}
 use Rattle.program.proofs.Asking.{stops, goes-on, last-asked, not-refused}
 use Rattle.program.proofs.Fit.{counts-allowed}
 use Rattle.program.proofs.validation.validate_input.Statement.{statement}
@@ -17,11 +16,11 @@ refused-requires : tie.Need-refused-requires
 refused-requires c κs = search needs
 
 returns : tie.Need-returns
-unfolding inputValidity inTurn endValidity initialField fieldStart
+unfolding inputValidity inTurn initialField
 returns c = stops _ _ _ _ (c .before .before .check-heads .ensures) (c .before .refused .ensures) (c .if1 .taken)
 
-program-end-requires : tie.Need-program-end-requires
-program-end-requires c κs = search needs
+field-start-requires : tie.Need-field-start-requires
+field-start-requires c κs = search needs
 
 name-count-requires : tie.Need-name-count-requires
 name-count-requires c κs = search needs
@@ -35,33 +34,30 @@ refused-requires-2 : tie.Need-refused-requires-2
 refused-requires-2 c κs = search needs
 
 returns-2 : tie.Need-returns-2
-unfolding inputValidity inTurn endValidity initialField fieldStart
+unfolding inputValidity inTurn initialField
 returns-2 c = goes-on _ _ _ _ _ (c .before .before .before .before .before .before .before .check-heads .ensures) (c .before .before .before .before .before .before .refused .ensures) (c .before .before .before .before .before .if1 .left)
     (stops _ _ _ _ (cc) (c .before .refused2 .ensures) (c .if2 .taken))
 
-next-field-requires : tie.Need-next-field-requires
-next-field-requires c κs = search needs
-
-ask-requires : tie.Need-ask-requires
-ask-requires c κs = search needs
+check-end-requires : tie.Need-check-end-requires
+check-end-requires c κs = search needs
 
 refused-requires-3 : tie.Need-refused-requires-3
 refused-requires-3 c κs = search needs
 
 returns-3 : tie.Need-returns-3
-unfolding inputValidity inTurn endValidity initialField fieldStart
-returns-3 c = goes-on _ _ _ _ _ (c .before .before .before .before .before .before .before .before .before .before .before .check-heads .ensures) (c .before .before .before .before .before .before .before .before .before .before .refused .ensures) (c .before .before .before .before .before .before .before .before .before .if1 .left)
-    (goes-on _ _ _ _ _ (cc) (c .before .before .before .before .before .refused2 .ensures) (c .before .before .before .before .if2 .left)
-    (stops _ _ _ _ (cc) (c .before .refused3 .ensures) (c .if3 .taken)))
+unfolding inputValidity inTurn initialField
+returns-3 c = goes-on _ _ _ _ _ (c .before .before .before .before .before .before .before .before .before .before .check-heads .ensures) (c .before .before .before .before .before .before .before .before .before .refused .ensures) (c .before .before .before .before .before .before .before .before .if1 .left)
+    (goes-on _ _ _ _ _ (cc) (c .before .before .before .before .refused2 .ensures) (c .before .before .before .if2 .left)
+    (stops _ _ _ _ (c .before .before .check-end .ensures) (c .before .refused3 .ensures) (c .if3 .taken)))
 
 check-content-requires : tie.Need-check-content-requires
-check-content-requires c κs = sym (c .before .before .before .before .before .before .before .before .before .before .before .check-heads .ensures) ∙ not-refused _ _ (c .before .before .before .before .before .before .before .before .before .before .refused .ensures) (c .before .before .before .before .before .before .before .before .before .if1 .left)
+check-content-requires c κs = sym (c .before .before .before .before .before .before .before .before .before .before .check-heads .ensures) ∙ not-refused _ _ (c .before .before .before .before .before .before .before .before .before .refused .ensures) (c .before .before .before .before .before .before .before .before .if1 .left)
 
 returns-4 : tie.Need-returns-4
-unfolding inputValidity inTurn endValidity initialField fieldStart
-returns-4 c = goes-on _ _ _ _ _ (c .before .before .before .before .before .before .before .before .before .before .before .before .check-heads .ensures) (c .before .before .before .before .before .before .before .before .before .before .before .refused .ensures) (c .before .before .before .before .before .before .before .before .before .before .if1 .left)
-    (goes-on _ _ _ _ _ (cc) (c .before .before .before .before .before .before .refused2 .ensures) (c .before .before .before .before .before .if2 .left)
-    (goes-on _ _ _ _ _ (cc) (c .before .before .refused3 .ensures) (c .before .if3 .left)
+unfolding inputValidity inTurn initialField
+returns-4 c = goes-on _ _ _ _ _ (c .before .before .before .before .before .before .before .before .before .before .before .check-heads .ensures) (c .before .before .before .before .before .before .before .before .before .before .refused .ensures) (c .before .before .before .before .before .before .before .before .before .if1 .left)
+    (goes-on _ _ _ _ _ (cc) (c .before .before .before .before .before .refused2 .ensures) (c .before .before .before .before .if2 .left)
+    (goes-on _ _ _ _ _ (c .before .before .before .check-end .ensures) (c .before .before .refused3 .ensures) (c .before .if3 .left)
     (last-asked _ _ (c .check-content .ensures))))
 
 pub validate-input-spec : {M : Type 1} → statement M
@@ -71,13 +67,12 @@ validate-input-spec =
     check-heads-requires
     refused-requires
     returns
-    program-end-requires
+    field-start-requires
     name-count-requires
     check-head-requires
     refused-requires-2
     returns-2
-    next-field-requires
-    ask-requires
+    check-end-requires
     refused-requires-3
     returns-3
     check-content-requires

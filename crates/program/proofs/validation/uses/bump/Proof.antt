@@ -1,7 +1,7 @@
--- `program::uses::bump` meets its contract.
+-- `program::validation::uses::bump` meets its contract.
 use borrow.Author.Needs.{needs}
-use Rattle.program.proofs.uses.bump.Statement.{statement}
-use Rattle.program.proofs.uses.bump.Tie as tie
+use Rattle.program.proofs.validation.uses.bump.Statement.{statement}
+use Rattle.program.proofs.validation.uses.bump.Tie as tie
 
 slice-read-n : tie.Need-slice-read-n
 slice-read-n c = search needs

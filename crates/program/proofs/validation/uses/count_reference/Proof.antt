@@ -1,17 +1,18 @@
--- `program::uses::count_reference` meets its contract.
+-- `program::validation::uses::count_reference` meets its contract.
 use Prim.Native.Nat.{ℕ, _+_, _<_, min}
 use borrow.Author.Needs.{needs}
 use lib.ListN.{getD, set}
 use mathlib.Core.List.{List}
-use mathlib.Core.Path.{_≡_, ap, sym, subst}
+use mathlib.Core.Path.{_≡_, ap, _∙_, sym, subst}
 use native.Mathlib.Omega.{arith}
-use Rattle.program.specs.Counting.{Counted, capacity, slot}
+use Rattle.program.specs.Counting.{capacity, slot, Counted}
 use Rattle.program.specs.Kind.{tableOf}
 use Rattle.program.specs.Questions.{refersTo}
 use Rattle.program.specs.declared.Role.the-variants.{To}
-use Rattle.program.proofs.Counting.{counted-one, counted-far}
-use Rattle.program.proofs.uses.count_reference.Statement.{statement}
-use Rattle.program.proofs.uses.count_reference.Tie as tie
+use Rattle.program.specs.declared.Table.{Table}
+use Rattle.program.proofs.Counting.{counted-one, counted-far, slot-small}
+use Rattle.program.proofs.validation.uses.count_reference.Statement.{statement}
+use Rattle.program.proofs.validation.uses.count_reference.Tie as tie
 
 table-of-requires : tie.Need-table-of-requires
 table-of-requires c κs = search needs
@@ -23,7 +24,12 @@ slot-requires : tie.Need-slot-requires
 slot-requires c κs = search needs
 
 bump-requires : tie.Need-bump-requires
-bump-requires c κs = search needs
+bump-requires c κs =
+    let a = c .before .before .before .before .before .before .args in
+    let t = tableOf (a .sort) in
+    let h : a .x < capacity t = omega (arith, ap capacity (c .before .before .before .before .table-of .ensures)) in
+    let at : c .slot .result ≡ slot t (a .x) = c .slot .ensures ∙ ap (λ (u : Table). slot u (a .x)) (c .before .before .before .before .table-of .ensures) in
+    omega (arith, slot-small t (a .x) h)
 
 same-length : tie.Need-same-length
 same-length c = search needs
@@ -34,9 +40,11 @@ returns c =
     let a = c .before .before .before .before .before .before .before .before .before .args in
     let t = tableOf (a .sort) in
     let h : a .x < capacity t = omega (arith, ap capacity (c .before .before .before .before .before .before .before .table-of .ensures)) in
-    let at : c .before .before .before .slot .result ≡ slot t (a .x) = cc in
+    let at : c .before .before .before .slot .result ≡ slot t (a .x) = c .before .before .before .slot .ensures ∙ ap (λ (u : Table). slot u (a .x)) (c .before .before .before .before .before .before .before .table-of .ensures) in
     let done : c .before .before .bump .last .0 ≡ set (a .uses .now) (slot t (a .x)) (min 2 (getD (a .uses .now) (slot t (a .x)) 0 + 1)) = rw (← at) (c .before .before .bump .ensures) in
-    subst (λ (b : List ℕ). Counted (a .uses .now) b (λ u n. refersTo u n (To (a .sort)) (a .x))) (sym done) (counted-one (a .uses .now) t (a .x) h (omega arith))
+    subst (λ (b : List ℕ). Counted (a .uses .now) b (λ u n. refersTo u n (To (a .sort)) (a .x)))
+    (sym done)
+    (counted-one (a .uses .now) t (a .x) h (omega (arith, slot-small t (a .x) h)))
 
 returns-2 : tie.Need-returns-2
 unfolding refersTo

@@ -1,10 +1,8 @@
--- `program::uses::slot` meets its contract.
+-- `program::validation::uses::slot` meets its contract.
 use borrow.Author.Needs.{needs}
-use mathlib.Core.Path.{ap}
-use native.Mathlib.Omega.{arith}
-use Rattle.program.specs.Counting.{slot, capacity}
-use Rattle.program.proofs.uses.slot.Statement.{statement}
-use Rattle.program.proofs.uses.slot.Tie as tie
+use Rattle.program.specs.Counting.{slot}
+use Rattle.program.proofs.validation.uses.slot.Statement.{statement}
+use Rattle.program.proofs.validation.uses.slot.Tie as tie
 
 enum-told : tie.Need-enum-told
 enum-told c = search needs
@@ -31,16 +29,16 @@ add-result-2 : tie.Need-add-result-2
 add-result-2 c = search needs
 
 returns : tie.Need-returns
-unfolding slot capacity
-returns c = (rw (c .before .enum-told .given .1) (c .long .ensures), omega (arith, ap capacity (c .before .enum-told .given .1)))
+unfolding slot
+returns c = rw (c .before .enum-told .given .1) (c .long .ensures)
 
 returns-2 : tie.Need-returns-2
-unfolding slot capacity
-returns-2 c = (rw (c .before .enum-told2 .given .1) (cc), omega (arith, ap capacity (c .before .enum-told2 .given .1)))
+unfolding slot
+returns-2 c = rw (c .before .enum-told2 .given .1) (cc)
 
 returns-3 : tie.Need-returns-3
-unfolding slot capacity
-returns-3 c = (rw (c .before .enum-told3 .given .1) (cc), omega (arith, ap capacity (c .before .enum-told3 .given .1)))
+unfolding slot
+returns-3 c = rw (c .before .enum-told3 .given .1) (cc)
 
 pub slot-spec : {M : Type 1} → statement M
 slot-spec =

@@ -6,6 +6,7 @@ ghost use lib.ListN.{length, getD, set};
 ghost use Rattle.program.specs.Counting.{capacity, slot, Counted, UsesIn};
 ghost use Rattle.program.specs.File.{layoutOf, Near, entryCount};
 ghost use Rattle.program.specs.Questions.{refersTo, shapeUses, entryUses, tableUses};
+use super::offset;
 use crate::Entry;
 use crate::Layout;
 use crate::Role;
@@ -15,7 +16,6 @@ use crate::Sort;
 use crate::Table;
 use crate::file;
 use crate::kinds;
-use crate::validation;
 
 fn capacity(table: Table) -> u16
     ensures { λ r. ⌜ r ≡ capacity table ⌝ }
@@ -28,9 +28,8 @@ fn capacity(table: Table) -> u16
 }
 
 // The slot of entry `n` of a table.
-pub(crate) fn slot(table: Table, n: u16) -> usize
-    requires { ⌜ n < capacity table ⌝ }
-    ensures { λ r. ⌜ (r ≡ slot table n) × (r < 1024) ⌝ }
+pub(super) fn slot(table: Table, n: u16) -> usize
+    ensures { λ r. ⌜ r ≡ slot table n ⌝ }
 {
     match table {
         Table::Arithmetic => file::long(n),
@@ -97,7 +96,7 @@ fn count_entry(s: &[u8], l: Layout, table: Table, m: u16, uses: &mut [u8])
     requires { ⌜ (l ≡ layoutOf (now s)) × Near l × (length (now uses) ≡ 1024) ⌝ }
     ensures { λ _. ⌜ Counted (now (uses .entry)) (now (uses .exit)) (λ u n. entryUses (now (s .entry)) u n table m) ⌝ }
 {
-    let e = file::entry_at(s, validation::offset(s, l, table, m));
+    let e = file::entry_at(s, offset(s, l, table, m));
     match kinds::shape(table, e.kind) {
         Shape::Unknown => {}
         Shape::Known(roles) => count_operands(uses, roles, e),
@@ -118,12 +117,14 @@ fn count_table(s: &[u8], l: Layout, table: Table, uses: &mut [u8])
     }
 }
 
-// Counts the operands of all entries, from slots that are zero.
-pub(crate) fn count_all(s: &[u8], l: Layout, uses: &mut [u8])
-    requires { ⌜ (l ≡ layoutOf (now s)) × Near l × (length (now uses) ≡ 1024) × ((k : ℕ) → getD (now uses) k 0 ≡ 0) ⌝ }
-    ensures { λ _. ⌜ UsesIn (now (s .entry)) (now (uses .exit)) ⌝ }
+// Counts the operands of all entries.
+pub(super) fn count_all(s: &[u8]) -> [u8; 1024]
+    ensures { λ r. ⌜ UsesIn (now (s .entry)) r ⌝ }
 {
-    count_table(s, l, Table::Arithmetic, uses);
-    count_table(s, l, Table::Boolean, uses);
-    count_table(s, l, Table::Commands, uses);
+    let l = file::layout(s);
+    let mut uses = [0u8; 1024];
+    count_table(s, l, Table::Arithmetic, &mut uses);
+    count_table(s, l, Table::Boolean, &mut uses);
+    count_table(s, l, Table::Commands, &mut uses);
+    uses
 }

@@ -1,8 +1,8 @@
--- `program::uses::capacity` meets its contract.
+-- `program::validation::uses::capacity` meets its contract.
 use borrow.Author.Needs.{needs}
 use Rattle.program.specs.Counting.{capacity}
-use Rattle.program.proofs.uses.capacity.Statement.{statement}
-use Rattle.program.proofs.uses.capacity.Tie as tie
+use Rattle.program.proofs.validation.uses.capacity.Statement.{statement}
+use Rattle.program.proofs.validation.uses.capacity.Tie as tie
 
 enum-told : tie.Need-enum-told
 enum-told c = search needs

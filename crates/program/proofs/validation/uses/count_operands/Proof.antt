@@ -1,9 +1,9 @@
--- `program::uses::count_operands` meets its contract.
+-- `program::validation::uses::count_operands` meets its contract.
 use borrow.Author.Needs.{needs}
 use Rattle.program.specs.Questions.{shapeUses}
 use Rattle.program.proofs.Counting.{counted-then}
-use Rattle.program.proofs.uses.count_operands.Statement.{statement}
-use Rattle.program.proofs.uses.count_operands.Tie as tie
+use Rattle.program.proofs.validation.uses.count_operands.Statement.{statement}
+use Rattle.program.proofs.validation.uses.count_operands.Tie as tie
 
 count-operand-requires : tie.Need-count-operand-requires
 count-operand-requires c κs = search needs

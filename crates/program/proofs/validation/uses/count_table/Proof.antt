@@ -1,4 +1,4 @@
--- `program::uses::count_table` meets its contract.
+-- `program::validation::uses::count_table` meets its contract.
 use Prim.Native.Nat.{ℕ, _≤_, _-_}
 use borrow.Author.Needs.{needs}
 use mathlib.Core.Path.{_≡_, refl, ap, _∙_, subst}
@@ -10,8 +10,8 @@ use Rattle.program.specs.Questions.{tableUses}
 use Rattle.program.specs.declared.Layout.{Layout}
 use Rattle.program.specs.declared.Span.{Span}
 use Rattle.program.proofs.Counting.{counted-none, counted-then}
-use Rattle.program.proofs.uses.count_table.Statement.{statement}
-use Rattle.program.proofs.uses.count_table.Tie as tie
+use Rattle.program.proofs.validation.uses.count_table.Statement.{statement}
+use Rattle.program.proofs.validation.uses.count_table.Tie as tie
 
 abbrev Inv-loop : tie.InvT-loop
 Inv-loop s l table uses₀ count m₀ uses m =

@@ -1,4 +1,4 @@
--- `program::uses::count_entry` meets its contract.
+-- `program::validation::uses::count_entry` meets its contract.
 use borrow.Author.Needs.{needs}
 use mathlib.Core.Path.{_≡_, refl, ap, sym, _∙_}
 use Rattle.program.specs.File.{entry, entryAt}
@@ -6,8 +6,8 @@ use Rattle.program.specs.Kind.{shape}
 use Rattle.program.specs.Questions.{entryUses, shapeUses}
 use Rattle.program.specs.declared.Entry.{Entry}
 use Rattle.program.proofs.Counting.{counted-none}
-use Rattle.program.proofs.uses.count_entry.Statement.{statement}
-use Rattle.program.proofs.uses.count_entry.Tie as tie
+use Rattle.program.proofs.validation.uses.count_entry.Statement.{statement}
+use Rattle.program.proofs.validation.uses.count_entry.Tie as tie
 
 offset-requires : tie.Need-offset-requires
 offset-requires c κs = search needs

@@ -1,10 +1,10 @@
--- `program::uses::count_operand` meets its contract.
+-- `program::validation::uses::count_operand` meets its contract.
 use borrow.Author.Needs.{needs}
 use mathlib.Core.Path.{refl}
 use Rattle.program.specs.Questions.{refersTo}
 use Rattle.program.proofs.Counting.{counted-none}
-use Rattle.program.proofs.uses.count_operand.Statement.{statement}
-use Rattle.program.proofs.uses.count_operand.Tie as tie
+use Rattle.program.proofs.validation.uses.count_operand.Statement.{statement}
+use Rattle.program.proofs.validation.uses.count_operand.Tie as tie
 
 enum-told : tie.Need-enum-told
 enum-told c = search needs

@@ -1,0 +1,18 @@
+-- `program::validation::check_end` meets its contract.
+use borrow.Author.Needs.{needs}
+use Rattle.program.specs.Questions.{endValidity}
+use Rattle.program.proofs.validation.check_end.Statement.{statement}
+use Rattle.program.proofs.validation.check_end.Tie as tie
+
+field-start-requires : tie.Need-field-start-requires
+field-start-requires c κs = search needs
+
+ask-requires : tie.Need-ask-requires
+ask-requires c κs = search needs
+
+returns : tie.Need-returns
+unfolding endValidity
+returns c = cc
+
+pub check-end-spec : {M : Type 1} → statement M
+check-end-spec = tie.close (tie.spec field-start-requires ask-requires returns)
