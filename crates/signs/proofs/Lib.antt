@@ -1,3 +1,5 @@
 pub mod Open
+pub mod Signed
+pub mod Signs
 pub mod Power
 pub mod Examples
