@@ -1,6 +1,10 @@
 pub mod Open
 pub mod Signed
 pub mod Range
+pub mod Finite
+pub mod Lists
+pub mod Membership
+pub mod Operate
 pub mod Signs
 pub mod Power
 pub mod Examples

@@ -1,4 +1,5 @@
 // Numbers and signs: arithmetic on 32-bit numbers with the reasons for which it is undefined, and its abstraction to signs.
+pub mod grid;
 pub mod number;
 pub mod sets;
 

@@ -1,6 +1,5 @@
 -- `number::apply`: each arm knows its operator; sum, difference and product of widened numbers fit 64 bits.
 use mathlib.Core.Path.{_≡_, refl, sym, ap, _∙_}
-use borrow.Author.Needs.{needs}
 use lib.IntN.{ℤ, _+ℤ_, _-ℤ_, _*ℤ_}
 use Rattle.signs.proofs.Signed.{passed, widens, wide-fits, wide-result, sum-fits, difference-fits, product-fits}
 use Rattle.signs.specs.Number.{apply, exact, quotient, raised}
@@ -52,9 +51,9 @@ pub apply-spec : {M : Type 1} → statement M
 apply-spec =
     tie.close
     (tie.spec (λ c. widens (c .args .a) (c .fits .a)) (λ c. widens (c .args .b) (c .fits .b))
-    (λ c. search needs) add-exact (λ c κs. tt)
-    (λ c. search needs) sub-exact (λ c κs. tt)
-    (λ c. search needs) mul-exact (λ c κs. tt)
-    (λ c. search needs) (λ c κs. tt)
-    (λ c. search needs) (λ c κs. tt)
+    (λ c. c .match .keys1) add-exact (λ c κs. tt)
+    (λ c. c .match .keys2) sub-exact (λ c κs. tt)
+    (λ c. c .match .keys3) mul-exact (λ c κs. tt)
+    (λ c. c .match .keys4) (λ c κs. tt)
+    (λ c. c .match .keys5) (λ c κs. tt)
     returns returns-2 returns-3 returns-4 returns-5)

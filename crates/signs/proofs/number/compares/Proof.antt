@@ -1,6 +1,5 @@
 -- `number::compares`: each arm knows its comparison, and the machine compares what it reads back from the bits.
 use mathlib.Core.Path.{refl, sym, ap, _∙_}
-use borrow.Author.Needs.{needs}
 use lib.IntN.{ℤ}
 use lib.Signed.{ltZ, leZ}
 use mir.Syntax.{w32}
@@ -29,4 +28,4 @@ returns-3 c =
     rw (c .enum-told3 .given .1, toZ-ofZ w32 (s .args .a) (s .fits .a), toZ-ofZ w32 (s .args .b) (s .fits .b))
 
 pub compares-spec : {M : Type 1} → statement M
-compares-spec = tie.close (tie.spec (λ c. search needs) (λ c. search needs) (λ c. search needs) returns returns-2 returns-3)
+compares-spec = tie.close (tie.spec (λ c. c .match .keys1) (λ c. c .match .keys2) (λ c. c .match .keys3) returns returns-2 returns-3)

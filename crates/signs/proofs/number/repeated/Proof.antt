@@ -4,7 +4,6 @@ use mathlib.Core.Path.{_≡_, refl, sym, ap, _∙_}
 use Prim.Native.Nat.{_+_, _-_, _≤_}
 use native.Mathlib.Numerals.{add-one}
 use native.Mathlib.Omega.{arith}
-use borrow.Author.Needs.{needs}
 use lib.IntN.{ℤ, pos, _*ℤ_}
 use mir.Facts.{sfits-lit}
 use mir.Syntax.{w32}
@@ -83,5 +82,5 @@ returns-2 c =
 pub repeated-spec : {M : Type 1} → statement M
 repeated-spec =
     tie.close
-    (tie.spec Inv-loop μ-loop loop-holds cast-exact cast-exact-2 mul-exact (λ c κs. tt) (λ c. search needs) (λ c. search needs)
+    (tie.spec Inv-loop μ-loop loop-holds cast-exact cast-exact-2 mul-exact (λ c κs. tt) (λ c. c .match .keys1) (λ c. c .match .keys2)
     returns (λ c. omega arith) (λ c. omega arith) loop-again returns-2)

@@ -1,0 +1,113 @@
+-- Sets of signs: what is in them, and when two are the same.
+use mathlib.Core.Path.{_≡_, refl, sym, ap, _∙_}
+use mathlib.Core.Bool.{Bool, true, false, cond, not, _&&_, _||_, Bool·beq}
+use mathlib.Core.List.{List, [], _∷_, map}
+use Prim.Native.Nat.{ℕ, _+_, _/_, _%_, _<_}
+use native.Mathlib.Omega.{arith}
+use lib.Dec.{T, eqb, ltb, ltb→lt, eqb→eq}
+use Rattle.signs.specs.Lists.{any, filter}
+use Rattle.signs.specs.Sign.{has, single, signs, setOf, members, union, unionAll, added, removed}
+use Rattle.signs.specs.declared.Sign.{Sign}
+use Rattle.signs.specs.declared.Sign.the-variants.{Minus, Zero, Plus}
+use Rattle.signs.proofs.Finite.{everySign, at-sign, everyBool, at-bool, everyBelow, at-below, beq-eq}
+use Rattle.signs.proofs.Lists.{any-filter, or-false}
+
+-- the set with the signs that are said to be in it
+abbrev of : Bool → Bool → Bool → ℕ
+of m z p = cond m 1 0 + cond z 2 0 + cond p 4 0
+
+abbrev chosen : Bool → Bool → Bool → Sign → Bool
+chosen m z p Minus = m
+chosen m z p Zero = z
+chosen m z p Plus = p
+
+has-of : (m z p : Bool) (s : Sign) → has (of m z p) s ≡ chosen m z p s
+unfolding has single
+has-of m z p s =
+    beq-eq (has (of m z p) s) (chosen m z p s)
+    (at-sign (λ s. Bool·beq (has (of m z p) s) (chosen m z p s))
+    (at-bool (λ p. everySign (λ s. Bool·beq (has (of m z p) s) (chosen m z p s)))
+    (at-bool (λ z. everyBool (λ p. everySign (λ s. Bool·beq (has (of m z p) s) (chosen m z p s))))
+    (at-bool (λ m. everyBool (λ z. everyBool (λ p. everySign (λ s. Bool·beq (has (of m z p) s) (chosen m z p s))))) tt m) z) p) s)
+
+pub has-setOf : (f : Sign → Bool) (s : Sign) → has (setOf f) s ≡ f s
+unfolding setOf
+has-setOf f s = has-of (f Minus) (f Zero) (f Plus) s ∙ go s
+  where
+    go : (s : Sign) → chosen (f Minus) (f Zero) (f Plus) s ≡ f s
+    go Minus = refl
+    go Zero = refl
+    go Plus = refl
+
+below-of : (m z p : Bool) → of m z p < 8
+below-of m z p =
+    ltb→lt (of m z p) 8
+    (at-bool (λ p. ltb (of m z p) 8) (at-bool (λ z. everyBool (λ p. ltb (of m z p) 8)) (at-bool (λ m. everyBool (λ z. everyBool (λ p. ltb (of m z p) 8))) tt m) z) p)
+
+pub setOf-below : (f : Sign → Bool) → setOf f < 8
+unfolding setOf
+setOf-below f = below-of (f Minus) (f Zero) (f Plus)
+
+pub setOf-has : (set : ℕ) → set < 8 → setOf (has set) ≡ set
+unfolding setOf has single
+setOf-has set h = eqb→eq (setOf (has set)) set (at-below 8 (λ n. eqb (setOf (has n)) n) tt set h)
+
+-- two sets with the same signs are the same
+pub same-set : (a b : ℕ) → a < 8 → b < 8 → ((s : Sign) → has a s ≡ has b s) → a ≡ b
+unfolding setOf
+same-set a b ha hb h = sym (setOf-has a ha) ∙ go ∙ setOf-has b hb
+  where
+    go : setOf (has a) ≡ setOf (has b)
+    go = rw (h Minus, h Zero, h Plus)
+
+-- a number above 7 is the set of its remainder by 8
+pub has-remainder : (n : ℕ) (s : Sign) → has (n % 8) s ≡ has n s
+unfolding has single
+has-remainder n Minus = let e : n % 8 / 1 % 2 ≡ n / 1 % 2 = omega arith in rw e
+has-remainder n Zero = let e : n % 8 / 2 % 2 ≡ n / 2 % 2 = omega arith in rw e
+has-remainder n Plus = let e : n % 8 / 4 % 2 ≡ n / 4 % 2 = omega arith in rw e
+
+pub has-empty : (s : Sign) → has 0 s ≡ false
+unfolding has single
+has-empty s = beq-eq (has 0 s) false (at-sign (λ s. Bool·beq (has 0 s) false) tt s)
+
+pub has-union : (a b : ℕ) (s : Sign) → has (union a b) s ≡ (has a s || has b s)
+unfolding union
+has-union a b s = has-setOf (λ s. has a s || has b s) s
+
+pub union-below : (a b : ℕ) → union a b < 8
+unfolding union
+union-below a b = setOf-below (λ s. has a s || has b s)
+
+pub has-unionAll : (l : List ℕ) (s : Sign) → has (unionAll l) s ≡ any (λ a. has a s) l
+unfolding unionAll any
+has-unionAll [] s = has-empty s
+has-unionAll (a ∷ l) s = has-union a (unionAll l) s ∙ ap (λ (b : Bool). has a s || b) (has-unionAll l s)
+
+pub unionAll-below : (l : List ℕ) → unionAll l < 8
+unfolding unionAll
+unionAll-below [] = omega arith
+unionAll-below (a ∷ l) = union-below a (unionAll l)
+
+pub has-added : (s : Sign) (set : ℕ) (t : Sign) → has (added s set) t ≡ (has set t || has (single s) t)
+unfolding added
+has-added s set t = has-union set (single s) t
+
+pub has-removed : (s : Sign) (set : ℕ) (t : Sign) → has (removed s set) t ≡ (has set t && not (has (single s) t))
+unfolding removed
+has-removed s set t = has-setOf (λ t. has set t && not (has (single s) t)) t
+
+-- the members of a set, as a test over the three signs
+pub any-members : (p : Sign → Bool) (set : ℕ) → any p (members set) ≡ any (λ s. has set s && p s) signs
+unfolding members
+any-members p set = any-filter p (has set) signs
+
+-- the union over the three signs
+pub has-three : (f : Sign → ℕ) (s : Sign) → has (union (f Minus) (union (f Zero) (f Plus))) s ≡ any (λ t. has (f t) s) signs
+unfolding any signs
+has-three f s = rw (has-union, has-union, or-false)
+
+-- a set that is there only where a test passes
+pub has-cond : (b : Bool) (set : ℕ) (s : Sign) → has (cond b set 0) s ≡ (b && has set s)
+has-cond true set s = refl
+has-cond false set s = has-empty s
