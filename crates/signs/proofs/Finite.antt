@@ -1,10 +1,10 @@
 -- A fact of every sign, operator, comparison, set or truth value is one test that antt computes, and here is the law that gives it at each of them.
 use mathlib.Core.Path.{_≡_, refl, subst}
 use mathlib.Core.Bool.{Bool, true, false, _&&_, Bool·beq}
-use Prim.Native.Nat.{ℕ, zero, suc, _<_}
-use native.Mathlib.Nat.{not-suc-le-zero}
+use Prim.Native.Nat.{ℕ, zero, suc, _%_, _<_}
+use native.Mathlib.Nat.{not-suc-le-zero, mod-lt}
 use native.Mathlib.Omega.{arith}
-use lib.Dec.{T, ltb, ltb→lt}
+use lib.Dec.{T, ltb, ltb→lt, lit<}
 use borrow.Author.Tests.{ltb-true, ltb-false}
 use mir.Facts.{and-yes}
 use Rattle.signs.specs.Grid.{gridNumber, signNumber}
@@ -65,6 +65,10 @@ at-below (suc n) f t k h = go (λ t′ h′. at-below n f t′ k h′) (ltb k n)
     go : (T (everyBelow n f) → k < n → T (f k)) → (b : Bool) → ltb k n ≡ b → T (f k)
     go below true e = below (and-yes (f n) (everyBelow n f) t .1) (ltb-true k n e)
     go below false e = let same : n ≡ k = omega (arith, ltb-false k n e) in subst (λ (m : ℕ). T (f m)) same (and-yes (f n) (everyBelow n f) t .0)
+
+-- a fact of two sets, where it is the same for their remainders by 8
+pub at-sets : (f : ℕ → ℕ → Bool) → T (everyBelow 8 (λ a. everyBelow 8 (f a))) → (a b : ℕ) → T (f (a % 8) (b % 8))
+at-sets f t a b = at-below 8 (f (a % 8)) (at-below 8 (λ a. everyBelow 8 (f a)) t (a % 8) (mod-lt a (lit< tt))) (b % 8) (mod-lt b (lit< tt))
 
 abbrev pub everyBool : (Bool → Bool) → Bool
 everyBool f = f true && f false

@@ -5,6 +5,7 @@ pub mod Finite
 pub mod Lists
 pub mod Membership
 pub mod Operate
+pub mod Answers
 pub mod Signs
 pub mod Power
 pub mod Examples

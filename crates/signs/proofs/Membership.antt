@@ -2,15 +2,18 @@
 use mathlib.Core.Path.{_≡_, refl, sym, ap, _∙_}
 use mathlib.Core.Bool.{Bool, true, false, cond, not, _&&_, _||_, Bool·beq}
 use mathlib.Core.List.{List, [], _∷_, map}
-use Prim.Native.Nat.{ℕ, _+_, _/_, _%_, _<_}
+use Prim.Native.Nat.{ℕ, _+_, _-_, _/_, _%_, _≤_, _<_}
+use native.Mathlib.Nat.{mod-lt}
 use native.Mathlib.Omega.{arith}
-use lib.Dec.{T, eqb, ltb, ltb→lt, eqb→eq}
+use lib.Bits.{bitOr, or-mod, or-lt}
+use lib.Dec.{T, eqb, leb, ltb, leb→le, ltb→lt, eqb→eq, lit<}
+use mir.Facts.{and-yes}
 use Rattle.signs.specs.Lists.{any, filter}
 use Rattle.signs.specs.Sign.{has, single, signs, setOf, members, union, unionAll, added, removed}
 use Rattle.signs.specs.declared.Sign.{Sign}
 use Rattle.signs.specs.declared.Sign.the-variants.{Minus, Zero, Plus}
-use Rattle.signs.proofs.Finite.{everySign, at-sign, everyBool, at-bool, everyBelow, at-below, beq-eq}
-use Rattle.signs.proofs.Lists.{any-filter, or-false}
+use Rattle.signs.proofs.Finite.{everySign, at-sign, everyBool, at-bool, everyBelow, at-below, at-sets, beq-eq}
+use Rattle.signs.proofs.Lists.{any-filter, or-assoc, or-false}
 
 -- the set with the signs that are said to be in it
 abbrev of : Bool → Bool → Bool → ℕ
@@ -67,6 +70,10 @@ has-remainder n Minus = let e : n % 8 / 1 % 2 ≡ n / 1 % 2 = omega arith in rw 
 has-remainder n Zero = let e : n % 8 / 2 % 2 ≡ n / 2 % 2 = omega arith in rw e
 has-remainder n Plus = let e : n % 8 / 4 % 2 ≡ n / 4 % 2 = omega arith in rw e
 
+pub members-remainder : (n : ℕ) → members (n % 8) ≡ members n
+unfolding members filter signs
+members-remainder n = simp has-remainder
+
 pub has-empty : (s : Sign) → has 0 s ≡ false
 unfolding has single
 has-empty s = beq-eq (has 0 s) false (at-sign (λ s. Bool·beq (has 0 s) false) tt s)
@@ -78,6 +85,10 @@ has-union a b s = has-setOf (λ s. has a s || has b s) s
 pub union-below : (a b : ℕ) → union a b < 8
 unfolding union
 union-below a b = setOf-below (λ s. has a s || has b s)
+
+union-remainder : (a b : ℕ) → union (a % 8) (b % 8) ≡ union a b
+unfolding union setOf
+union-remainder a b = simp has-remainder
 
 pub has-unionAll : (l : List ℕ) (s : Sign) → has (unionAll l) s ≡ any (λ a. has a s) l
 unfolding unionAll any
@@ -93,6 +104,14 @@ pub has-added : (s : Sign) (set : ℕ) (t : Sign) → has (added s set) t ≡ (h
 unfolding added
 has-added s set t = has-union set (single s) t
 
+added-remainder : (s : Sign) (set : ℕ) → added s (set % 8) ≡ added s set
+unfolding added union setOf
+added-remainder s set = simp has-remainder
+
+removed-remainder : (s : Sign) (set : ℕ) → removed s (set % 8) ≡ removed s set
+unfolding removed setOf
+removed-remainder s set = simp has-remainder
+
 pub has-removed : (s : Sign) (set : ℕ) (t : Sign) → has (removed s set) t ≡ (has set t && not (has (single s) t))
 unfolding removed
 has-removed s set t = has-setOf (λ t. has set t && not (has (single s) t)) t
@@ -102,12 +121,46 @@ pub any-members : (p : Sign → Bool) (set : ℕ) → any p (members set) ≡ an
 unfolding members
 any-members p set = any-filter p (has set) signs
 
+-- the machine's `or` of two sets
+pub union-or : (a b : ℕ) → bitOr a b % 8 ≡ union a b
+unfolding union setOf has single
+union-or a b =
+    or-mod a b 3
+    ∙ sym (eqb→eq (union (a % 8) (b % 8)) (bitOr (a % 8) (b % 8)) (at-sets (λ a b. eqb (union a b) (bitOr a b)) tt a b))
+    ∙ union-remainder a b
+
+pub has-or : (a b : ℕ) (s : Sign) → has (bitOr a b) s ≡ (has a s || has b s)
+has-or a b s = sym (has-remainder (bitOr a b) s) ∙ ap (λ n. has n s) (union-or a b) ∙ has-union a b s
+
+pub or-below : (a b : ℕ) → a < 8 → b < 8 → bitOr a b < 8
+or-below a b = or-lt 3 a b
+
 -- the union over the three signs
-pub has-three : (f : Sign → ℕ) (s : Sign) → has (union (f Minus) (union (f Zero) (f Plus))) s ≡ any (λ t. has (f t) s) signs
+pub has-three : (f : Sign → ℕ) (s : Sign) → has (bitOr (bitOr (f Minus) (f Zero)) (f Plus)) s ≡ any (λ t. has (f t) s) signs
 unfolding any signs
-has-three f s = rw (has-union, has-union, or-false)
+has-three f s = rw (has-or, has-or, or-assoc, or-false)
 
 -- a set that is there only where a test passes
 pub has-cond : (b : Bool) (set : ℕ) (s : Sign) → has (cond b set 0) s ≡ (b && has set s)
 has-cond true set s = refl
 has-cond false set s = has-empty s
+
+pub cond-below : (b : Bool) (set : ℕ) → set < 8 → cond b set 0 < 8
+cond-below true set h = h
+cond-below false set h = omega arith
+
+-- a sign can be taken off where it was added
+off : (s : Sign) (set : ℕ) → (single s ≤ added s (set % 8)) × (added s (set % 8) - single s ≡ removed s (set % 8))
+unfolding added removed union setOf has single
+off s set = (leb→le (single s) (added s (set % 8)) (both .0), eqb→eq (added s (set % 8) - single s) (removed s (set % 8)) (both .1))
+  where
+    right : Sign → ℕ → Bool
+    right s n = leb (single s) (added s n) && eqb (added s n - single s) (removed s n)
+
+    both : T (leb (single s) (added s (set % 8))) × T (eqb (added s (set % 8) - single s) (removed s (set % 8)))
+    both =
+        and-yes (leb (single s) (added s (set % 8))) (eqb (added s (set % 8) - single s) (removed s (set % 8)))
+        (at-below 8 (right s) (at-sign (λ s. everyBelow 8 (right s)) tt s) (set % 8) (mod-lt set (lit< tt)))
+
+pub taken-off : (s : Sign) (set : ℕ) → (single s ≤ added s set) × (added s set - single s ≡ removed s set)
+taken-off s set = rw (sym (added-remainder s set), sym (removed-remainder s set)) (off s set)

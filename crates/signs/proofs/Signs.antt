@@ -1,12 +1,11 @@
 -- What the proofs of `sets` need of the definitions.
-use mathlib.Core.Path.{_≡_, refl, _∙_, ap}
-use mathlib.Core.Bool.{Bool, true, false, cond, true≢false}
+use mathlib.Core.Path.{_≡_, refl}
+use mathlib.Core.Bool.{Bool, true, false, cond, _&&_, true≢false}
 use mathlib.Core.List.{List, [], _∷_}
-use Prim.Native.Nat.{ℕ, zero, suc, _≤_, _<_}
-use native.Mathlib.Nat.{le-refl}
+use Prim.Native.Nat.{ℕ, zero, suc, _<_}
 use native.Mathlib.Omega.{arith}
 use borrow.Author.Tests.{ltb-true, ltb-false}
-use lib.Dec.{lit<}
+use lib.Dec.{leb, lit<}
 use lib.IntN.{ℤ, pos, negsuc}
 use lib.Signed.{ltZ}
 use Rattle.signs.specs.Sign.{single, signOf, has, above, first, lowestFrom}
@@ -21,11 +20,6 @@ unfolding single
 single-positive Minus = lit< tt
 single-positive Zero = lit< tt
 single-positive Plus = lit< tt
-
--- a part of a set is at most its number
-pub part-le : (b : Bool) (n : ℕ) → cond b n 0 ≤ n
-part-le true n = le-refl n
-part-le false n = omega arith
 
 -- the sign by the two tests against 0
 pub minus : (z : ℤ) → ltZ z (pos 0) ≡ true → Minus ≡ signOf z
@@ -51,15 +45,12 @@ unfolding first
 first-cond true x l l′ = refl
 first-cond false x l l′ = refl
 
-module _ (set : ℕ) where
-  pub lowest-plus : lowestFrom set Plus ≡ cond (has set Plus) (At Plus) Nothing
-  unfolding lowestFrom above filter first
-  lowest-plus = first-cond (has set Plus) Plus [] []
+lowest-list : (set : ℕ) (x : Sign) (ss : List Sign) → first (filter (has set) (x ∷ ss)) ≡ cond (has set x) (At x) (first (filter (has set) ss))
+unfolding filter
+lowest-list set x ss = first-cond (has set x) x (filter (has set) ss) (filter (has set) ss)
 
-  pub lowest-zero : lowestFrom set Zero ≡ cond (has set Zero) (At Zero) (cond (has set Plus) (At Plus) Nothing)
-  unfolding lowestFrom above filter first
-  lowest-zero = first-cond (has set Zero) Zero (filter (has set) (Plus ∷ [])) (filter (has set) (Plus ∷ [])) ∙ ap (cond (has set Zero) (At Zero)) lowest-plus
-
-  pub lowest-minus : lowestFrom set Minus ≡ cond (has set Minus) (At Minus) (cond (has set Zero) (At Zero) (cond (has set Plus) (At Plus) Nothing))
-  unfolding lowestFrom above filter first
-  lowest-minus = first-cond (has set Minus) Minus (filter (has set) (Zero ∷ Plus ∷ [])) (filter (has set) (Zero ∷ Plus ∷ [])) ∙ ap (cond (has set Minus) (At Minus)) lowest-zero
+pub lowest : (set : ℕ) (s : Sign) → lowestFrom set s ≡ cond (leb (single s) 1 && has set Minus) (At Minus) (cond (leb (single s) 2 && has set Zero) (At Zero) (cond (has set Plus) (At Plus) Nothing))
+unfolding lowestFrom above single filter first
+lowest set Minus = rw (lowest-list set Minus, lowest-list set Zero, lowest-list set Plus)
+lowest set Zero = rw (lowest-list set Zero, lowest-list set Plus)
+lowest set Plus = rw (lowest-list set Plus)

@@ -61,18 +61,15 @@ fn entry(operator: Operator, l: Sign, r: Sign, b: u8) -> u8
     }
 }
 
-// The union over the pairs with a given left sign, where the left set has it.
+// The union over the pairs with a given left sign, where the left set has it. Entries are below 8, so `|` is their union.
 fn row(operator: Operator, l: Sign, a: u8, b: u8) -> u8
     ensures { λ s. ⌜ s ≡ cond (has a l) (spec.row operator l b) 0 ⌝ }
 {
     if sets::has(a, l) {
-        sets::union(
-            entry(operator, l, Sign::Minus, b),
-            sets::union(
-                entry(operator, l, Sign::Zero, b),
-                entry(operator, l, Sign::Plus, b),
-            ),
-        )
+        let minus = entry(operator, l, Sign::Minus, b);
+        let zero = entry(operator, l, Sign::Zero, b);
+        let plus = entry(operator, l, Sign::Plus, b);
+        minus | zero | plus
     } else {
         0
     }
@@ -82,11 +79,8 @@ fn row(operator: Operator, l: Sign, a: u8, b: u8) -> u8
 pub fn operate(operator: Operator, a: u8, b: u8) -> u8
     ensures { λ s. ⌜ s ≡ spec.operate operator a b ⌝ }
 {
-    sets::union(
-        row(operator, Sign::Minus, a, b),
-        sets::union(
-            row(operator, Sign::Zero, a, b),
-            row(operator, Sign::Plus, a, b),
-        ),
-    )
+    let minus = row(operator, Sign::Minus, a, b);
+    let zero = row(operator, Sign::Zero, a, b);
+    let plus = row(operator, Sign::Plus, a, b);
+    minus | zero | plus
 }

@@ -2,6 +2,7 @@
 pub mod grid;
 pub mod number;
 pub mod sets;
+pub mod truth;
 
 // The operators of arithmetic: + − × / ^.
 pub enum Operator {

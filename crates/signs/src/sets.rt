@@ -2,8 +2,6 @@
 use super::Lowest;
 use super::Sign;
 ghost use mathlib.Core.Path.{_≡_};
-ghost use mathlib.Core.Bool.{cond};
-ghost use Prim.Native.Nat.{_+_};
 ghost use Rattle.signs.specs.Sign as spec;
 
 // The sign of a number.
@@ -34,29 +32,11 @@ pub fn has(set: u8, s: Sign) -> bool
     set / single(s) % 2 == 1
 }
 
-// A sign's part of a set.
-fn part(on: bool, value: u8) -> u8
-    ensures { λ r. ⌜ r ≡ cond on value 0 ⌝ }
-{
-    if on { value } else { 0 }
-}
-
-// The set with the signs that are said to be in it.
-fn set_of(minus: bool, zero: bool, plus: bool) -> u8
-    ensures { λ r. ⌜ r ≡ cond minus 1 0 + cond zero 2 0 + cond plus 4 0 ⌝ }
-{
-    part(minus, 1) + part(zero, 2) + part(plus, 4)
-}
-
 // The signs of either set.
 pub fn union(a: u8, b: u8) -> u8
     ensures { λ r. ⌜ r ≡ spec.union a b ⌝ }
 {
-    set_of(
-        has(a, Sign::Minus) | has(b, Sign::Minus),
-        has(a, Sign::Zero) | has(b, Sign::Zero),
-        has(a, Sign::Plus) | has(b, Sign::Plus),
-    )
+    (a | b) % 8
 }
 
 // A set with a sign added.
@@ -66,44 +46,25 @@ pub fn added(set: u8, s: Sign) -> u8
     union(set, single(s))
 }
 
-// A set without a sign.
+// A set without a sign: with the sign added, the sign's number can be taken off.
 pub fn removed(set: u8, s: Sign) -> u8
     ensures { λ r. ⌜ r ≡ spec.removed s set ⌝ }
 {
-    let one = single(s);
-    set_of(
-        has(set, Sign::Minus) & !has(one, Sign::Minus),
-        has(set, Sign::Zero) & !has(one, Sign::Zero),
-        has(set, Sign::Plus) & !has(one, Sign::Plus),
-    )
+    added(set, s) - single(s)
 }
 
-// The lowest sign of a set at or above a given one.
+// The lowest sign of a set at or above a given one. The numbers of the signs' sets are in the signs' order.
 pub fn lowest_from(set: u8, from: Sign) -> Lowest
     ensures { λ r. ⌜ r ≡ spec.lowestFrom set from ⌝ }
 {
-    match from {
-        Sign::Minus => first(
-            has(set, Sign::Minus),
-            has(set, Sign::Zero),
-            has(set, Sign::Plus),
-        ),
-        Sign::Zero => first(false, has(set, Sign::Zero), has(set, Sign::Plus)),
-        Sign::Plus => first(false, false, has(set, Sign::Plus)),
-    }
-}
-
-// The first of the signs that are said to be there.
-fn first(minus: bool, zero: bool, plus: bool) -> Lowest
-    ensures { λ r. ⌜ r ≡ cond minus (Lowest.At Sign.Minus) (cond zero (Lowest.At Sign.Zero) (cond plus (Lowest.At Sign.Plus) Lowest.Nothing)) ⌝ }
-{
-    if minus {
+    let low = single(from);
+    if (low <= 1) & has(set, Sign::Minus) {
         return Lowest::At(Sign::Minus);
     }
-    if zero {
+    if (low <= 2) & has(set, Sign::Zero) {
         return Lowest::At(Sign::Zero);
     }
-    if plus {
+    if has(set, Sign::Plus) {
         Lowest::At(Sign::Plus)
     } else {
         Lowest::Nothing

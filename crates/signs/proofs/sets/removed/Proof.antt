@@ -1,14 +1,13 @@
--- `sets::removed`: the six tests, joined as the definition joins them.
-use mathlib.Core.Path.{refl}
-use Rattle.signs.specs.Sign.{removed, setOf}
+-- `sets::removed`: what was added can be taken off.
+use Rattle.signs.proofs.Membership.{taken-off}
 use Rattle.signs.proofs.sets.removed.Statement.{statement}
 use Rattle.signs.proofs.sets.removed.Tie as tie
 
+sub-result : tie.Need-sub-result
+sub-result c = rw (c .single .ensures, c .before .added .ensures) (taken-off (c .before .before .args .s) (c .before .before .args .set) .0)
+
 returns : tie.Need-returns
-unfolding removed setOf
-returns c = cc
+returns c = rw (c .single .ensures, c .before .added .ensures) (taken-off (c .before .before .args .s) (c .before .before .args .set) .1)
 
 pub removed-spec : {M : Type 1} → statement M
-removed-spec =
-    tie.close
-    (tie.spec (λ c κs. tt) (λ c κs. tt) (λ c κs. tt) (λ c κs. tt) (λ c κs. tt) (λ c κs. tt) (λ c κs. tt) (λ c κs. tt) returns)
+removed-spec = tie.close (tie.spec (λ c κs. tt) (λ c κs. tt) sub-result returns)

@@ -1,14 +1,7 @@
--- `sets::union`: the six tests, joined as the definition joins them.
-use mathlib.Core.Path.{refl}
-use Rattle.signs.specs.Sign.{union, setOf}
+-- `sets::union` is the machine's `or`, of which three bits count.
+use Rattle.signs.proofs.Membership.{union-or}
 use Rattle.signs.proofs.sets.union.Statement.{statement}
 use Rattle.signs.proofs.sets.union.Tie as tie
 
-returns : tie.Need-returns
-unfolding union setOf
-returns c = cc
-
 pub union-spec : {M : Type 1} → statement M
-union-spec =
-    tie.close
-    (tie.spec (λ c κs. tt) (λ c κs. tt) (λ c κs. tt) (λ c κs. tt) (λ c κs. tt) (λ c κs. tt) (λ c κs. tt) returns)
+union-spec = tie.close (tie.spec (λ c. union-or (c .args .a) (c .args .b)))
