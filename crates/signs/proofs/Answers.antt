@@ -1,22 +1,19 @@
 -- Truth answers: what is in them, and when two are the same.
-use mathlib.Core.Path.{_≡_, refl, sym, ap, _∙_}
-use mathlib.Core.Bool.{Bool, true, false, cond, not, _&&_, _||_, Bool·beq}
-use mathlib.Core.List.{List, [], _∷_, _++_}
+use mathlib.Core.Path.{_≡_, sym, ap, _∙_}
+use mathlib.Core.Bool.{Bool, not, _&&_, _||_, Bool·beq}
 use Prim.Native.Nat.{ℕ, _%_}
 use lib.Bits.{bitAnd, and-mod}
 use lib.Dec.{T, eqb}
 use mir.Facts.{and-yes}
-use Rattle.signs.specs.Lists.{any, concatMap, pairs}
-use Rattle.signs.specs.Sign.{has, single, signs, members}
-use Rattle.signs.specs.Truth.{truthsOf, among, answers, compareSigns, compareSets, conjoined}
+use Rattle.signs.specs.Sign.{has, single}
+use Rattle.signs.specs.Truth.{compareSigns, compareSets, conjoined}
 use Rattle.signs.specs.declared.Comparison.{Comparison}
 use Rattle.signs.specs.declared.Comparison.the-variants.{Equal, Greater, AtLeast}
 use Rattle.signs.specs.declared.Sign.{Sign}
-use Rattle.signs.specs.declared.Sign.the-variants.{Minus, Zero, Plus}
+use Rattle.signs.specs.declared.Sign.the-variants.{Minus, Plus}
 use Rattle.signs.specs.declared.Truths.{Truths}
-use Rattle.signs.proofs.Finite.{everySign, at-sign, everyComparison, at-comparison, everyBool, at-bool, everyBelow, at-sets, beq-eq}
-use Rattle.signs.proofs.Lists.{any-cong, any-concatMap, any-pairs}
-use Rattle.signs.proofs.Membership.{has-remainder, members-remainder, any-members}
+use Rattle.signs.proofs.Finite.{everySign, at-sign, at-comparison, everyBool, at-bool, everyBelow, at-sets, beq-eq}
+use Rattle.signs.proofs.Membership.{has-remainder, members-remainder}
 use Rattle.signs.proofs.Open.{definitions}
 
 -- a test that two sets of answers are the same
@@ -93,7 +90,7 @@ compares-single c l r =
 abbrev of : Bool → Bool → Truths
 of h f = record { holds = h; fails = f }
 
-abbrev conjunction : Truths → Truths → Truths
+abbrev pub conjunction : Truths → Truths → Truths
 conjunction a b = record { holds = a .holds && b .holds; fails = a .fails && (b .holds || b .fails) || a .holds && b .fails }
 
 pub conjoined-by : (a b : Truths) → conjunction a b ≡ conjoined a b

@@ -1,11 +1,11 @@
 -- Tests over lists.
-use mathlib.Core.Path.{_≡_, refl, sym, ap, _∙_}
-use mathlib.Core.Logic.{inl, inr}
+use mathlib.Core.Path.{_≡_, refl, sym, ap, subst, _∙_}
+use mathlib.Core.Logic.{_⊎_, inl, inr}
 use mathlib.Core.Bool.{Bool, true, false, cond, _&&_, _||_}
-use mathlib.Core.List.{List, [], _∷_, _++_, map}
+use mathlib.Core.List.{List, [], _∷_, _++_, map, List·Memᴰ, List·Memᴰ·head, List·Memᴰ·tail, List·Memᴰ·cases-cons, List·Memᴰ·not-nil}
 use lib.Dec.{T}
-use mir.Facts.{or-yes}
-use Rattle.signs.specs.Lists.{any, filter, concatMap, pairs}
+use mir.Facts.{and-yes, yes-and, or-yes}
+use Rattle.signs.specs.Lists.{any, all, filter, concatMap, pairs}
 
 pub or-assoc : (a b c : Bool) → (a || b || c) ≡ (a || (b || c))
 or-assoc true b c = refl
@@ -23,6 +23,12 @@ pub or-right : (a b : Bool) → T b → T (a || b)
 or-right true b t = tt
 or-right false b t = t
 
+pub and-mono : (a b c d : Bool) → (T a → T c) → (T b → T d) → T (a && b) → T (c && d)
+and-mono a b c d f g t = yes-and c d (f (and-yes a b t .0)) (g (and-yes a b t .1))
+
+pub or-mono : (a b c d : Bool) → (T a → T c) → (T b → T d) → T (a || b) → T (c || d)
+or-mono a b c d f g t = elim (or-yes a b t) [ inl u ↦ or-left c d (f u) | inr u ↦ or-right c d (g u) ]
+
 module _ {A : Type 0} where
   pub any-cong : (p q : A → Bool) → ((x : A) → p x ≡ q x) → (xs : List A) → any p xs ≡ any q xs
   unfolding any
@@ -32,8 +38,51 @@ module _ {A : Type 0} where
   pub any-mono : (p q : A → Bool) → ((x : A) → T (p x) → T (q x)) → (xs : List A) → T (any p xs) → T (any q xs)
   unfolding any
   any-mono p q h [] t = t
-  any-mono p q h (x ∷ xs) t =
-      elim (or-yes (p x) (any p xs) t) [ inl u ↦ or-left (q x) (any q xs) (h x u) | inr u ↦ or-right (q x) (any q xs) (any-mono p q h xs u) ]
+  any-mono p q h (x ∷ xs) t = or-mono (p x) (any p xs) (q x) (any q xs) (h x) (any-mono p q h xs) t
+
+  -- an element that passes the test
+  pub any-witness : (p : A → Bool) (xs : List A) → T (any p xs) → (x : A) × List·Memᴰ x xs × T (p x)
+  unfolding any
+  any-witness p [] t = absurd t
+  any-witness p (x ∷ xs) t = go (λ u. any-witness p xs u) (or-yes (p x) (any p xs) t)
+    where
+      go : (T (any p xs) → (y : A) × List·Memᴰ y xs × T (p y)) → T (p x) ⊎ T (any p xs) → (y : A) × List·Memᴰ y (x ∷ xs) × T (p y)
+      go below (inl u) = (x, List·Memᴰ·head refl, u)
+      go below (inr u) = let w = below u in (w .0, List·Memᴰ·tail (w .1), w .2)
+
+  pub all-member : (p : A → Bool) {x : A} (xs : List A) → T (all p xs) → List·Memᴰ x xs → T (p x)
+  unfolding all
+  all-member p [] t m = absurd (List·Memᴰ·not-nil m)
+  all-member p {x} (y ∷ ys) t m = go (λ m′. all-member p ys (and-yes (p y) (all p ys) t .1) m′) (List·Memᴰ·cases-cons m)
+    where
+      go : (List·Memᴰ x ys → T (p x)) → (x ≡ y) ⊎ List·Memᴰ x ys → T (p x)
+      go below (inl e) = subst (λ (z : A). T (p z)) (sym e) (and-yes (p y) (all p ys) t .0)
+      go below (inr m′) = below m′
+
+  -- what a filter keeps
+  pub filter-keeps : (p : A → Bool) {x : A} (xs : List A) → List·Memᴰ x xs → T (p x) → List·Memᴰ x (filter p xs)
+  unfolding filter
+  filter-keeps p [] m t = absurd (List·Memᴰ·not-nil m)
+  filter-keeps p {x} (y ∷ ys) m t = go (λ m′. filter-keeps p ys m′ t) (p y) refl (List·Memᴰ·cases-cons m)
+    where
+      go : (List·Memᴰ x ys → List·Memᴰ x (filter p ys)) → (b : Bool) → p y ≡ b → (x ≡ y) ⊎ List·Memᴰ x ys → List·Memᴰ x (cond b (y ∷ filter p ys) (filter p ys))
+      go below true e (inl same) = List·Memᴰ·head same
+      go below true e (inr m′) = List·Memᴰ·tail (below m′)
+      go below false e (inl same) = absurd (subst T e (subst (λ (z : A). T (p z)) same t))
+      go below false e (inr m′) = below m′
+
+  pub filter-passes : (p : A → Bool) {x : A} (xs : List A) → List·Memᴰ x (filter p xs) → T (p x)
+  unfolding filter
+  filter-passes p [] m = absurd (List·Memᴰ·not-nil m)
+  filter-passes p {x} (y ∷ ys) m = go (λ m′. filter-passes p ys m′) (p y) refl m
+    where
+      kept : (List·Memᴰ x (filter p ys) → T (p x)) → T (p y) → (x ≡ y) ⊎ List·Memᴰ x (filter p ys) → T (p x)
+      kept below t (inl same) = subst (λ (z : A). T (p z)) (sym same) t
+      kept below t (inr m′) = below m′
+
+      go : (List·Memᴰ x (filter p ys) → T (p x)) → (b : Bool) → p y ≡ b → List·Memᴰ x (cond b (y ∷ filter p ys) (filter p ys)) → T (p x)
+      go below true e m′ = kept below (subst T (sym e) tt) (List·Memᴰ·cases-cons m′)
+      go below false e m′ = below m′
 
   pub any-append : (p : A → Bool) (xs ys : List A) → any p (xs ++ ys) ≡ (any p xs || any p ys)
   unfolding any

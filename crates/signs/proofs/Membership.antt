@@ -1,7 +1,7 @@
 -- Sets of signs: what is in them, and when two are the same.
 use mathlib.Core.Path.{_≡_, refl, sym, ap, _∙_}
 use mathlib.Core.Bool.{Bool, true, false, cond, not, _&&_, _||_, Bool·beq}
-use mathlib.Core.List.{List, [], _∷_, map}
+use mathlib.Core.List.{List, [], _∷_, List·Memᴰ, List·Memᴰ·head, List·Memᴰ·tail}
 use Prim.Native.Nat.{ℕ, _+_, _-_, _/_, _%_, _≤_, _<_}
 use native.Mathlib.Nat.{mod-lt}
 use native.Mathlib.Omega.{arith}
@@ -13,7 +13,7 @@ use Rattle.signs.specs.Sign.{has, single, signs, setOf, members, union, 
 use Rattle.signs.specs.declared.Sign.{Sign}
 use Rattle.signs.specs.declared.Sign.the-variants.{Minus, Zero, Plus}
 use Rattle.signs.proofs.Finite.{everySign, at-sign, everyBool, at-bool, everyBelow, at-below, at-sets, beq-eq}
-use Rattle.signs.proofs.Lists.{any-filter, or-assoc, or-false}
+use Rattle.signs.proofs.Lists.{any-filter, filter-keeps, filter-passes, or-assoc, or-false, or-left, or-right}
 
 -- the set with the signs that are said to be in it
 abbrev of : Bool → Bool → Bool → ℕ
@@ -164,3 +164,42 @@ off s set = (leb→le (single s) (added s (set % 8)) (both .0), eqb→eq (added 
 
 pub taken-off : (s : Sign) (set : ℕ) → (single s ≤ added s set) × (added s set - single s ≡ removed s set)
 taken-off s set = rw (sym (added-remainder s set), sym (removed-remainder s set)) (off s set)
+
+-- the set of one sign has it, and no other
+pub has-single : (s : Sign) → T (has (single s) s)
+unfolding has single
+has-single s = at-sign (λ s. has (single s) s) tt s
+
+pub single-only : (s t : Sign) → T (has (single s) t) → s ≡ t
+unfolding has single
+single-only Minus Minus h = refl
+single-only Minus Zero h = absurd h
+single-only Minus Plus h = absurd h
+single-only Zero Minus h = absurd h
+single-only Zero Zero h = refl
+single-only Zero Plus h = absurd h
+single-only Plus Minus h = absurd h
+single-only Plus Zero h = absurd h
+single-only Plus Plus h = refl
+
+-- the three signs are all signs
+every : (s : Sign) → List·Memᴰ s signs
+unfolding signs
+every Minus = List·Memᴰ·head refl
+every Zero = List·Memᴰ·tail (List·Memᴰ·head refl)
+every Plus = List·Memᴰ·tail (List·Memᴰ·tail (List·Memᴰ·head refl))
+
+pub member-has : (set : ℕ) (s : Sign) → List·Memᴰ s (members set) → T (has set s)
+unfolding members
+member-has set s m = filter-passes (has set) signs m
+
+pub has-member : (set : ℕ) (s : Sign) → T (has set s) → List·Memᴰ s (members set)
+unfolding members
+has-member set s h = filter-keeps (has set) signs (every s) h
+
+-- a test that passes at a sign passes at some sign
+pub at-signs : (p : Sign → Bool) (s : Sign) → T (p s) → T (any p signs)
+unfolding any signs
+at-signs p Minus t = or-left (p Minus) _ t
+at-signs p Zero t = or-right (p Minus) _ (or-left (p Zero) _ t)
+at-signs p Plus t = or-right (p Minus) _ (or-right (p Zero) _ (or-left (p Plus) false t))

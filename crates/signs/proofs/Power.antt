@@ -11,7 +11,6 @@ use lib.Pow.{pow-mono}
 use lib.Signed.{ltZ, mag}
 use Rattle.signs.specs.Number.{power, raised, exact}
 use Rattle.signs.specs.declared.Reason.the-variants.{ExponentNegative, OutOfRange}
-use Rattle.signs.specs.declared.Value.{Value}
 use Rattle.signs.specs.declared.Value.the-variants.{Undefined}
 use Rattle.signs.proofs.Range.{exact-outside}
 use Rattle.signs.proofs.Signed.{magnitude, mag-le, natAbs-suc}
@@ -65,7 +64,7 @@ one-pow : (n : ℕ) → 1 ^ n ≡ 1
 one-pow zero = pow-zero 1
 one-pow (suc n) = pow-suc 1 n ∙ mul-one (1 ^ n) ∙ one-pow n
 
-zero-pow : (n : ℕ) → 0 < n → 0 ^ n ≡ 0
+pub zero-pow : (n : ℕ) → 0 < n → 0 ^ n ≡ 0
 zero-pow zero h = absurd (omega arith)
 zero-pow (suc n) h = pow-suc 0 n ∙ mul-zero (0 ^ n)
 

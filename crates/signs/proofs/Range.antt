@@ -1,7 +1,7 @@
 -- The range of values: what `exact` gives by whether a number fits 32 bits.
 use mathlib.Core.Path.{_≡_, refl, sym, ap, _∙_}
 use mathlib.Core.Bool.{Bool, true, false, cond, _&&_, false≢true}
-use Prim.Native.Nat.{ℕ, suc, _≤_}
+use Prim.Native.Nat.{ℕ, _≤_}
 use native.Mathlib.Omega.{arith}
 use borrow.Author.Tests.{lt-ltb, le-ltb, ltb-true, ltb-false}
 use lib.Dec.{leb, ltb, leb·suc-suc}
@@ -12,7 +12,6 @@ use mir.Val.{SFits}
 use Rattle.signs.specs.Number.{inRange, exact}
 use Rattle.signs.specs.declared.Reason.{Reason}
 use Rattle.signs.specs.declared.Reason.the-variants.{OutOfRange}
-use Rattle.signs.specs.declared.Value.{Value}
 use Rattle.signs.specs.declared.Value.the-variants.{Number, Undefined}
 
 -- a number is in the range where its magnitude says so

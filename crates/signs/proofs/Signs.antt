@@ -1,7 +1,7 @@
 -- What the proofs of `sets` need of the definitions.
 use mathlib.Core.Path.{_≡_, refl}
 use mathlib.Core.Bool.{Bool, true, false, cond, _&&_, true≢false}
-use mathlib.Core.List.{List, [], _∷_}
+use mathlib.Core.List.{List, _∷_}
 use Prim.Native.Nat.{ℕ, zero, suc, _<_}
 use native.Mathlib.Omega.{arith}
 use borrow.Author.Tests.{ltb-true, ltb-false}
@@ -12,7 +12,6 @@ use Rattle.signs.specs.Sign.{single, signOf, has, above, first, lowestFr
 use Rattle.signs.specs.Lists.{filter}
 use Rattle.signs.specs.declared.Sign.{Sign}
 use Rattle.signs.specs.declared.Sign.the-variants.{Minus, Zero, Plus}
-use Rattle.signs.specs.declared.Lowest.{Lowest}
 use Rattle.signs.specs.declared.Lowest.the-variants.{At, Nothing}
 
 pub single-positive : (s : Sign) → 0 < single s

@@ -1,6 +1,6 @@
 -- Signs and sets of signs (document 01, "Signs").
-use Prim.Native.Nat.{ℕ, zero, suc, _+_, _*_, _/_, _%_}
-use mathlib.Core.Bool.{Bool, true, false, cond, not, _&&_, _||_}
+use Prim.Native.Nat.{ℕ, zero, suc, _+_, _/_, _%_}
+use mathlib.Core.Bool.{Bool, cond, not, _&&_, _||_}
 use mathlib.Core.List.{List, [], _∷_, foldr}
 use lib.Dec.{eqb}
 use lib.IntN.{ℤ, pos, negsuc}

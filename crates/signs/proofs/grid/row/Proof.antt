@@ -1,7 +1,5 @@
 -- `grid::row`: each arm follows its test, and the three entries make the row.
-use mathlib.Core.Path.{_≡_, sym, _∙_}
-use lib.Bits.{bitOr}
-use Rattle.signs.specs.Grid.{row}
+use mathlib.Core.Path.{sym, _∙_}
 use Rattle.signs.proofs.Operate.{row-by-entries}
 use Rattle.signs.proofs.grid.row.Statement.{statement}
 use Rattle.signs.proofs.grid.row.Tie as tie

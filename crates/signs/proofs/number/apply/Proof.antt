@@ -1,6 +1,6 @@
 -- `number::apply`: each arm knows its operator; sum, difference and product of widened numbers fit 64 bits.
-use mathlib.Core.Path.{_≡_, refl, sym, ap, _∙_}
-use lib.IntN.{ℤ, _+ℤ_, _-ℤ_, _*ℤ_}
+use mathlib.Core.Path.{ap, _∙_}
+use lib.IntN.{_+ℤ_, _-ℤ_, _*ℤ_}
 use Rattle.signs.proofs.Signed.{passed, widens, wide-fits, wide-result, sum-fits, difference-fits, product-fits}
 use Rattle.signs.specs.Number.{apply, exact, quotient, raised}
 use Rattle.signs.proofs.number.apply.Statement.{statement}

@@ -1,7 +1,4 @@
 -- `number::compares`: each arm knows its comparison, and the machine compares what it reads back from the bits.
-use mathlib.Core.Path.{refl, sym, ap, _∙_}
-use lib.IntN.{ℤ}
-use lib.Signed.{ltZ, leZ}
 use mir.Syntax.{w32}
 use mir.ValLaws.{toZ-ofZ}
 use Rattle.signs.proofs.Signed.{equal-bits}

@@ -1,8 +1,6 @@
 -- `number::exact`: the two tests settle whether the number fits 32 bits.
 use mathlib.Core.Path.{sym, ap, _∙_}
-use Prim.Native.Nat.{_≤_}
 use lib.IntN.{pos, negsuc}
-use lib.Signed.{mag}
 use mir.Facts.{sfits-lit}
 use mir.Syntax.{w32, w64}
 use mir.Val.{SFits, toZ, ofZ}

@@ -1,6 +1,5 @@
 -- `number::quotient`: the divisor is tested first, so the division is defined, and its result fits 64 bits.
 use mathlib.Core.Path.{sym, ap, _∙_}
-use lib.IntN.{pos}
 use lib.Signed.{quotZ}
 use mir.Syntax.{w32}
 use mir.ValLaws.{toZ-ofZ}

@@ -1,5 +1,5 @@
 -- `number::raised`: a negative exponent is tested first, and the shortened one gives the same value.
-use mathlib.Core.Path.{_≡_, sym, ap, _∙_}
+use mathlib.Core.Path.{_≡_, sym, _∙_}
 use mathlib.Core.Bool.{false}
 use lib.IntN.{pos, natAbs}
 use lib.Signed.{ltZ}
@@ -8,7 +8,6 @@ use mir.Syntax.{w32}
 use mir.ValLaws.{toZ-ofZ}
 use Rattle.signs.proofs.Power.{power-shortened, raised-negative, raised-natural}
 use Rattle.signs.proofs.Signed.{less, natural}
-use Rattle.signs.specs.Number.{exact, power}
 use Rattle.signs.proofs.number.raised.Statement.{statement}
 use Rattle.signs.proofs.number.raised.Tie as tie
 

@@ -1,10 +1,10 @@
 -- `number::repeated`: the product is the power of the base by the number of factors so far, and fits 32 bits.
 -- A product that leaves the range stays outside, by `power-stays`.
-use mathlib.Core.Path.{_≡_, refl, sym, ap, _∙_}
+use mathlib.Core.Path.{_≡_, sym, ap, _∙_}
 use Prim.Native.Nat.{_+_, _-_, _≤_}
 use native.Mathlib.Numerals.{add-one}
 use native.Mathlib.Omega.{arith}
-use lib.IntN.{ℤ, pos, _*ℤ_}
+use lib.IntN.{_*ℤ_}
 use mir.Facts.{sfits-lit}
 use mir.Syntax.{w32}
 use mir.Val.{SFits, toZ, ofZ}

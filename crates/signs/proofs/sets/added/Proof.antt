@@ -1,5 +1,4 @@
 -- `sets::added` is the union with the set of one sign.
-use mathlib.Core.Path.{refl}
 use Rattle.signs.specs.Sign.{added}
 use Rattle.signs.proofs.sets.added.Statement.{statement}
 use Rattle.signs.proofs.sets.added.Tie as tie

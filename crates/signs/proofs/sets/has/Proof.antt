@@ -1,7 +1,4 @@
 -- `sets::has` divides by a number that is not 0: the set of one sign.
-use mathlib.Core.Path.{sym, ap, subst}
-use Prim.Native.Nat.{ℕ, _<_, _/_, _%_}
-use lib.Dec.{eqb}
 use Rattle.signs.proofs.Signs.{single-positive}
 use Rattle.signs.specs.Sign.{has, single}
 use Rattle.signs.proofs.sets.has.Statement.{statement}

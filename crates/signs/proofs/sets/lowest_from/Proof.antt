@@ -1,6 +1,6 @@
 -- `sets::lowest_from`: the tests are those of `lowest`, one sign after the other.
-use mathlib.Core.Path.{_≡_, sym}
-use mathlib.Core.Bool.{Bool, true, false, _&&_}
+use mathlib.Core.Path.{_≡_}
+use mathlib.Core.Bool.{true, false, _&&_}
 use lib.Dec.{leb}
 use Rattle.signs.proofs.Signs.{lowest}
 use Rattle.signs.specs.Sign.{has, single}

@@ -1,5 +1,4 @@
 -- `truth::compare_signs` compares the sets of one sign.
-use mathlib.Core.Path.{_∙_}
 use Rattle.signs.proofs.Answers.{compares-single}
 use Rattle.signs.proofs.truth.compare_signs.Statement.{statement}
 use Rattle.signs.proofs.truth.compare_signs.Tie as tie
