@@ -1,12 +1,13 @@
 -- The worked examples of document 01 on numbers and signs. `proofs/Examples` shows that each holds.
 use mathlib.Core.List.{List, [], _∷_, _++_}
-use lib.IntN.{pos}
+use lib.IntN.{ℤ, pos}
 use Rattle.signs.specs.Case.{Case, _gives_, row, flag, minus}
 use Rattle.signs.specs.Grid.{grid, operate}
 use Rattle.signs.specs.Number.{apply, valueNumbers}
 use Rattle.signs.specs.Sign.{has, signOf}
-use Rattle.signs.specs.declared.Operator.the-variants.{Add, Div, Pow}
-use Rattle.signs.specs.declared.Sign.the-variants.{Plus}
+use Rattle.signs.specs.Truth.{compareSigns, conjoined, andThen, truthsOf}
+use Rattle.signs.specs.declared.Operator.the-variants.{Add, Sub, Mul, Div, Pow}
+use Rattle.signs.specs.declared.Sign.the-variants.{Minus, Zero, Plus}
 
 -- (P) "−7 / 2 and 7 / −2 are −3", "−2147483648 / −1: 36", "0 ^ 0 is 1; 2 ^ 30 is 1073741824; 2 ^ 31: 36", "1 ^ 2147483647 is 1"; then the order of the reasons
 unfoldable pub numbers : List Case
