@@ -10,7 +10,7 @@ use lib.IntN.{ℤ, pos, negsuc}
 use mir.Facts.{and-yes}
 use Rattle.signs.specs.Lists.{any, all, concatMap, pairs}
 use Rattle.signs.specs.Number.{compares}
-use Rattle.signs.specs.Sign.{has, single, signs, members, signOf}
+use Rattle.signs.specs.Sign.{has, single, members, signOf}
 use Rattle.signs.specs.Truth.{truthsOf, among, answers, samples, compareSigns, compareSets}
 use Rattle.signs.specs.declared.Comparison.{Comparison}
 use Rattle.signs.specs.declared.Comparison.the-variants.{Equal, Greater, AtLeast}
@@ -19,7 +19,7 @@ use Rattle.signs.specs.declared.Sign.the-variants.{Minus, Zero, Plus}
 use Rattle.signs.specs.declared.Truths.{Truths}
 use Rattle.signs.proofs.Finite.{at-sign, at-comparison}
 use Rattle.signs.proofs.Lists.{any-cong, any-concatMap, any-pairs, any-witness, all-member}
-use Rattle.signs.proofs.Membership.{any-members, single-only}
+use Rattle.signs.proofs.Membership.{any-member-pairs, somePair, single-only}
 use Rattle.signs.proofs.Open.{definitions}
 
 -- whether a truth value is the one asked about
@@ -45,15 +45,14 @@ among-answers v t = go v (t .holds) (t .fails)
     go false false true = refl
     go false false false = refl
 
-pub among-compareSets : (c : Comparison) (a b : ℕ) (v : Bool) → among v (compareSets c a b) ≡ any (λ l. has a l && any (λ r. has b r && among v (compareSigns c l r)) signs) signs
+pub among-compareSets : (c : Comparison) (a b : ℕ) (v : Bool) → among v (compareSets c a b) ≡ somePair (λ l r. among v (compareSigns c l r)) a b
 unfolding compareSets
 among-compareSets c a b v =
     among-truthsOf v (concatMap answers (pairs (compareSigns c) (members a) (members b)))
     ∙ any-concatMap (is v) answers (pairs (compareSigns c) (members a) (members b))
     ∙ any-cong (λ t. any (is v) (answers t)) (among v) (among-answers v) (pairs (compareSigns c) (members a) (members b))
     ∙ any-pairs (among v) (compareSigns c) (members a) (members b)
-    ∙ any-cong (λ l. any (λ r. among v (compareSigns c l r)) (members b)) (λ l. any (λ r. has b r && among v (compareSigns c l r)) signs) (λ l. any-members (λ r. among v (compareSigns c l r)) b) (members a)
-    ∙ any-members (λ l. any (λ r. has b r && among v (compareSigns c l r)) signs) a
+    ∙ any-member-pairs (λ l r. among v (compareSigns c l r)) a b
 
 -- both answers are there
 either : (v : Bool) (t : Truths) → T (t .holds && t .fails) → T (among v t)

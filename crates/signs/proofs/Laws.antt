@@ -19,15 +19,14 @@ use Rattle.signs.specs.declared.Value.the-variants.{Number}
 use Rattle.signs.proofs.Answers
 use Rattle.signs.proofs.Arithmetic
 use Rattle.signs.proofs.Compared
-use Rattle.signs.proofs.Lists.{any-mono, and-mono, or-mono, or-left, or-right}
+use Rattle.signs.proofs.Lists.{and-mono, or-mono, or-left, or-right}
 use Rattle.signs.proofs.Membership
+use Rattle.signs.proofs.Membership.{Within, somePair, pair-entry, pair-monotone}
 use Rattle.signs.proofs.Operate
 
 -- ---- Sets. A set above 7 is that of its remainder by 8; what an operation gives is below 8.
 
--- every sign of one set is one of the other
-abbrev pub Within : ℕ → ℕ → Type 0
-Within a b = (s : Sign) → T (has a s) → T (has b s)
+-- `Within a b`: every sign of one set is one of the other. `somePair p a b`: a test passes at some pair of members of two sets.
 
 pub has-remainder : (n : ℕ) (s : Sign) → has (n % 8) s ≡ has n s
 has-remainder = Membership.has-remainder
@@ -97,22 +96,15 @@ unfolding operate
 operate-below o a b = Membership.unionAll-below (pairs (grid o) (members a) (members b))
 
 -- an operator on sets has what the entries of its pairs of members have, and nothing else
-pub has-operate : (o : Operator) (a b : ℕ) (s : Sign) → has (operate o a b) s ≡ any (λ l. has a l && any (λ r. has b r && has (grid o l r) s) signs) signs
+pub has-operate : (o : Operator) (a b : ℕ) (s : Sign) → has (operate o a b) s ≡ somePair (λ l r. has (grid o l r) s) a b
 has-operate = Operate.has-operate
 
 pub operate-entry : (o : Operator) (a b : ℕ) (l r : Sign) → T (has a l) → T (has b r) → Within (grid o l r) (operate o a b)
-operate-entry o a b l r ha hb s h =
-    subst T (sym (has-operate o a b s))
-    (Membership.at-signs (λ l. has a l && any (λ r. has b r && has (grid o l r) s) signs) l
-    (yes-and (has a l) _ ha (Membership.at-signs (λ r. has b r && has (grid o l r) s) r (yes-and (has b r) _ hb h))))
+operate-entry o a b l r ha hb s h = subst T (sym (has-operate o a b s)) (pair-entry (λ l r. has (grid o l r) s) a b l r ha hb h)
 
 pub operate-monotone : (o : Operator) (a a′ b b′ : ℕ) → Within a a′ → Within b b′ → Within (operate o a b) (operate o a′ b′)
 operate-monotone o a a′ b b′ ha hb s h =
-    subst T (sym (has-operate o a′ b′ s))
-    (any-mono (λ l. has a l && any (λ r. has b r && has (grid o l r) s) signs) (λ l. has a′ l && any (λ r. has b′ r && has (grid o l r) s) signs)
-    (λ l. and-mono (has a l) _ (has a′ l) _ (ha l)
-    (any-mono (λ r. has b r && has (grid o l r) s) (λ r. has b′ r && has (grid o l r) s) (λ r. and-mono (has b r) _ (has b′ r) _ (hb r) (λ t. t)) signs))
-    signs (subst T (has-operate o a b s) h))
+    subst T (sym (has-operate o a′ b′ s)) (pair-monotone (λ l r. has (grid o l r) s) a a′ b b′ ha hb (subst T (has-operate o a b s) h))
 
 -- so an operator on sets that have the signs of two numbers has the sign of their value
 pub operate-sound : (o : Operator) (x y z : ℤ) (a b : ℕ) → T (has a (signOf x)) → T (has b (signOf y)) → apply o x y ≡ Number z → T (has (operate o a b) (signOf z))
@@ -131,22 +123,15 @@ compared = Compared.compared
 pub occurs : (c : Comparison) (l r : Sign) (v : Bool) → T (among v (compareSigns c l r)) → Compared.Occurs c l r v
 occurs = Compared.occurs
 
-pub among-compareSets : (c : Comparison) (a b : ℕ) (v : Bool) → among v (compareSets c a b) ≡ any (λ l. has a l && any (λ r. has b r && among v (compareSigns c l r)) signs) signs
+pub among-compareSets : (c : Comparison) (a b : ℕ) (v : Bool) → among v (compareSets c a b) ≡ somePair (λ l r. among v (compareSigns c l r)) a b
 among-compareSets = Compared.among-compareSets
 
 pub compareSets-entry : (c : Comparison) (a b : ℕ) (l r : Sign) → T (has a l) → T (has b r) → Among (compareSigns c l r) (compareSets c a b)
-compareSets-entry c a b l r ha hb v h =
-    subst T (sym (among-compareSets c a b v))
-    (Membership.at-signs (λ l. has a l && any (λ r. has b r && among v (compareSigns c l r)) signs) l
-    (yes-and (has a l) _ ha (Membership.at-signs (λ r. has b r && among v (compareSigns c l r)) r (yes-and (has b r) _ hb h))))
+compareSets-entry c a b l r ha hb v h = subst T (sym (among-compareSets c a b v)) (pair-entry (λ l r. among v (compareSigns c l r)) a b l r ha hb h)
 
 pub compareSets-monotone : (c : Comparison) (a a′ b b′ : ℕ) → Within a a′ → Within b b′ → Among (compareSets c a b) (compareSets c a′ b′)
 compareSets-monotone c a a′ b b′ ha hb v h =
-    subst T (sym (among-compareSets c a′ b′ v))
-    (any-mono (λ l. has a l && any (λ r. has b r && among v (compareSigns c l r)) signs) (λ l. has a′ l && any (λ r. has b′ r && among v (compareSigns c l r)) signs)
-    (λ l. and-mono (has a l) _ (has a′ l) _ (ha l)
-    (any-mono (λ r. has b r && among v (compareSigns c l r)) (λ r. has b′ r && among v (compareSigns c l r)) (λ r. and-mono (has b r) _ (has b′ r) _ (hb r) (λ t. t)) signs))
-    signs (subst T (among-compareSets c a b v) h))
+    subst T (sym (among-compareSets c a′ b′ v)) (pair-monotone (λ l r. among v (compareSigns c l r)) a a′ b b′ ha hb (subst T (among-compareSets c a b v) h))
 
 pub compareSets-sound : (c : Comparison) (x y : ℤ) (a b : ℕ) → T (has a (signOf x)) → T (has b (signOf y)) → T (among (compares c x y) (compareSets c a b))
 compareSets-sound c x y a b ha hb = compareSets-entry c a b (signOf x) (signOf y) ha hb (compares c x y) (compared c x y)

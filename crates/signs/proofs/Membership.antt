@@ -7,13 +7,13 @@ use native.Mathlib.Nat.{mod-lt}
 use native.Mathlib.Omega.{arith}
 use lib.Bits.{bitOr, or-mod, or-lt}
 use lib.Dec.{T, eqb, leb, ltb, leb→le, ltb→lt, eqb→eq, lit<}
-use mir.Facts.{and-yes}
+use mir.Facts.{and-yes, yes-and}
 use Rattle.signs.specs.Lists.{any, filter}
 use Rattle.signs.specs.Sign.{has, single, signs, setOf, members, union, unionAll, added, removed}
 use Rattle.signs.specs.declared.Sign.{Sign}
 use Rattle.signs.specs.declared.Sign.the-variants.{Minus, Zero, Plus}
 use Rattle.signs.proofs.Finite.{everySign, at-sign, everyBool, at-bool, everyBelow, at-below, at-sets, beq-eq}
-use Rattle.signs.proofs.Lists.{any-filter, filter-keeps, filter-passes, or-assoc, or-false, or-left, or-right}
+use Rattle.signs.proofs.Lists.{any-cong, any-mono, and-mono, any-filter, filter-keeps, filter-passes, or-assoc, or-false, or-left, or-right}
 
 -- the set with the signs that are said to be in it
 abbrev of : Bool → Bool → Bool → ℕ
@@ -203,3 +203,28 @@ unfolding any signs
 at-signs p Minus t = or-left (p Minus) _ t
 at-signs p Zero t = or-right (p Minus) _ (or-left (p Zero) _ t)
 at-signs p Plus t = or-right (p Minus) _ (or-right (p Zero) _ (or-left (p Plus) false t))
+
+-- whether a test passes at some pair of members of two sets
+abbrev pub somePair : (Sign → Sign → Bool) → ℕ → ℕ → Bool
+somePair p a b = any (λ l. has a l && any (λ r. has b r && p l r) signs) signs
+
+pub any-member-pairs : (p : Sign → Sign → Bool) (a b : ℕ) → any (λ l. any (p l) (members b)) (members a) ≡ somePair p a b
+any-member-pairs p a b =
+    any-cong (λ l. any (p l) (members b)) (λ l. any (λ r. has b r && p l r) signs) (λ l. any-members (p l) b) (members a)
+    ∙ any-members (λ l. any (λ r. has b r && p l r) signs) a
+
+pub pair-entry : (p : Sign → Sign → Bool) (a b : ℕ) (l r : Sign) → T (has a l) → T (has b r) → T (p l r) → T (somePair p a b)
+pair-entry p a b l r ha hb h =
+    at-signs (λ l. has a l && any (λ r. has b r && p l r) signs) l
+    (yes-and (has a l) _ ha (at-signs (λ r. has b r && p l r) r (yes-and (has b r) _ hb h)))
+
+-- every sign of one set is one of the other
+abbrev pub Within : ℕ → ℕ → Type 0
+Within a b = (s : Sign) → T (has a s) → T (has b s)
+
+pub pair-monotone : (p : Sign → Sign → Bool) (a a′ b b′ : ℕ) → Within a a′ → Within b b′ → T (somePair p a b) → T (somePair p a′ b′)
+pair-monotone p a a′ b b′ ha hb =
+    any-mono (λ l. has a l && any (λ r. has b r && p l r) signs) (λ l. has a′ l && any (λ r. has b′ r && p l r) signs)
+    (λ l. and-mono (has a l) _ (has a′ l) _ (ha l)
+    (any-mono (λ r. has b r && p l r) (λ r. has b′ r && p l r) (λ r. and-mono (has b r) _ (has b′ r) _ (hb r) (λ t. t)) signs))
+    signs

@@ -13,7 +13,7 @@ use Rattle.signs.specs.declared.Sign.{Sign}
 use Rattle.signs.specs.declared.Sign.the-variants.{Minus, Zero, Plus}
 use Rattle.signs.proofs.Finite.{everySign, at-sign, at-operator}
 use Rattle.signs.proofs.Lists.{any-cong, any-map, any-pairs}
-use Rattle.signs.proofs.Membership.{same-set, has-unionAll, unionAll-below, or-below, any-members, has-three, has-cond, cond-below}
+use Rattle.signs.proofs.Membership.{same-set, has-unionAll, unionAll-below, or-below, any-members, any-member-pairs, somePair, has-three, has-cond, cond-below}
 
 pub grid-below : (o : Operator) (l r : Sign) → grid o l r < 8
 unfolding grid grids gridNumber signNumber
@@ -31,13 +31,12 @@ module _ (o : Operator) where
   unfolding row
   has-row l b s = has-unionAll (map (grid o l) (members b)) s ∙ any-map (λ x. has x s) (grid o l) (members b) ∙ any-members (λ r. has (grid o l r) s) b
 
-  pub has-operate : (a b : ℕ) (s : Sign) → has (operate o a b) s ≡ any (λ l. has a l && any (λ r. has b r && has (grid o l r) s) signs) signs
+  pub has-operate : (a b : ℕ) (s : Sign) → has (operate o a b) s ≡ somePair (λ l r. has (grid o l r) s) a b
   unfolding operate
   has-operate a b s =
       has-unionAll (pairs (grid o) (members a) (members b)) s
       ∙ any-pairs (λ x. has x s) (grid o) (members a) (members b)
-      ∙ any-cong (λ l. any (λ r. has (grid o l r) s) (members b)) (λ l. any (λ r. has b r && has (grid o l r) s) signs) (λ l. any-members (λ r. has (grid o l r) s) b) (members a)
-      ∙ any-members (λ l. any (λ r. has b r && has (grid o l r) s) signs) a
+      ∙ any-member-pairs (λ l r. has (grid o l r) s) a b
 
   -- as the code takes the unions
   pub row-by-entries : (l : Sign) (b : ℕ) → bitOr (bitOr (cond (has b Minus) (grid o l Minus) 0) (cond (has b Zero) (grid o l Zero) 0)) (cond (has b Plus) (grid o l Plus) 0) ≡ row o l b

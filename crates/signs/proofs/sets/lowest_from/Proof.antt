@@ -4,7 +4,7 @@ use mathlib.Core.Bool.{Bool, _&&_}
 use lib.Dec.{leb}
 use Rattle.signs.proofs.Signs.{lowest}
 use Rattle.signs.specs.Sign.{has, single}
-use Rattle.signs.specs.declared.Sign.the-variants.{Minus, Zero, Plus}
+use Rattle.signs.specs.declared.Sign.the-variants.{Minus, Zero}
 use Rattle.signs.proofs.sets.lowest_from.Statement.{statement}
 use Rattle.signs.proofs.sets.lowest_from.Tie as tie
 
