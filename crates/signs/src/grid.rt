@@ -4,6 +4,9 @@ use super::Sign;
 use super::sets;
 ghost use mathlib.Core.Path.{_≡_};
 ghost use mathlib.Core.Bool.{cond};
+ghost use mathlib.Core.List.{[]};
+ghost use Prim.Native.Nat.{_<_};
+ghost use lib.ListN.{getD};
 ghost use Rattle.signs.specs.Grid as spec;
 ghost use Rattle.signs.specs.Sign.{has};
 
@@ -40,14 +43,19 @@ fn sign_number(s: Sign) -> usize
     }
 }
 
+// The array's set at three places within it.
+fn at(o: usize, i: usize, j: usize) -> u8
+    requires { ⌜ (o < 5) × (i < 3) × (j < 3) ⌝ }
+    ensures { λ s. ⌜ s ≡ getD (getD (getD spec.grids o []) i []) j 0 ⌝ }
+{
+    GRIDS[o][i][j]
+}
+
 // The signs that an operator's results can have, by the signs of its sides.
 pub fn grid(operator: Operator, l: Sign, r: Sign) -> u8
     ensures { λ s. ⌜ s ≡ spec.grid operator l r ⌝ }
 {
-    let o = grid_number(operator);
-    let i = sign_number(l);
-    let j = sign_number(r);
-    GRIDS[o][i][j]
+    at(grid_number(operator), sign_number(l), sign_number(r))
 }
 
 // A pair's entry, where the right set has the pair's right sign.

@@ -1,32 +1,22 @@
--- `grid::grid`: the three places lie within the array, and the array is the definition's list.
-use Prim.Native.Nat.{_<_}
-use native.Mathlib.Omega.{arith}
+-- `grid::grid`: the three numbers are places within the array.
+use mathlib.Core.Path.{_∙_}
+use mathlib.Core.List.{[]}
+use lib.ListN.{getD}
 use Rattle.signs.proofs.Finite.{operator-below, sign-below}
 use Rattle.signs.specs.Grid.{grid, grids}
 use Rattle.signs.proofs.grid.grid.Statement.{statement}
 use Rattle.signs.proofs.grid.grid.Tie as tie
 
-module _ (c : tie.After-sign-number2) where
-  operator-place : c .before .before .grid-number .result < 5
-  operator-place = rw (c .before .before .grid-number .ensures) (operator-below (c .before .before .before .args .operator))
-
-  left-place : c .before .sign-number .result < 3
-  left-place = rw (c .before .sign-number .ensures) (sign-below (c .before .before .before .args .l))
-
-  right-place : c .sign-number2 .result < 3
-  right-place = rw (c .sign-number2 .ensures) (sign-below (c .before .before .before .args .r))
-
-mul-result : tie.Need-mul-result
-mul-result c = omega (arith, operator-place c)
-
-mul-result-2 : tie.Need-mul-result-2
-mul-result-2 c = omega (arith, left-place c)
+at-requires : tie.Need-at-requires
+at-requires c κs =
+    let a = c .before .before .before .args in
+    (rw (c .before .before .grid-number .ensures) (operator-below (a .operator)), rw (c .before .sign-number .ensures) (sign-below (a .l)), rw (c .sign-number2 .ensures) (sign-below (a .r)))
 
 returns : tie.Need-returns
-unfolding grid grids
-returns c = rw (c .before .before .before .grid-number .ensures, c .before .before .sign-number .ensures, c .before .sign-number2 .ensures)
+unfolding grid
+returns c =
+    c .at .ensures
+    ∙ (λ i. getD (getD (getD grids (c .before .before .before .grid-number .ensures i) []) (c .before .before .sign-number .ensures i) []) (c .before .sign-number2 .ensures i) 0)
 
 pub grid-spec : {M : Type 1} → statement M
-grid-spec =
-    tie.close
-    (tie.spec (λ c κs. tt) (λ c κs. tt) (λ c κs. tt) mul-result mul-result-2 operator-place left-place right-place returns)
+grid-spec = tie.close (tie.spec (λ c κs. tt) (λ c κs. tt) (λ c κs. tt) at-requires returns)
