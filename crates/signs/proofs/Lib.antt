@@ -1,3 +1,14 @@
 pub mod Open
+pub mod Signed
+pub mod Range
 pub mod Power
+pub mod Finite
+pub mod Lists
+pub mod Membership
+pub mod Operate
+pub mod Answers
+pub mod Signs
+pub mod Arithmetic
+pub mod Compared
+pub mod Laws
 pub mod Examples

@@ -1,6 +1,6 @@
 -- The operators on signs and on sets of signs (document 01, "Signs").
 use Prim.Native.Nat.{ℕ}
-use mathlib.Core.List.{List, [], _∷_}
+use mathlib.Core.List.{List, [], _∷_, map}
 use lib.ListN.{getD}
 use Rattle.signs.specs.Lists.{pairs}
 use Rattle.signs.specs.Sign.{members, unionAll}
@@ -36,6 +36,10 @@ signNumber Plus = 2
 -- the signs that an operator's results can have, by the signs of its sides
 unfoldable pub grid : Operator → Sign → Sign → ℕ
 grid o l r = getD (getD (getD grids (gridNumber o) []) (signNumber l) []) (signNumber r) 0
+
+-- the union over the pairs whose left side has a given sign
+unfoldable pub row : Operator → Sign → ℕ → ℕ
+row o l b = unionAll (map (grid o l) (members b))
 
 -- "on sets the union over all pairs"
 unfoldable pub operate : Operator → ℕ → ℕ → ℕ

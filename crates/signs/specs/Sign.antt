@@ -1,12 +1,14 @@
 -- Signs and sets of signs (document 01, "Signs").
-use Prim.Native.Nat.{ℕ, zero, suc, _+_, _*_, _/_, _%_}
-use mathlib.Core.Bool.{Bool, true, false, cond, not, _&&_, _||_}
+use Prim.Native.Nat.{ℕ, zero, suc, _+_, _/_, _%_}
+use mathlib.Core.Bool.{Bool, cond, not, _&&_, _||_}
 use mathlib.Core.List.{List, [], _∷_, foldr}
 use lib.Dec.{eqb}
 use lib.IntN.{ℤ, pos, negsuc}
 use Rattle.signs.specs.Lists.{filter}
 use Rattle.signs.specs.declared.Sign.{Sign}
 use Rattle.signs.specs.declared.Sign.the-variants.{Minus, Zero, Plus}
+use Rattle.signs.specs.declared.Lowest.{Lowest}
+use Rattle.signs.specs.declared.Lowest.the-variants.{At, Nothing}
 
 -- the sign of a number
 unfoldable pub signOf : ℤ → Sign
@@ -51,3 +53,18 @@ added s set = union set (single s)
 -- a set without a sign
 unfoldable pub removed : Sign → ℕ → ℕ
 removed s set = setOf (λ t. has set t && not (has (single s) t))
+
+-- the signs at or above a given one, in the order minus, zero, plus
+unfoldable pub above : Sign → List Sign
+above Minus = Minus ∷ Zero ∷ Plus ∷ []
+above Zero = Zero ∷ Plus ∷ []
+above Plus = Plus ∷ []
+
+-- the first of a list of signs
+unfoldable pub first : List Sign → Lowest
+first [] = Nothing
+first (s ∷ ss) = At s
+
+-- the lowest sign of a set at or above a given one
+unfoldable pub lowestFrom : ℕ → Sign → Lowest
+lowestFrom set s = first (filter (has set) (above s))

@@ -15,6 +15,11 @@ use Rattle.signs.specs.declared.Truths.{Truths}
 unfoldable pub truthsOf : List Bool → Truths
 truthsOf bs = record { holds = any (λ b. b) bs; fails = any not bs }
 
+-- whether a truth value is in a set
+unfoldable pub among : Bool → Truths → Bool
+among true t = t .holds
+among false t = t .fails
+
 -- the truth values of a set
 unfoldable pub answers : Truths → List Bool
 answers t = cond (t .holds) (true ∷ []) [] ++ cond (t .fails) (false ∷ []) []

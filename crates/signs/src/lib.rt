@@ -1,4 +1,8 @@
 // Numbers and signs: arithmetic on 32-bit numbers with the reasons for which it is undefined, and its abstraction to signs.
+pub mod grid;
+pub mod number;
+pub mod sets;
+pub mod truth;
 
 // The operators of arithmetic: + − × / ^.
 pub enum Operator {
@@ -37,6 +41,12 @@ pub enum Sign {
     Minus,
     Zero,
     Plus,
+}
+
+// The lowest sign of a set at or above a given one, in the order minus, zero, plus; or that there is none.
+pub enum Lowest {
+    At(Sign),
+    Nothing,
 }
 
 // A set of truth values: a condition may hold, may fail, may do either, or, where it has no answer, neither.
