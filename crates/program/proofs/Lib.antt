@@ -15,5 +15,6 @@ pub mod Sorting
 pub mod Nodes
 pub mod Actions
 pub mod Counts
+pub mod Strips
 pub mod Open
 pub mod Examples
