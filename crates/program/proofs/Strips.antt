@@ -6,7 +6,7 @@ use mathlib.Core.List.{List, [], _∷_, _++_, append-assoc}
 use Prim.Native.Nat.{ℕ, zero, suc, _+_, _≤_, _<_}
 use native.Mathlib.Numerals.{add-one}
 use native.Mathlib.Omega.{arith}
-use lib.ListN.{length, take, drop, set, length-append, length-drop}
+use lib.ListN.{length, take, drop, set, length-append}
 use lib.Seq.{length-take-le, set-split, take-at, drop-at, drop-drop}
 use lib.Dec.{ltb}
 use borrow.Author.Tests.{lt-ltb, le-ltb, ltb-true, ltb-false}
@@ -47,11 +47,6 @@ module _ (buffer : List ℕ) where
       let front : overAt at x buffer ≡ p ++ z = sym (append-assoc (take at buffer) x z) in
       ap (overAt (at + length x) y) front
       ∙ rw (take-at p z _ e, drop-at p z _ e, length-append x y, ← drop-drop (length y) (length x)) (simp append-assoc)
-
-  pub length-over : (at : ℕ) (x : List ℕ) → at + length x ≤ length buffer → length (overAt at x buffer) ≡ length buffer
-  unfolding over overAt
-  length-over at x h =
-      simp (length-append, length-drop) (omega (arith, length-take-le at buffer (omega arith)))
 
 -- the same of three states of a buffer
 pub over-then : (a : List ℕ) {b c : List ℕ} (at : ℕ) {next : ℕ} (x y : List ℕ) → at ≤ length a → b ≡ overAt at x a → next ≡ at + length x → c ≡ overAt next y b → c ≡ overAt at (x ++ y) a

@@ -7,15 +7,17 @@ use lib.Dec.{leb, ltb}
 use lib.ListN.{length, take, drop, getD}
 use Rattle.program.specs.Asking.{askPlain, thenAsk, validityNumbers}
 use Rattle.signs.specs.Lists.{concatMap}
-use Rattle.program.specs.File.{entry}
-use Rattle.program.specs.Graph.{part, wordBytes, edgeBytes, edgeCount, nodeCount, graphBytes}
+use Rattle.program.specs.File.{byteAt, wordAt, entry}
+use Rattle.program.specs.Graph.{Edge, part, actionKind, actionEntry, wordBytes, edgeBytes, edgeCount, nodeCount, graphBytes}
 use Rattle.program.specs.Questions.{validity}
 use Rattle.program.specs.declared.Drawn.{Drawn}
 use Rattle.program.specs.Syntax.{Command}
 use Rattle.program.specs.Tree.{commandBelow, commandTrees}
+use Rattle.program.specs.declared.EdgeBytes.{EdgeBytes}
 use Rattle.program.specs.declared.Entry.{Entry}
 use Rattle.program.specs.declared.drawing.Construct.{Construct}
 use Rattle.program.specs.declared.drawing.Construct.the-variants.{Leaf, Sequence, Conditional, Iteration, Guarded, Choice}
+use Rattle.program.specs.declared.drawing.Counts.{Counts}
 use Rattle.program.specs.declared.drawing.Pen.{Pen}
 use Rattle.program.specs.declared.Table.the-variants.{Commands}
 use Rattle.program.specs.declared.Validity.{Validity}
@@ -71,7 +73,13 @@ pub record Drew (x : Strip) (at : ℕ) (before after : List ℕ) (r : Pen) : Typ
   pub fresh : r .fresh ≡ x .fresh
   pub next : r .at ≡ at + length (x .bytes)
 
--- what it needs: room for the bytes, and numbers for the nodes
+-- what drawing the whole graph does: its bytes over the start of the buffer, and the counts
+pub record DrewAll (s before after : List ℕ) (r : Counts) : Type 0 where
+  pub buffer : after ≡ over (graphBytes s) before
+  pub nodes : r .nodes ≡ nodeCount s
+  pub edges : r .edges ≡ edgeCount s
+
+-- what drawing a part needs: room for the bytes, and numbers for the nodes
 pub record Room (x : Strip) (at size : ℕ) : Type 0 where
   pub bytes-fit : at + length (x .bytes) ≤ size
   pub nodes-fit : x .fresh < 65536
@@ -103,3 +111,23 @@ edgeStrip a b kind k n = record { bytes = edgeRow a b kind k; fresh = n }
 -- the tree that entry n is as a part of entry bound
 abbrev pub partAt : List ℕ → ℕ → ℕ → Command
 partAt s bound n = commandBelow (commandTrees s bound) n
+
+-- what stands at edge k of such bytes
+unfoldable pub edgeRead : List ℕ → ℕ → EdgeBytes
+edgeRead bytes k =
+    record {
+      source = wordAt bytes (7 * k);
+      target = wordAt bytes (7 * k + 2);
+      kind = byteAt bytes (7 * k + 4);
+      entry = wordAt bytes (7 * k + 5);
+    }
+
+-- the numbers that an edge's bytes are of
+unfoldable pub edgeNumbers : Edge → EdgeBytes
+edgeNumbers e =
+    record {
+      source = e .source;
+      target = e .target;
+      kind = actionKind (e .action);
+      entry = actionEntry (e .action);
+    }

@@ -3,11 +3,16 @@
 ghost use mathlib.Core.Path.{_≡_};
 ghost use mathlib.Core.List.{_∷_, []};
 ghost use Prim.Native.Nat.{ℕ, _<_, _≤_, _+_, _*_, _/_, _%_};
-ghost use lib.ListN.{length};
-ghost use Rattle.program.specs.Drawing.{overAt, edgeRow, strip, edgeStrip, constructOf, partAt, Room, Drew};
+ghost use lib.ListN.{length, take};
+ghost use Rattle.program.specs.Drawing.{overAt, edgeRow, strip, edgeStrip, constructOf, partAt, Room, Drew, DrewAll, drawnBy, drawn, over, drawnBufferBy, drawnBuffer, edgeRead};
 ghost use Rattle.program.specs.Graph.{wordBytes};
-use crate::Entry;
+ghost use Rattle.program.specs.Questions.{validity};
+ghost use Rattle.program.specs.declared.Validity.the-variants.{Fit, Refused};
+use crate::Drawn;
+use crate::EdgeBytes;
+use crate::Refusal;
 use crate::Table;
+use crate::Validity;
 use crate::file;
 
 // What the drawing of a command goes by: its construct, and the entries of its parts.
@@ -24,6 +29,12 @@ enum Construct {
 struct Pen {
     fresh: u16,
     at: usize,
+}
+
+// The numbers of nodes and edges.
+struct Counts {
+    nodes: u16,
+    edges: u16,
 }
 
 fn high(x: u16) -> u8
@@ -134,5 +145,112 @@ fn draw_part(
             let first = draw_part(s, n, p, a, b, fresh, at, buffer);
             draw_part(s, n, q, a, b, first.fresh, first.at, buffer)
         }
+    }
+}
+
+// How many edges so many bytes are.
+fn edges_in(end: usize) -> u16
+    requires { ⌜ end < 65536 ⌝ }
+    ensures { λ r. ⌜ r ≡ end / 7 ⌝ }
+{
+    (end / 7) as u16
+}
+
+// The edges of a well-formed program: there are at most 255.
+fn draw_program(s: &[u8], edges: &mut [u8; 1785]) -> Counts
+    requires { ⌜ validity (now s) ≡ Fit ⌝ }
+    ensures { λ r. ⌜ DrewAll (now (s .entry)) (now (edges .entry)) (now (edges .exit)) r ⌝ }
+{
+    let bound = file::entry_count(s, Table::Commands);
+    let pen = draw_part(s, bound, bound - 1, 0, 1, 2, 0, edges);
+    Counts {
+        nodes: pen.fresh,
+        edges: edges_in(pen.at),
+    }
+}
+
+// The first `end` bytes over the start of a buffer.
+fn copy_front(buffer: &mut [u8], bytes: &[u8], end: usize)
+    requires { ⌜ (end ≤ length (now bytes)) × (end ≤ length (now buffer)) ⌝ }
+    ensures { λ _. ⌜ now (buffer .exit) ≡ over (take end (now (bytes .entry))) (now (buffer .entry)) ⌝ }
+{
+    let mut i: usize = 0;
+    while i < end {
+        buffer[i] = bytes[i];
+        i += 1;
+    }
+}
+
+fn refused(x: Refusal) -> Drawn
+    ensures { λ r. ⌜ r ≡ record { validity = Refused x; nodes = 0; edges = 0 } ⌝ }
+{
+    Drawn {
+        validity: Validity::Refused(x),
+        nodes: 0,
+        edges: 0,
+    }
+}
+
+// Question 13 of a well-formed program. Its edges are drawn aside first: a buffer that is too short stays as it is.
+fn draw_fit(s: &[u8], buffer: &mut [u8]) -> Drawn
+    requires { ⌜ validity (now s) ≡ Fit ⌝ }
+    ensures { λ r. ⌜ (r ≡ drawn (now (s .entry)) (now (buffer .entry))) × (now (buffer .exit) ≡ drawnBuffer (now (s .entry)) (now (buffer .entry))) ⌝ }
+{
+    let mut edges = [0u8; 1785];
+    let counts = draw_program(s, &mut edges);
+    let end = 7 * file::long(counts.edges);
+    if buffer.len() < end {
+        return refused(Refusal {
+            number: 13,
+            offset: 0,
+        });
+    }
+    copy_front(buffer, &edges, end);
+    Drawn {
+        validity: Validity::Fit,
+        nodes: counts.nodes,
+        edges: counts.edges,
+    }
+}
+
+// The graph of a file of known validity, drawn into a buffer.
+fn draw_valid(s: &[u8], buffer: &mut [u8], v: Validity) -> Drawn
+    requires { ⌜ v ≡ validity (now s) ⌝ }
+    ensures { λ r. ⌜ (r ≡ drawn (now (s .entry)) (now (buffer .entry))) × (now (buffer .exit) ≡ drawnBuffer (now (s .entry)) (now (buffer .entry))) ⌝ }
+{
+    match v {
+        Validity::Fit => draw_fit(s, buffer),
+        Validity::Refused(x) => refused(x),
+    }
+}
+
+// The same into an array that every graph fits.
+fn draw_edges_valid(s: &[u8], edges: &mut [u8; 1785], v: Validity) -> Drawn
+    requires { ⌜ v ≡ validity (now s) ⌝ }
+    ensures { λ r. ⌜ (r ≡ drawnBy (now (s .entry)) v) × (now (edges .exit) ≡ drawnBufferBy (now (s .entry)) (now (edges .entry)) v) ⌝ }
+{
+    match v {
+        Validity::Fit => {
+            let counts = draw_program(s, edges);
+            Drawn {
+                validity: Validity::Fit,
+                nodes: counts.nodes,
+                edges: counts.edges,
+            }
+        }
+        Validity::Refused(x) => refused(x),
+    }
+}
+
+// Edge `k` of such bytes.
+pub fn edge_at(bytes: &[u8], k: u16) -> EdgeBytes
+    ensures { λ r. ⌜ r ≡ edgeRead (now (bytes .entry)) k ⌝ }
+{
+    let at = 7 * file::long(k);
+    EdgeBytes {
+        source: file::word_at(bytes, at),
+        target: file::word_at(bytes, at + 2),
+        kind: file::byte_at(bytes, at + 4),
+        entry: file::word_at(bytes, at + 5),
     }
 }

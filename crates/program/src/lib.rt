@@ -82,3 +82,11 @@ pub struct Drawn {
     pub nodes: u16,
     pub edges: u16,
 }
+
+// The four numbers of an edge, as its bytes give them: source and target, the action's kind and its entry.
+pub struct EdgeBytes {
+    pub source: u16,
+    pub target: u16,
+    pub kind: u8,
+    pub entry: u16,
+}
