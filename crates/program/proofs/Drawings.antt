@@ -1,6 +1,6 @@
 -- Laws of the drawing of a well-formed program.
-use mathlib.Core.Path.{_≡_, refl, sym, _∙_, ap}
-use mathlib.Core.List.{List, [], _∷_, _++_}
+use mathlib.Core.Path.{_≡_, refl, _∙_}
+use mathlib.Core.List.{List, [], _∷_}
 use Prim.Native.Nat.{ℕ, suc, _+_, _-_, _*_, _≤_, _<_}
 use native.Mathlib.Numerals.{add-one}
 use native.Mathlib.Omega.{arith}
@@ -10,11 +10,12 @@ use lib.Seq.{length-take-le, take-at, paste-suc}
 use borrow.Author.Tests.{le-leb, lt-leb}
 use Rattle.signs.specs.Lists.{concatMap}
 use Rattle.program.specs.Asking.{ask, thenAsk}
-use Rattle.program.specs.Drawing.{drawValidity, over, overAt, strip, partAt, Room, Drew}
+use Rattle.program.specs.Drawing.{drawValidity, over}
+use Rattle.program.specs.DrawingParts.{strip, partAt, Room, Drew}
 use Rattle.program.specs.File.{entryCount}
-use Rattle.program.specs.Graph.{Edge, part, graph, edges, edgeCount, nodeCount, wordBytes, edgeBytes, graphBytes}
+use Rattle.program.specs.Graph.{Edge, graph, edges, edgeCount, nodeCount, wordBytes, edgeBytes, graphBytes}
 use Rattle.program.specs.Questions.{lastCommand, validity}
-use Rattle.program.specs.Tree.{commandAt, script}
+use Rattle.program.specs.Tree.{script}
 use Rattle.program.specs.declared.Table.the-variants.{Commands}
 use Rattle.program.specs.declared.Refusal.{Refusal}
 use Rattle.program.specs.declared.Validity.the-variants.{Fit, Refused}

@@ -9,7 +9,7 @@ use lib.Seq.{getD-append-add}
 use Rattle.signs.specs.Lists.{concatMap}
 use Rattle.program.specs.Drawing.{over, edgeRead, edgeNumbers}
 use Rattle.program.specs.File.{byteAt, wordAt, entryCount}
-use Rattle.program.specs.Graph.{Edge, edges, edgeCount, nodeCount, actionKind, actionEntry, actionTable, wordBytes, edgeBytes, graphBytes}
+use Rattle.program.specs.Graph.{Edge, edges, edgeCount, actionKind, actionEntry, actionTable, wordBytes, edgeBytes, graphBytes}
 use Rattle.program.specs.Questions.{validity}
 use Rattle.program.specs.declared.Table.{Table}
 use Rattle.program.specs.declared.Table.the-variants.{Arithmetic, Boolean, Commands}

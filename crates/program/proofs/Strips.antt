@@ -2,21 +2,21 @@
 use mathlib.Core.Path.{_≡_, refl, sym, _∙_, ap}
 use mathlib.Core.Bool.{Bool, true, false}
 use mathlib.Core.Logic.{_⊎_, inl, inr, ⊎-elim}
-use mathlib.Core.List.{List, [], _∷_, _++_, append-assoc}
-use Prim.Native.Nat.{ℕ, zero, suc, _+_, _≤_, _<_}
+use mathlib.Core.List.{List, [], _∷_, _++_, append-assoc, append-nil}
+use Prim.Native.Nat.{ℕ, _+_, _≤_, _<_}
 use native.Mathlib.Numerals.{add-one}
+use native.Mathlib.Nat.{le-refl}
 use native.Mathlib.Omega.{arith}
 use lib.ListN.{length, take, drop, set, length-append}
 use lib.Seq.{length-take-le, set-split, take-at, drop-at, drop-drop}
 use lib.Dec.{ltb}
 use borrow.Author.Tests.{lt-ltb, le-ltb, ltb-true, ltb-false}
 use Rattle.signs.specs.Lists.{concatMap}
-use Rattle.program.specs.Drawing.{over, overAt, edgeRow, Strip, strip, edgeStrip, partAt, constructBy, constructOf, Room, Drew}
-use Rattle.program.specs.File.{entry}
+use Rattle.program.specs.Drawing.{over}
+use Rattle.program.specs.DrawingParts.{overAt, edgeRow, Strip, strip, edgeStrip, partAt, constructBy, constructOf, Room, Drew}
 use Rattle.program.specs.Graph.{guardAction, part, actionKind, actionEntry, wordBytes, edgeBytes}
 use Rattle.program.specs.Syntax.{Command, skip, commandEntry}
 use Rattle.program.specs.Tree.{commandNode, commandTrees, commandAt}
-use Rattle.program.specs.declared.Table.the-variants.{Commands}
 use Rattle.program.specs.declared.drawing.Construct.{Construct}
 use Rattle.program.specs.declared.drawing.Construct.the-variants.{Leaf, Sequence, Conditional, Iteration, Guarded, Choice}
 use Rattle.program.specs.declared.drawing.Pen.{Pen}
@@ -84,6 +84,11 @@ module _ (x : Strip) (y : ℕ → Strip) {at : ℕ} where
         next = omega (arith, d .next, last .next, length-append (x .bytes) (y (x .fresh) .bytes));
       }
 
+-- a part with nothing after it
+pub drew-only : (x : Strip) {at : ℕ} {a b : List ℕ} {r : Pen} → Drew x at a b r → Drew (followed x (λ f. record { bytes = []; fresh = f })) at a b r
+unfolding followed
+drew-only x d = rw append-nil d
+
 -- the bytes of edges in a row
 concat-append : {A B : Type 0} (f : A → List B) (xs ys : List A) → concatMap f (xs ++ ys) ≡ concatMap f xs ++ concatMap f ys
 unfolding concatMap
@@ -94,18 +99,35 @@ pub strip-grows : (c : Command) (a b n : ℕ) → n ≤ strip c a b n .fresh
 unfolding strip
 strip-grows = fresh-grows
 
-pub edge-grows : (a b kind k n : ℕ) → n ≤ edgeStrip a b kind k n .fresh
-unfolding edgeStrip
-edge-grows a b kind k n = omega arith
+-- the first part of a construct at entry k, and the rest, by the fresh node to which the first comes
+unfoldable pub firstAs : List ℕ → ℕ → Construct → ℕ → ℕ → ℕ → Strip
+firstAs s k Leaf a b n = edgeStrip a b 1 k n
+firstAs s k (Sequence p q) a b n = strip (partAt s k p) a n (n + 1)
+firstAs s k (Conditional p) a b n = strip (partAt s k p) a b n
+firstAs s k (Iteration p) a b n = strip (partAt s k p) a a n
+firstAs s k (Guarded g p) a b n = edgeStrip a n 2 g (n + 1)
+firstAs s k (Choice p q) a b n = strip (partAt s k p) a b n
 
--- the bytes of a construct at entry k, by those of its parts
+unfoldable pub restAs : List ℕ → ℕ → Construct → ℕ → ℕ → ℕ → ℕ → Strip
+restAs s k Leaf a b n f = record { bytes = []; fresh = f }
+restAs s k (Sequence p q) a b n f = strip (partAt s k q) n b f
+restAs s k (Conditional p) a b n f = record { bytes = []; fresh = f }
+restAs s k (Iteration p) a b n f = edgeStrip a b 3 p f
+restAs s k (Guarded g p) a b n f = strip (partAt s k p) n b f
+restAs s k (Choice p q) a b n f = strip (partAt s k q) a b f
+
+pub rest-grows : (s : List ℕ) (k : ℕ) (c : Construct) (a b n f : ℕ) → f ≤ restAs s k c a b n f .fresh
+unfolding restAs edgeStrip
+rest-grows s k Leaf a b n f = le-refl f
+rest-grows s k (Sequence p q) a b n f = strip-grows _ n b f
+rest-grows s k (Conditional p) a b n f = le-refl f
+rest-grows s k (Iteration p) a b n f = le-refl f
+rest-grows s k (Guarded g p) a b n f = strip-grows _ n b f
+rest-grows s k (Choice p q) a b n f = strip-grows _ a b f
+
+-- the bytes of a construct at entry k
 unfoldable pub drawnAs : List ℕ → ℕ → Construct → ℕ → ℕ → ℕ → Strip
-drawnAs s k Leaf a b n = edgeStrip a b 1 k n
-drawnAs s k (Sequence p q) a b n = followed (strip (partAt s k p) a n (n + 1)) (strip (partAt s k q) n b)
-drawnAs s k (Conditional p) a b n = strip (partAt s k p) a b n
-drawnAs s k (Iteration p) a b n = followed (strip (partAt s k p) a a n) (edgeStrip a b 3 p)
-drawnAs s k (Guarded g p) a b n = followed (edgeStrip a n 2 g (n + 1)) (strip (partAt s k p) n b)
-drawnAs s k (Choice p q) a b n = followed (strip (partAt s k p) a b n) (strip (partAt s k q) a b)
+drawnAs s k c a b n = followed (firstAs s k c a b n) (restAs s k c a b n)
 
 -- one more than the entry, where the construct has parts
 unfoldable pub floor : ℕ → Construct → ℕ
@@ -151,18 +173,18 @@ module _ (s : List ℕ) where
       (lt-or-ge p n)
 
   skip-strip : (n a b f : ℕ) → strip (skip n) a b f ≡ drawnAs s n Leaf a b f
-  unfolding drawnAs strip edgeStrip part concatMap edgeBytes edgeRow wordBytes actionKind actionEntry commandEntry
+  unfolding drawnAs firstAs restAs followed strip edgeStrip part concatMap edgeBytes edgeRow wordBytes actionKind actionEntry commandEntry
   skip-strip n a b f = refl
 
   node-strip : (n k p q r a b f : ℕ) → strip (commandNode s (commandTrees s n) n (record { kind = k; p = p; q = q; r = r })) a b f ≡ drawnAs s n (constructBy (record { kind = k; p = p; q = q; r = r })) a b f
-  unfolding commandNode constructBy drawnAs strip followed edgeStrip part guardAction concatMap edgeBytes edgeRow wordBytes actionKind actionEntry commandEntry
+  unfolding commandNode constructBy drawnAs firstAs restAs followed strip edgeStrip part guardAction concatMap edgeBytes edgeRow wordBytes actionKind actionEntry commandEntry
   node-strip n =
       by-kind _
       (λ p q r a b f. refl)
       (λ p q r a b f. refl)
       (λ p q r a b f. refl)
       (λ p q r a b f. rw concat-append)
-      (λ p q r a b f. refl)
+      (λ p q r a b f. rw append-nil)
       (λ p q r a b f. rw (concat-append, part-entry))
       (λ p q r a b f. rw boolean-entry)
       (λ p q r a b f. rw concat-append)

@@ -4,7 +4,8 @@ ghost use mathlib.Core.Path.{_≡_};
 ghost use mathlib.Core.List.{_∷_, []};
 ghost use Prim.Native.Nat.{ℕ, _<_, _≤_, _+_, _*_, _/_, _%_};
 ghost use lib.ListN.{length, take};
-ghost use Rattle.program.specs.Drawing.{overAt, edgeRow, strip, edgeStrip, constructOf, partAt, Room, Drew, DrewAll, drawnBy, drawn, over, drawnBufferBy, drawnBuffer, edgeRead};
+ghost use Rattle.program.specs.Drawing.{drawnBy, drawn, over, drawnBufferBy, drawnBuffer, edgeRead};
+ghost use Rattle.program.specs.DrawingParts.{overAt, edgeRow, strip, edgeStrip, constructOf, partAt, Room, Drew, DrewAll};
 ghost use Rattle.program.specs.Graph.{wordBytes};
 ghost use Rattle.program.specs.Questions.{validity};
 ghost use Rattle.program.specs.declared.Validity.the-variants.{Fit, Refused};
@@ -224,10 +225,10 @@ fn draw_valid(s: &[u8], buffer: &mut [u8], v: Validity) -> Drawn
     }
 }
 
-// The same into an array that every graph fits.
+// The same into an array that every graph fits, so that 13 is not asked.
 fn draw_edges_valid(s: &[u8], edges: &mut [u8; 1785], v: Validity) -> Drawn
     requires { ⌜ v ≡ validity (now s) ⌝ }
-    ensures { λ r. ⌜ (r ≡ drawnBy (now (s .entry)) v) × (now (edges .exit) ≡ drawnBufferBy (now (s .entry)) (now (edges .entry)) v) ⌝ }
+    ensures { λ r. ⌜ (r ≡ drawnBy (now (s .entry)) (validity (now (s .entry)))) × (now (edges .exit) ≡ drawnBufferBy (now (s .entry)) (now (edges .entry)) (validity (now (s .entry)))) ⌝ }
 {
     match v {
         Validity::Fit => {

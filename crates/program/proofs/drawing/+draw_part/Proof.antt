@@ -4,14 +4,13 @@ use borrow.Author.Needs.{needs}
 use borrow.Fn.Kinds.{In}
 use borrow.Fn.PlainCycle.{Measures, is, falls, and}
 use lib.ListN.{length}
-use mathlib.Core.List.{List}
-use mathlib.Core.Path.{_≡_, _∙_}
+use mathlib.Core.List.{List, []}
+use mathlib.Core.Path.{_≡_, refl, _∙_}
 use native.Mathlib.Omega.{arith}
-use Rattle.program.specs.Drawing.{Strip, strip, edgeStrip, partAt, Room, Drew}
-use Rattle.program.specs.Syntax.{Command}
+use Rattle.program.specs.DrawingParts.{Strip, strip, edgeStrip, partAt, Room, Drew}
 use Rattle.program.specs.declared.drawing.Construct.{Construct}
 use Rattle.program.specs.declared.drawing.Pen.{Pen}
-use Rattle.program.proofs.Strips.{drawnAs, floor, strip-part, part-lower, strip-grows, edge-grows, first-room, second-room, both-drawn}
+use Rattle.program.proofs.Strips.{firstAs, restAs, drawnAs, floor, strip-part, part-lower, strip-grows, rest-grows, first-room, second-room, both-drawn, drew-only}
 use Rattle.program.proofs.drawing.+draw_part.{statement}
 use Rattle.program.proofs.drawing.+draw_part.Tie.{close}
 use Rattle.program.proofs.drawing.draw_part.Reads as draw-part
@@ -39,23 +38,49 @@ module _ (t : ℕ) (c : lts.After-construct-at (claims t) (draw-part-at t) draw-
   abbrev start : lts.Start (claims t) (draw-part-at t) draw-part.Post
   start = c .before .before .before
 
-  -- the entry's bytes by its construct, and a part of it
-  abbrev whole : Construct → Strip
-  whole k = drawnAs (start .args .s .now) (start .args .n) k (start .args .a) (start .args .b) (start .args .fresh)
+  -- from the place and the buffer of the entry: what drawing does, and that there is room
+  abbrev Draws : Strip → List ℕ → Pen → Type 0
+  Draws x after r = Drew x (start .args .at) (start .args .buffer .now) after r
 
-  abbrev tree : ℕ → Command
-  tree p = partAt (start .args .s .now) (start .args .n) p
+  abbrev Fitting : Strip → Type 0
+  Fitting x = Room x (start .args .at) (length (start .args .buffer .now))
+
+  -- the entry's bytes; and by its construct the first part of them, and the rest
+  abbrev whole : Strip
+  whole = strip (partAt (start .args .s .now) (start .args .bound) (start .args .n)) (start .args .a) (start .args .b) (start .args .fresh)
 
   module _ {k : Construct} (told : c .construct-at .result ≡ k) where
-    room : Room (whole k) (start .args .at) (length (start .args .buffer .now))
-    room = rw (strip-part _ _ _ (c .construct-at .ensures) told (start .args .a) (start .args .b) (start .args .fresh)) at (start .pre .1)
+    abbrev front : Strip
+    front = firstAs (start .args .s .now) (start .args .n) k (start .args .a) (start .args .b) (start .args .fresh)
+
+    abbrev rest : ℕ → Strip
+    rest = restAs (start .args .s .now) (start .args .n) k (start .args .a) (start .args .b) (start .args .fresh)
+
+    same : whole ≡ drawnAs (start .args .s .now) (start .args .n) k (start .args .a) (start .args .b) (start .args .fresh)
+    same = strip-part _ _ _ (c .construct-at .ensures) told (start .args .a) (start .args .b) (start .args .fresh)
+
+    room : Fitting (drawnAs (start .args .s .now) (start .args .n) k (start .args .a) (start .args .b) (start .args .fresh))
+    room = rw same at (start .pre .1)
 
     lower : floor (start .args .n) k ≤ t
     lower = omega (arith, part-lower _ _ _ (c .construct-at .ensures) told, start .pre .0)
 
-    drawn : {after : List ℕ} {r : Pen} → Drew (whole k) (start .args .at) (start .args .buffer .now) after r
-        → Drew (strip (partAt (start .args .s .now) (start .args .bound) (start .args .n)) (start .args .a) (start .args .b) (start .args .fresh)) (start .args .at) (start .args .buffer .now) after r
-    drawn d = rw (strip-part _ _ _ (c .construct-at .ensures) told (start .args .a) (start .args .b) (start .args .fresh)) d
+    first : Fitting front
+    unfolding drawnAs
+    first = first-room front rest (rest-grows _ _ k _ _ _) room
+
+    second : {after : List ℕ} {r : Pen} → Draws front after r → length after ≡ length (start .args .buffer .now) → Room (rest (r .fresh)) (r .at) (length after)
+    unfolding drawnAs
+    second d h = second-room front rest room d h
+
+    both : {between after : List ℕ} {q r : Pen} → Draws front between q → Drew (rest (q .fresh)) (q .at) between after r → Draws whole after r
+    unfolding drawnAs
+    both d e = rw same (both-drawn front rest room d e)
+
+    -- where the first part is all
+    only : {after : List ℕ} {r : Pen} → rest ≡ (λ f. record { bytes = []; fresh = f }) → Draws front after r → Draws whole after r
+    unfolding drawnAs
+    only e d = rw (same, e) (drew-only front d)
 
 construct-at-requires : (t : ℕ) → lts.Need-construct-at-requires (claims t) (draw-part-at t) draw-part.Post
 construct-at-requires t c κs = search needs
@@ -64,187 +89,158 @@ enum-told : (t : ℕ) → lts.Need-enum-told (claims t) (draw-part-at t) draw-pa
 enum-told t c = search needs
 
 draw-edge-requires : (t : ℕ) → lts.Need-draw-edge-requires (claims t) (draw-part-at t) draw-part.Post
-unfolding drawnAs
-draw-edge-requires t c κs = room t (c .before .before .before) (c .before .enum-told .given .1)
+unfolding firstAs restAs
+draw-edge-requires t c κs = first t (c .before .before .before) (c .before .enum-told .given .1)
 
 enum-known-c : (t : ℕ) → lts.Need-enum-known-c (claims t) (draw-part-at t) draw-part.Post
 enum-known-c t c = search needs
 
 add-draw-part : (t : ℕ) → lts.Need-add-draw-part (claims t) (draw-part-at t) draw-part.Post
-unfolding drawnAs
+unfolding firstAs restAs
 add-draw-part t c =
     let at = c .before .before .before in
+    let told = c .before .c .given .1 in
     let a = start t at .args in
-    let v = c .before .c .given in
-    let p = v .0 .0 in let q = v .0 .1 .0 in
-    omega (arith, first-room (strip (tree t at p) (a .a) (a .fresh) (a .fresh + 1)) (strip (tree t at q) (a .fresh) (a .b)) (strip-grows (tree t at q) (a .fresh) (a .b)) (room t at (v .1)) .nodes-fit, strip-grows (tree t at p) (a .a) (a .fresh) (a .fresh + 1))
+    omega (arith, first t at told, strip-grows (partAt (a .s .now) (a .n) (c .before .c .given .0 .0)) (a .a) (a .fresh) (a .fresh + 1))
 
 draw-part-requires : (t : ℕ) → lts.Need-draw-part-requires (claims t) (draw-part-at t) draw-part.Post
-unfolding drawnAs floor
+unfolding firstAs restAs floor
 draw-part-requires t c κs =
     let at = c .before .before .before .before in
-    let a = start t at .args in
-    let v = c .before .before .c .given in
-    let p = v .0 .0 in let q = v .0 .1 .0 in
-    (omega (arith, lower t at (v .1)), first-room (strip (tree t at p) (a .a) (a .fresh) (a .fresh + 1)) (strip (tree t at q) (a .fresh) (a .b)) (strip-grows (tree t at q) (a .fresh) (a .b)) (room t at (v .1)))
+    let told = c .before .before .c .given .1 in
+    (omega (arith, lower t at told), first t at told)
 
 draw-part-requires-2 : (t : ℕ) → lts.Need-draw-part-requires-2 (claims t) (draw-part-at t) draw-part.Post
-unfolding drawnAs floor
+unfolding firstAs restAs floor
 draw-part-requires-2 t c κs =
     let at = c .before .before .before .before .before .before .before .before in
-    let a = start t at .args in
-    let v = c .before .before .before .before .before .before .c .given in
-    let p = v .0 .0 in let q = v .0 .1 .0 in
-    (omega (arith, lower t at (v .1)), second-room (strip (tree t at p) (a .a) (a .fresh) (a .fresh + 1)) (strip (tree t at q) (a .fresh) (a .b)) (room t at (v .1)) (c .before .before .before .draw-part .ensures) (c .before .before .before .draw-part .kept .1 .1 .1 .1 .1 .1 .1 .0))
+    let told = c .before .before .before .before .before .before .c .given .1 in
+    (omega (arith, lower t at told), second t at told (c .before .before .before .draw-part .ensures) (c .before .before .before .draw-part .kept .1 .1 .1 .1 .1 .1 .1 .0))
 
 enum-known-c-2 : (t : ℕ) → lts.Need-enum-known-c-2 (claims t) (draw-part-at t) draw-part.Post
 enum-known-c-2 t c = search needs
 
 draw-part-requires-3 : (t : ℕ) → lts.Need-draw-part-requires-3 (claims t) (draw-part-at t) draw-part.Post
-unfolding drawnAs floor
+unfolding firstAs restAs floor
 draw-part-requires-3 t c κs =
     let at = c .before .before .before .before in
-    let a = start t at .args in
-    let v = c .before .before .c2 .given in
-    (omega (arith, lower t at (v .1)), room t at (v .1))
+    let told = c .before .before .c2 .given .1 in
+    (omega (arith, lower t at told), first t at told)
 
 enum-known-c-3 : (t : ℕ) → lts.Need-enum-known-c-3 (claims t) (draw-part-at t) draw-part.Post
 enum-known-c-3 t c = search needs
 
 draw-part-requires-4 : (t : ℕ) → lts.Need-draw-part-requires-4 (claims t) (draw-part-at t) draw-part.Post
-unfolding drawnAs floor
+unfolding firstAs restAs floor
 draw-part-requires-4 t c κs =
     let at = c .before .before .before .before in
-    let a = start t at .args in
-    let v = c .before .before .c3 .given in
-    let p = v .0 .0 in
-    (omega (arith, lower t at (v .1)), first-room (strip (tree t at p) (a .a) (a .a) (a .fresh)) (edgeStrip (a .a) (a .b) 3 p) (edge-grows (a .a) (a .b) 3 p) (room t at (v .1)))
+    let told = c .before .before .c3 .given .1 in
+    (omega (arith, lower t at told), first t at told)
 
 draw-edge-requires-2 : (t : ℕ) → lts.Need-draw-edge-requires-2 (claims t) (draw-part-at t) draw-part.Post
-unfolding drawnAs
+unfolding firstAs restAs
 draw-edge-requires-2 t c κs =
     let at = c .before .before .before .before .before .before .before .before in
-    let a = start t at .args in
-    let v = c .before .before .before .before .before .before .c3 .given in
-    let p = v .0 .0 in
-    second-room (strip (tree t at p) (a .a) (a .a) (a .fresh)) (edgeStrip (a .a) (a .b) 3 p) (room t at (v .1)) (c .before .before .before .draw-part4 .ensures) (c .before .before .before .draw-part4 .kept .1 .1 .1 .1 .1 .1 .1 .0)
+    let told = c .before .before .before .before .before .before .c3 .given .1 in
+    second t at told (c .before .before .before .draw-part4 .ensures) (c .before .before .before .draw-part4 .kept .1 .1 .1 .1 .1 .1 .1 .0)
 
 enum-known-c-4 : (t : ℕ) → lts.Need-enum-known-c-4 (claims t) (draw-part-at t) draw-part.Post
 enum-known-c-4 t c = search needs
 
 add-draw-edge : (t : ℕ) → lts.Need-add-draw-edge (claims t) (draw-part-at t) draw-part.Post
-unfolding drawnAs edgeStrip
+unfolding firstAs restAs edgeStrip
 add-draw-edge t c =
     let at = c .before .before .before .before in
-    let a = start t at .args in
-    let v = c .before .before .c4 .given in
-    let g = v .0 .0 in let p = v .0 .1 .0 in
-    omega (arith, first-room (edgeStrip (a .a) (a .fresh) 2 g (a .fresh + 1)) (strip (tree t at p) (a .fresh) (a .b)) (strip-grows (tree t at p) (a .fresh) (a .b)) (room t at (v .1)) .nodes-fit)
+    let told = c .before .before .c4 .given .1 in
+    omega (arith, first t at told)
 
 draw-edge-requires-3 : (t : ℕ) → lts.Need-draw-edge-requires-3 (claims t) (draw-part-at t) draw-part.Post
-unfolding drawnAs
+unfolding firstAs restAs
 draw-edge-requires-3 t c κs =
     let at = c .before .before .before .before in
-    let a = start t at .args in
-    let v = c .before .before .c4 .given in
-    let g = v .0 .0 in let p = v .0 .1 .0 in
-    first-room (edgeStrip (a .a) (a .fresh) 2 g (a .fresh + 1)) (strip (tree t at p) (a .fresh) (a .b)) (strip-grows (tree t at p) (a .fresh) (a .b)) (room t at (v .1))
+    let told = c .before .before .c4 .given .1 in
+    first t at told
 
 draw-part-requires-5 : (t : ℕ) → lts.Need-draw-part-requires-5 (claims t) (draw-part-at t) draw-part.Post
-unfolding drawnAs floor
+unfolding firstAs restAs floor
 draw-part-requires-5 t c κs =
     let at = c .before .before .before .before .before .before .before .before in
-    let a = start t at .args in
-    let v = c .before .before .before .before .before .before .c4 .given in
-    let g = v .0 .0 in let p = v .0 .1 .0 in
-    (omega (arith, lower t at (v .1)), second-room (edgeStrip (a .a) (a .fresh) 2 g (a .fresh + 1)) (strip (tree t at p) (a .fresh) (a .b)) (room t at (v .1)) (c .before .before .before .draw-edge3 .ensures) (c .before .before .before .draw-edge3 .kept .0))
+    let told = c .before .before .before .before .before .before .c4 .given .1 in
+    (omega (arith, lower t at told), second t at told (c .before .before .before .draw-edge3 .ensures) (c .before .before .before .draw-edge3 .kept .0))
 
 enum-known-c-5 : (t : ℕ) → lts.Need-enum-known-c-5 (claims t) (draw-part-at t) draw-part.Post
 enum-known-c-5 t c = search needs
 
 draw-part-requires-6 : (t : ℕ) → lts.Need-draw-part-requires-6 (claims t) (draw-part-at t) draw-part.Post
-unfolding drawnAs floor
+unfolding firstAs restAs floor
 draw-part-requires-6 t c κs =
     let at = c .before .before .before .before in
-    let a = start t at .args in
-    let v = c .before .before .c5 .given in
-    let p = v .0 .0 in let q = v .0 .1 .0 in
-    (omega (arith, lower t at (v .1)), first-room (strip (tree t at p) (a .a) (a .b) (a .fresh)) (strip (tree t at q) (a .a) (a .b)) (strip-grows (tree t at q) (a .a) (a .b)) (room t at (v .1)))
+    let told = c .before .before .c5 .given .1 in
+    (omega (arith, lower t at told), first t at told)
 
 draw-part-requires-7 : (t : ℕ) → lts.Need-draw-part-requires-7 (claims t) (draw-part-at t) draw-part.Post
-unfolding drawnAs floor
+unfolding firstAs restAs floor
 draw-part-requires-7 t c κs =
     let at = c .before .before .before .before .before .before .before .before in
-    let a = start t at .args in
-    let v = c .before .before .before .before .before .before .c5 .given in
-    let p = v .0 .0 in let q = v .0 .1 .0 in
-    (omega (arith, lower t at (v .1)), second-room (strip (tree t at p) (a .a) (a .b) (a .fresh)) (strip (tree t at q) (a .a) (a .b)) (room t at (v .1)) (c .before .before .before .draw-part6 .ensures) (c .before .before .before .draw-part6 .kept .1 .1 .1 .1 .1 .1 .1 .0))
+    let told = c .before .before .before .before .before .before .c5 .given .1 in
+    (omega (arith, lower t at told), second t at told (c .before .before .before .draw-part6 .ensures) (c .before .before .before .draw-part6 .kept .1 .1 .1 .1 .1 .1 .1 .0))
 
 same-length : (t : ℕ) → lts.Need-same-length (claims t) (draw-part-at t) draw-part.Post
 same-length t c = c .before .before .draw-edge .kept .0
 
 returns : (t : ℕ) → lts.Need-returns (claims t) (draw-part-at t) draw-part.Post
-unfolding drawnAs
-returns t c = drawn t (c .before .before .before .before .before .before) (c .before .before .before .before .enum-told .given .1) (c .before .before .draw-edge .ensures)
+unfolding firstAs restAs
+returns t c = only t (c .before .before .before .before .before .before) (c .before .before .before .before .enum-told .given .1) refl (c .before .before .draw-edge .ensures)
 
 same-length-2 : (t : ℕ) → lts.Need-same-length-2 (claims t) (draw-part-at t) draw-part.Post
 same-length-2 t c = c .before .before .draw-part2 .kept .1 .1 .1 .1 .1 .1 .1 .0 ∙ c .before .before .before .before .before .before .draw-part .kept .1 .1 .1 .1 .1 .1 .1 .0
 
 returns-2 : (t : ℕ) → lts.Need-returns-2 (claims t) (draw-part-at t) draw-part.Post
-unfolding drawnAs
+unfolding firstAs restAs
 returns-2 t c =
     let at = c .before .before .before .before .before .before .before .before .before .before .before in
-    let a = start t at .args in
-    let v = c .before .before .before .before .before .before .before .before .before .c .given in
-    let p = v .0 .0 in let q = v .0 .1 .0 in
-    drawn t at (v .1) (both-drawn (strip (tree t at p) (a .a) (a .fresh) (a .fresh + 1)) (strip (tree t at q) (a .fresh) (a .b)) (room t at (v .1)) (c .before .before .before .before .before .before .draw-part .ensures) (c .before .before .draw-part2 .ensures))
+    let told = c .before .before .before .before .before .before .before .before .before .c .given .1 in
+    both t at told (c .before .before .before .before .before .before .draw-part .ensures) (c .before .before .draw-part2 .ensures)
 
 same-length-3 : (t : ℕ) → lts.Need-same-length-3 (claims t) (draw-part-at t) draw-part.Post
 same-length-3 t c = c .before .before .draw-part3 .kept .1 .1 .1 .1 .1 .1 .1 .0
 
 returns-3 : (t : ℕ) → lts.Need-returns-3 (claims t) (draw-part-at t) draw-part.Post
-unfolding drawnAs
+unfolding firstAs restAs
 returns-3 t c =
     let at = c .before .before .before .before .before .before .before in
-    let a = start t at .args in
-    let v = c .before .before .before .before .before .c2 .given in
-    drawn t at (v .1) (c .before .before .draw-part3 .ensures)
+    let told = c .before .before .before .before .before .c2 .given .1 in
+    only t at told refl (c .before .before .draw-part3 .ensures)
 
 same-length-4 : (t : ℕ) → lts.Need-same-length-4 (claims t) (draw-part-at t) draw-part.Post
 same-length-4 t c = c .before .before .draw-edge2 .kept .0 ∙ c .before .before .before .before .before .before .draw-part4 .kept .1 .1 .1 .1 .1 .1 .1 .0
 
 returns-4 : (t : ℕ) → lts.Need-returns-4 (claims t) (draw-part-at t) draw-part.Post
-unfolding drawnAs
+unfolding firstAs restAs
 returns-4 t c =
     let at = c .before .before .before .before .before .before .before .before .before .before .before in
-    let a = start t at .args in
-    let v = c .before .before .before .before .before .before .before .before .before .c3 .given in
-    let p = v .0 .0 in
-    drawn t at (v .1) (both-drawn (strip (tree t at p) (a .a) (a .a) (a .fresh)) (edgeStrip (a .a) (a .b) 3 p) (room t at (v .1)) (c .before .before .before .before .before .before .draw-part4 .ensures) (c .before .before .draw-edge2 .ensures))
+    let told = c .before .before .before .before .before .before .before .before .before .c3 .given .1 in
+    both t at told (c .before .before .before .before .before .before .draw-part4 .ensures) (c .before .before .draw-edge2 .ensures)
 
 same-length-5 : (t : ℕ) → lts.Need-same-length-5 (claims t) (draw-part-at t) draw-part.Post
 same-length-5 t c = c .before .before .draw-part5 .kept .1 .1 .1 .1 .1 .1 .1 .0 ∙ c .before .before .before .before .before .before .draw-edge3 .kept .0
 
 returns-5 : (t : ℕ) → lts.Need-returns-5 (claims t) (draw-part-at t) draw-part.Post
-unfolding drawnAs
+unfolding firstAs restAs
 returns-5 t c =
     let at = c .before .before .before .before .before .before .before .before .before .before .before in
-    let a = start t at .args in
-    let v = c .before .before .before .before .before .before .before .before .before .c4 .given in
-    let g = v .0 .0 in let p = v .0 .1 .0 in
-    drawn t at (v .1) (both-drawn (edgeStrip (a .a) (a .fresh) 2 g (a .fresh + 1)) (strip (tree t at p) (a .fresh) (a .b)) (room t at (v .1)) (c .before .before .before .before .before .before .draw-edge3 .ensures) (c .before .before .draw-part5 .ensures))
+    let told = c .before .before .before .before .before .before .before .before .before .c4 .given .1 in
+    both t at told (c .before .before .before .before .before .before .draw-edge3 .ensures) (c .before .before .draw-part5 .ensures)
 
 same-length-6 : (t : ℕ) → lts.Need-same-length-6 (claims t) (draw-part-at t) draw-part.Post
 same-length-6 t c = c .before .before .draw-part7 .kept .1 .1 .1 .1 .1 .1 .1 .0 ∙ c .before .before .before .before .before .before .draw-part6 .kept .1 .1 .1 .1 .1 .1 .1 .0
 
 returns-6 : (t : ℕ) → lts.Need-returns-6 (claims t) (draw-part-at t) draw-part.Post
-unfolding drawnAs
+unfolding firstAs restAs
 returns-6 t c =
     let at = c .before .before .before .before .before .before .before .before .before .before .before in
-    let a = start t at .args in
-    let v = c .before .before .before .before .before .before .before .before .before .c5 .given in
-    let p = v .0 .0 in let q = v .0 .1 .0 in
-    drawn t at (v .1) (both-drawn (strip (tree t at p) (a .a) (a .b) (a .fresh)) (strip (tree t at q) (a .a) (a .b)) (room t at (v .1)) (c .before .before .before .before .before .before .draw-part6 .ensures) (c .before .before .draw-part7 .ensures))
+    let told = c .before .before .before .before .before .before .before .before .before .c5 .given .1 in
+    both t at told (c .before .before .before .before .before .before .draw-part6 .ensures) (c .before .before .draw-part7 .ensures)
 
 pub +draw-part-spec : {M : Type 1} → statement M
 +draw-part-spec =

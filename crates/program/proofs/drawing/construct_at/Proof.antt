@@ -1,7 +1,7 @@
 -- `program::drawing::construct_at` meets its contract.
 use borrow.Author.Needs.{needs}
 use borrow.Author.Tests.{lt-ltb, le-ltb}
-use Rattle.program.specs.Drawing.{constructOf, constructBy}
+use Rattle.program.specs.DrawingParts.{constructOf, constructBy}
 use Rattle.program.proofs.Strips.{leaf-kind}
 use Rattle.program.proofs.drawing.construct_at.Statement.{statement}
 use Rattle.program.proofs.drawing.construct_at.Tie as tie

@@ -1,7 +1,7 @@
 -- `program::drawing::draw_edge` meets its contract.
 use borrow.Author.Needs.{needs}
 use mathlib.Core.Path.{refl}
-use Rattle.program.specs.Drawing.{edgeStrip, edgeRow}
+use Rattle.program.specs.DrawingParts.{edgeStrip, edgeRow}
 use Rattle.program.specs.Graph.{wordBytes}
 use Rattle.program.proofs.drawing.draw_edge.Statement.{statement}
 use Rattle.program.proofs.drawing.draw_edge.Tie as tie

@@ -1,12 +1,9 @@
-use mathlib.Core.Path.{_≡_, refl}
-use Rattle.program.specs.Drawing.{drawnBy, drawnBufferBy}
+-- `program::drawing::draw_edges_valid` meets its contract.
 use borrow.Author.Needs.{needs}
+use mathlib.Core.Path.{refl}
+use Rattle.program.specs.Drawing.{drawnBy, drawnBufferBy}
 use Rattle.program.proofs.drawing.draw_edges_valid.Statement.{statement}
 use Rattle.program.proofs.drawing.draw_edges_valid.Tie as tie
-use Rattle.program.proofs.drawing.draw_edges_valid.Reads as reads
-use Rattle.program.proofs.drawing.draw_edges_valid.Lts as lts
-use Rattle.program.proofs.drawing.draw_program.Reads as draw-program-reads
-use Rattle.program.proofs.drawing.refused.Reads as refused-reads
 
 enum-told : tie.Need-enum-told
 enum-told c = search needs
@@ -24,11 +21,14 @@ returns : tie.Need-returns
 unfolding drawnBy drawnBufferBy
 returns c =
     let d = c .draw-program .ensures in
-    rw (c .before .before .enum-told .given .1) (cc (d .nodes, d .edges), d .buffer)
+    let start = c .before .before .before .before .before in
+    rw (← start .pre, c .before .before .enum-told .given .1) (cc (d .nodes, d .edges), d .buffer)
 
 returns-2 : tie.Need-returns-2
 unfolding drawnBy drawnBufferBy
-returns-2 c = rw (c .before .before .v .given .1) (c .refused .ensures, refl)
+returns-2 c =
+    let start = c .before .before .before .before .before in
+    rw (← start .pre, c .before .before .v .given .1) (c .refused .ensures, refl)
 
 pub draw-edges-valid-spec : {M : Type 1} → statement M
 draw-edges-valid-spec =

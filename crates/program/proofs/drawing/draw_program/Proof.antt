@@ -2,7 +2,7 @@
 use borrow.Author.Needs.{needs}
 use mathlib.Core.Path.{_≡_}
 use native.Mathlib.Omega.{arith}
-use Rattle.program.specs.Drawing.{overAt}
+use Rattle.program.specs.DrawingParts.{overAt}
 use Rattle.program.specs.Graph.{edgeCount}
 use Rattle.program.proofs.Counts.{few-edges}
 use Rattle.program.proofs.Drawings.{program-room, drew-program, graph-length}
