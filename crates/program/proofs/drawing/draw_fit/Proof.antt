@@ -65,7 +65,7 @@ returns-2 c =
     let end = 7 * c .before .before .before .before .before .before .long .result in
     let copied = ap (take end) (d .ensures .buffer) ∙ take-over (graphBytes s) _ end (omega (arith, graph-length s)) in
     rw (long-enough s b (start .pre) (omega arith))
-    (cc (d .ensures .nodes, count), c .before .before .copy-front .ensures ∙ ap (λ x. over x b) copied)
+    (rw (d .ensures .nodes, count), c .before .before .copy-front .ensures ∙ ap (λ x. over x b) copied)
 
 pub draw-fit-spec : {M : Type 1} → statement M
 draw-fit-spec =

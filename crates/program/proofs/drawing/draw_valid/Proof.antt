@@ -12,7 +12,7 @@ enum-told : tie.Need-enum-told
 enum-told c = search needs
 
 draw-fit-requires : tie.Need-draw-fit-requires
-draw-fit-requires c κs = cc
+draw-fit-requires c κs = sym (c .before .before .before .before .before .pre) ∙ c .before .enum-told .given .1
 
 enum-known-v : tie.Need-enum-known-v
 enum-known-v c = search needs

@@ -33,7 +33,7 @@ word-at-requires-3 c κs = search needs
 
 returns : tie.Need-returns
 unfolding edgeRead
-returns c = cc
+returns c = rw (c .before .before .before .word-at .ensures, c .before .before .word-at2 .ensures, c .before .byte-at .ensures, c .word-at3 .ensures, c .before .before .before .before .long .ensures)
 
 pub edge-at-spec : {M : Type 1} → statement M
 edge-at-spec =
