@@ -16,5 +16,8 @@ pub mod Sorting
 pub mod Nodes
 pub mod Actions
 pub mod Counts
+pub mod Strips
+pub mod Drawings
+pub mod EdgeReading
 pub mod Open
 pub mod Examples

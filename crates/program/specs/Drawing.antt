@@ -1,12 +1,14 @@
 -- What drawing the graph of a file into a buffer replies, and what the buffer holds afterwards (document 01, "Questions asked", 13).
-use Prim.Native.Nat.{ℕ, _*_}
+use Prim.Native.Nat.{ℕ, _+_, _*_}
 use mathlib.Core.List.{List, [], _∷_, _++_}
 use lib.Dec.{leb}
 use lib.ListN.{length, drop}
 use Rattle.program.specs.Asking.{askPlain, thenAsk, validityNumbers}
-use Rattle.program.specs.Graph.{edgeCount, nodeCount, graphBytes}
+use Rattle.program.specs.File.{byteAt, wordAt}
+use Rattle.program.specs.Graph.{Edge, actionKind, actionEntry, edgeCount, nodeCount, graphBytes}
 use Rattle.program.specs.Questions.{validity}
 use Rattle.program.specs.declared.Drawn.{Drawn}
+use Rattle.program.specs.declared.EdgeBytes.{EdgeBytes}
 use Rattle.program.specs.declared.Validity.{Validity}
 use Rattle.program.specs.declared.Validity.the-variants.{Fit, Refused}
 
@@ -37,3 +39,23 @@ drawnBuffer s buffer = drawnBufferBy s buffer (drawValidity s buffer)
 -- a reply in document 01's numbers: the validity's, then nodes and edges
 unfoldable pub drawnNumbers : Drawn → List ℕ
 drawnNumbers d = validityNumbers (d .validity) ++ (d .nodes ∷ d .edges ∷ [])
+
+-- what stands at edge k of such bytes
+unfoldable pub edgeRead : List ℕ → ℕ → EdgeBytes
+edgeRead bytes k =
+    record {
+      source = wordAt bytes (7 * k);
+      target = wordAt bytes (7 * k + 2);
+      kind = byteAt bytes (7 * k + 4);
+      entry = wordAt bytes (7 * k + 5);
+    }
+
+-- the numbers that an edge's bytes are of
+unfoldable pub edgeNumbers : Edge → EdgeBytes
+edgeNumbers e =
+    record {
+      source = e .source;
+      target = e .target;
+      kind = actionKind (e .action);
+      entry = actionEntry (e .action);
+    }

@@ -8,4 +8,5 @@ pub mod Tree
 pub mod Graph
 pub mod Sorted
 pub mod Drawing
+pub mod DrawingParts
 pub mod Examples

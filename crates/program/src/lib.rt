@@ -1,5 +1,6 @@
 // Script and graph: a program file read and validated, its syntax trees, and its program graph.
 
+pub mod drawing;
 pub mod file;
 pub mod kinds;
 pub mod validation;
@@ -80,4 +81,12 @@ pub struct Drawn {
     pub validity: Validity,
     pub nodes: u16,
     pub edges: u16,
+}
+
+// The four numbers of an edge, as its bytes give them: source and target, the action's kind and its entry.
+pub struct EdgeBytes {
+    pub source: u16,
+    pub target: u16,
+    pub kind: u8,
+    pub entry: u16,
 }

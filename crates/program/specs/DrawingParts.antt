@@ -1,0 +1,80 @@
+-- What the drawing's own functions promise each other: a part of the graph as bytes. No public contract cites these.
+use Prim.Native.Nat.{ℕ, _+_, _≤_, _<_}
+use mathlib.Core.Path.{_≡_}
+use mathlib.Core.Bool.{cond}
+use mathlib.Core.List.{List, [], _∷_, _++_}
+use lib.Dec.{ltb}
+use lib.ListN.{length, take, drop, getD}
+use Rattle.signs.specs.Lists.{concatMap}
+use Rattle.program.specs.Drawing.{over}
+use Rattle.program.specs.File.{entry}
+use Rattle.program.specs.Graph.{part, wordBytes, edgeBytes, edgeCount, nodeCount, graphBytes}
+use Rattle.program.specs.Syntax.{Command}
+use Rattle.program.specs.Tree.{commandBelow, commandTrees}
+use Rattle.program.specs.declared.Entry.{Entry}
+use Rattle.program.specs.declared.Table.the-variants.{Commands}
+use Rattle.program.specs.declared.drawing.Construct.{Construct}
+use Rattle.program.specs.declared.drawing.Construct.the-variants.{Leaf, Sequence, Conditional, Iteration, Guarded, Choice}
+use Rattle.program.specs.declared.drawing.Counts.{Counts}
+use Rattle.program.specs.declared.drawing.Pen.{Pen}
+
+-- the bytes over a buffer from a place on
+unfoldable pub overAt : ℕ → List ℕ → List ℕ → List ℕ
+overAt at bytes buffer = take at buffer ++ over bytes (drop at buffer)
+
+-- an edge's bytes by its four numbers
+unfoldable pub edgeRow : ℕ → ℕ → ℕ → ℕ → List ℕ
+edgeRow source target kind entry = wordBytes source ++ wordBytes target ++ (kind ∷ []) ++ wordBytes entry
+
+-- a command's edges as bytes, and the next fresh node
+pub record Strip : Type 0 where
+  pub bytes : List ℕ
+  pub fresh : ℕ
+
+unfoldable pub strip : Command → ℕ → ℕ → ℕ → Strip
+strip c a b n = record { bytes = concatMap edgeBytes (part c a b n .edges); fresh = part c a b n .fresh }
+
+-- what drawing such a part does: the bytes over the buffer from a place on, and the next fresh node and place
+pub record Drew (x : Strip) (at : ℕ) (before after : List ℕ) (r : Pen) : Type 0 where
+  pub buffer : after ≡ overAt at (x .bytes) before
+  pub fresh : r .fresh ≡ x .fresh
+  pub next : r .at ≡ at + length (x .bytes)
+
+-- what drawing the whole graph does: its bytes over the start of the buffer, and the counts
+pub record DrewAll (s before after : List ℕ) (r : Counts) : Type 0 where
+  pub buffer : after ≡ over (graphBytes s) before
+  pub nodes : r .nodes ≡ nodeCount s
+  pub edges : r .edges ≡ edgeCount s
+
+-- what drawing a part needs: room for the bytes, and numbers for the nodes
+pub record Room (x : Strip) (at size : ℕ) : Type 0 where
+  pub bytes-fit : at + length (x .bytes) ≤ size
+  pub nodes-fit : x .fresh < 65536
+
+-- what the drawing of a command goes by: its kind, and the entries of its parts
+unfoldable pub constructBy : Entry → Construct
+constructBy e =
+    getD
+    (Leaf
+    ∷ Leaf
+    ∷ Leaf
+    ∷ Sequence (e .p) (e .q)
+    ∷ Conditional (e .p)
+    ∷ Iteration (e .p)
+    ∷ Guarded (e .p) (e .q)
+    ∷ Choice (e .p) (e .q)
+    ∷ [])
+    (e .kind)
+    Leaf
+
+-- the same of entry n, as a part of entry bound: a reference that is not lower is a leaf
+unfoldable pub constructOf : List ℕ → ℕ → ℕ → Construct
+constructOf s bound n = cond (ltb n bound) (constructBy (entry s Commands n)) Leaf
+
+-- one edge of given numbers
+unfoldable pub edgeStrip : ℕ → ℕ → ℕ → ℕ → ℕ → Strip
+edgeStrip a b kind k n = record { bytes = edgeRow a b kind k; fresh = n }
+
+-- the tree that entry n is as a part of entry bound
+abbrev pub partAt : List ℕ → ℕ → ℕ → Command
+partAt s bound n = commandBelow (commandTrees s bound) n

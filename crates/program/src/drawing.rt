@@ -1,0 +1,274 @@
+// The program graph written as bytes, seven for each edge.
+
+ghost use mathlib.Core.Path.{_≡_};
+ghost use mathlib.Core.List.{_∷_, []};
+ghost use Prim.Native.Nat.{ℕ, _<_, _≤_, _+_, _*_, _/_, _%_};
+ghost use lib.ListN.{length, take};
+ghost use Rattle.program.specs.Drawing.{drawnBy, drawn, over, drawnBufferBy, drawnBuffer, edgeRead};
+ghost use Rattle.program.specs.DrawingParts.{overAt, edgeRow, strip, edgeStrip, constructOf, partAt, Room, Drew, DrewAll};
+ghost use Rattle.program.specs.Graph.{wordBytes};
+ghost use Rattle.program.specs.Questions.{validity};
+ghost use Rattle.program.specs.declared.Validity.the-variants.{Fit, Refused};
+use crate::Drawn;
+use crate::EdgeBytes;
+use crate::Refusal;
+use crate::Table;
+use crate::Validity;
+use crate::file;
+use crate::validation;
+
+// What the drawing of a command goes by: its construct, and the entries of its parts.
+enum Construct {
+    Leaf,
+    Sequence(u16, u16),
+    Conditional(u16),
+    Iteration(u16),
+    Guarded(u16, u16),
+    Choice(u16, u16),
+}
+
+// How far a drawing has come: the next fresh node, and the place of the next edge in the buffer.
+struct Pen {
+    fresh: u16,
+    at: usize,
+}
+
+// The numbers of nodes and edges.
+struct Counts {
+    nodes: u16,
+    edges: u16,
+}
+
+fn high(x: u16) -> u8
+    ensures { λ r. ⌜ r ≡ x / 256 % 256 ⌝ }
+{
+    (x / 256 % 256) as u8
+}
+
+fn low(x: u16) -> u8
+    ensures { λ r. ⌜ r ≡ x % 256 ⌝ }
+{
+    (x % 256) as u8
+}
+
+fn put_byte(buffer: &mut [u8], at: usize, x: u8)
+    requires { ⌜ at + 1 ≤ length (now buffer) ⌝ }
+    ensures { λ _. ⌜ now (buffer .exit) ≡ overAt at (x ∷ []) (now (buffer .entry)) ⌝ }
+{
+    buffer[at] = x;
+}
+
+fn put_word(buffer: &mut [u8], at: usize, x: u16)
+    requires { ⌜ at + 2 ≤ length (now buffer) ⌝ }
+    ensures { λ _. ⌜ now (buffer .exit) ≡ overAt at (wordBytes x) (now (buffer .entry)) ⌝ }
+{
+    put_byte(buffer, at, high(x));
+    put_byte(buffer, at + 1, low(x));
+}
+
+// An edge's seven bytes, at a place that has room for them.
+fn put_edge(buffer: &mut [u8], at: usize, source: u16, target: u16, kind: u8, entry: u16)
+    requires { ⌜ at + 7 ≤ length (now buffer) ⌝ }
+    ensures { λ _. ⌜ now (buffer .exit) ≡ overAt at (edgeRow source target kind entry) (now (buffer .entry)) ⌝ }
+{
+    put_word(buffer, at, source);
+    put_word(buffer, at + 2, target);
+    put_byte(buffer, at + 4, kind);
+    put_word(buffer, at + 5, entry);
+}
+
+// The same, as a part of a drawing.
+fn draw_edge(
+    buffer: &mut [u8],
+    at: usize,
+    source: u16,
+    target: u16,
+    kind: u8,
+    entry: u16,
+    fresh: u16,
+) -> Pen
+    requires { ⌜ Room (edgeStrip source target kind entry fresh) at (length (now buffer)) ⌝ }
+    ensures { λ r. ⌜ Drew (edgeStrip source target kind entry fresh) at (now (buffer .entry)) (now (buffer .exit)) r ⌝ }
+{
+    put_edge(buffer, at, source, target, kind, entry);
+    Pen { fresh, at: at + 7 }
+}
+
+// How entry `n` is drawn as a part of entry `bound`: a reference that is not lower is a leaf.
+fn construct_at(s: &[u8], bound: u16, n: u16) -> Construct
+    ensures { λ r. ⌜ r ≡ constructOf (now (s .entry)) bound n ⌝ }
+{
+    if bound <= n {
+        return Construct::Leaf;
+    }
+    let e = file::entry(s, Table::Commands, n);
+    let kind = e.kind;
+    match kind {
+        3 => Construct::Sequence(e.p, e.q),
+        4 => Construct::Conditional(e.p),
+        5 => Construct::Iteration(e.p),
+        6 => Construct::Guarded(e.p, e.q),
+        7 => Construct::Choice(e.p, e.q),
+        _ => Construct::Leaf,
+    }
+}
+
+// The edges of entry `n`, a part of entry `bound`, from node `a` to node `b`.
+fn draw_part(
+    s: &[u8],
+    bound: u16,
+    n: u16,
+    a: u16,
+    b: u16,
+    fresh: u16,
+    at: usize,
+    buffer: &mut [u8],
+) -> Pen
+    requires { ⌜ Room (strip (partAt (now s) bound n) a b fresh) at (length (now buffer)) ⌝ }
+    ensures { λ r. ⌜ Drew (strip (partAt (now (s .entry)) bound n) a b fresh) at (now (buffer .entry)) (now (buffer .exit)) r ⌝ }
+{
+    let c = construct_at(s, bound, n);
+    match c {
+        Construct::Leaf => draw_edge(buffer, at, a, b, 1, n, fresh),
+        Construct::Sequence(p, q) => {
+            let first = draw_part(s, n, p, a, fresh, fresh + 1, at, buffer);
+            draw_part(s, n, q, fresh, b, first.fresh, first.at, buffer)
+        }
+        Construct::Conditional(p) => draw_part(s, n, p, a, b, fresh, at, buffer),
+        Construct::Iteration(p) => {
+            let body = draw_part(s, n, p, a, a, fresh, at, buffer);
+            draw_edge(buffer, body.at, a, b, 3, p, body.fresh)
+        }
+        Construct::Guarded(g, p) => {
+            let guard = draw_edge(buffer, at, a, fresh, 2, g, fresh + 1);
+            draw_part(s, n, p, fresh, b, guard.fresh, guard.at, buffer)
+        }
+        Construct::Choice(p, q) => {
+            let first = draw_part(s, n, p, a, b, fresh, at, buffer);
+            draw_part(s, n, q, a, b, first.fresh, first.at, buffer)
+        }
+    }
+}
+
+// How many edges so many bytes are.
+fn edges_in(end: usize) -> u16
+    requires { ⌜ end < 65536 ⌝ }
+    ensures { λ r. ⌜ r ≡ end / 7 ⌝ }
+{
+    (end / 7) as u16
+}
+
+// The edges of a well-formed program: there are at most 255.
+fn draw_program(s: &[u8], edges: &mut [u8; 1785]) -> Counts
+    requires { ⌜ validity (now s) ≡ Fit ⌝ }
+    ensures { λ r. ⌜ DrewAll (now (s .entry)) (now (edges .entry)) (now (edges .exit)) r ⌝ }
+{
+    let bound = file::entry_count(s, Table::Commands);
+    let pen = draw_part(s, bound, bound - 1, 0, 1, 2, 0, edges);
+    Counts {
+        nodes: pen.fresh,
+        edges: edges_in(pen.at),
+    }
+}
+
+// The first `end` bytes over the start of a buffer.
+fn copy_front(buffer: &mut [u8], bytes: &[u8], end: usize)
+    requires { ⌜ (end ≤ length (now bytes)) × (end ≤ length (now buffer)) ⌝ }
+    ensures { λ _. ⌜ now (buffer .exit) ≡ over (take end (now (bytes .entry))) (now (buffer .entry)) ⌝ }
+{
+    let mut i: usize = 0;
+    while i < end {
+        buffer[i] = bytes[i];
+        i += 1;
+    }
+}
+
+fn refused(x: Refusal) -> Drawn
+    ensures { λ r. ⌜ r ≡ record { validity = Refused x; nodes = 0; edges = 0 } ⌝ }
+{
+    Drawn {
+        validity: Validity::Refused(x),
+        nodes: 0,
+        edges: 0,
+    }
+}
+
+// Question 13 of a well-formed program. Its edges are drawn aside first: a buffer that is too short stays as it is.
+fn draw_fit(s: &[u8], buffer: &mut [u8]) -> Drawn
+    requires { ⌜ validity (now s) ≡ Fit ⌝ }
+    ensures { λ r. ⌜ (r ≡ drawn (now (s .entry)) (now (buffer .entry))) × (now (buffer .exit) ≡ drawnBuffer (now (s .entry)) (now (buffer .entry))) ⌝ }
+{
+    let mut edges = [0u8; 1785];
+    let counts = draw_program(s, &mut edges);
+    let end = 7 * file::long(counts.edges);
+    if buffer.len() < end {
+        return refused(Refusal {
+            number: 13,
+            offset: 0,
+        });
+    }
+    copy_front(buffer, &edges, end);
+    Drawn {
+        validity: Validity::Fit,
+        nodes: counts.nodes,
+        edges: counts.edges,
+    }
+}
+
+// The graph of a file of known validity, drawn into a buffer.
+fn draw_valid(s: &[u8], buffer: &mut [u8], v: Validity) -> Drawn
+    requires { ⌜ v ≡ validity (now s) ⌝ }
+    ensures { λ r. ⌜ (r ≡ drawn (now (s .entry)) (now (buffer .entry))) × (now (buffer .exit) ≡ drawnBuffer (now (s .entry)) (now (buffer .entry))) ⌝ }
+{
+    match v {
+        Validity::Fit => draw_fit(s, buffer),
+        Validity::Refused(x) => refused(x),
+    }
+}
+
+// The same into an array that every graph fits, so that 13 is not asked.
+fn draw_edges_valid(s: &[u8], edges: &mut [u8; 1785], v: Validity) -> Drawn
+    requires { ⌜ v ≡ validity (now s) ⌝ }
+    ensures { λ r. ⌜ (r ≡ drawnBy (now (s .entry)) (validity (now (s .entry)))) × (now (edges .exit) ≡ drawnBufferBy (now (s .entry)) (now (edges .entry)) (validity (now (s .entry)))) ⌝ }
+{
+    match v {
+        Validity::Fit => {
+            let counts = draw_program(s, edges);
+            Drawn {
+                validity: Validity::Fit,
+                nodes: counts.nodes,
+                edges: counts.edges,
+            }
+        }
+        Validity::Refused(x) => refused(x),
+    }
+}
+
+// Draws the graph of a program file: the edges' bytes over the start of the buffer.
+pub fn draw(s: &[u8], buffer: &mut [u8]) -> Drawn
+    ensures { λ r. ⌜ (r ≡ drawn (now (s .entry)) (now (buffer .entry))) × (now (buffer .exit) ≡ drawnBuffer (now (s .entry)) (now (buffer .entry))) ⌝ }
+{
+    let v = validation::validate(s);
+    draw_valid(s, buffer, v)
+}
+
+// The same into an array that every graph fits, so that 13 is not asked.
+pub fn draw_edges(s: &[u8], edges: &mut [u8; 1785]) -> Drawn
+    ensures { λ r. ⌜ (r ≡ drawnBy (now (s .entry)) (validity (now (s .entry)))) × (now (edges .exit) ≡ drawnBufferBy (now (s .entry)) (now (edges .entry)) (validity (now (s .entry)))) ⌝ }
+{
+    let v = validation::validate(s);
+    draw_edges_valid(s, edges, v)
+}
+
+// Edge `k` of such bytes.
+pub fn edge_at(bytes: &[u8], k: u16) -> EdgeBytes
+    ensures { λ r. ⌜ r ≡ edgeRead (now (bytes .entry)) k ⌝ }
+{
+    let at = 7 * file::long(k);
+    EdgeBytes {
+        source: file::word_at(bytes, at),
+        target: file::word_at(bytes, at + 2),
+        kind: file::byte_at(bytes, at + 4),
+        entry: file::word_at(bytes, at + 5),
+    }
+}
