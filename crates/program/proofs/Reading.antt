@@ -1,10 +1,10 @@
 -- What stands past the end of a file reads as zero; and the counts in a layout.
-use mathlib.Core.Path.{_≡_, ap}
+use mathlib.Core.Path.{_≡_, refl, ap}
 use mathlib.Core.List.{List}
-use Prim.Native.Nat.{ℕ, _+_, _*_, _≤_}
+use Prim.Native.Nat.{ℕ, suc, _+_, _*_, _≤_}
 use native.Mathlib.Omega.{arith}
 use lib.ListN.{length, List·getD-eq-default}
-use Rattle.program.specs.File.{byteAt, wordAt, entryAt, layoutOf, spanOf, nameCount, entryCount}
+use Rattle.program.specs.File.{byteAt, wordAt, contentLength, nextField, fieldStart, entryAt, layoutOf, spanOf, nameCount, entryCount}
 use Rattle.program.specs.declared.Layout.{Layout}
 use Rattle.program.specs.declared.Table.the-variants.{Arithmetic, Boolean, Commands}
 
@@ -20,6 +20,11 @@ pub entry-past : (s : List ℕ) (i : ℕ) → length s ≤ i → record { kind =
 unfolding entryAt
 entry-past s i h =
     rw (byte-past s i h, word-past s (i + 1) (omega arith), word-past s (i + 3) (omega arith), word-past s (i + 5) (omega arith))
+
+-- a field starts after the head and the content of the one before it
+pub field-next : (s : List ℕ) (k : ℕ) → fieldStart s (suc k) ≡ fieldStart s k + 3 + contentLength s (fieldStart s k)
+unfolding fieldStart nextField
+field-next s k = refl
 
 -- the counts that a file's layout holds
 pub record LayoutCounts (s : List ℕ) (l : Layout) : Type 0 where

@@ -1,7 +1,8 @@
 // Questions 1 to 11 of a program file.
 
 ghost use mathlib.Core.Path.{_≡_};
-ghost use Prim.Native.Nat.{_<_, _≤_, _+_};
+ghost use Prim.Native.Nat.{_<_, _≤_, _+_, _-_};
+ghost use lib.ListN.{take, drop};
 ghost use Rattle.program.specs.Counting.{capacity, UsesIn};
 ghost use mathlib.Core.Bool.{_&&_};
 ghost use lib.Dec.{leb};
@@ -9,7 +10,7 @@ ghost use Rattle.program.specs.Asking.{ask, isRefused, askEach};
 ghost use Rattle.program.specs.File.{layoutOf, spanOf, Near, nameCount, entryCount, entryOffset, entry, programFields};
 ghost use Rattle.program.specs.declared.Table.the-variants.{Commands};
 ghost use Rattle.program.specs.declared.Validity.the-variants.{Fit};
-ghost use Rattle.program.specs.Questions.{wholeEntries, headValidity, headsValidity, endValidity, nameValidity, named, sameTable, limit, ofSort, points, eachOperand, shapeValidity, entryValidity, tableValidity, useValidity, lastValidity, usesValidity, contentValidity, validity, inputValidity};
+ghost use Rattle.program.specs.Questions.{wholeEntries, headValidity, headsValidity, endValidity, nameValidity, named, sameTable, limit, ofSort, points, eachOperand, shapeValidity, entryValidity, tableValidity, useValidity, lastValidity, usesValidity, contentValidity, validity, inputValidity, programPart, initialPart};
 use crate::Entry;
 use crate::Layout;
 use crate::Refusal;
@@ -444,4 +445,35 @@ pub fn validate_input(s: &[u8]) -> Validity
         return end;
     }
     check_content(s)
+}
+
+// The program's part of the sheet program's input: its first four fields.
+pub fn program_part<'a>(s: &'a [u8]) -> &'a [u8]
+    ensures { λ r. ⌜ now r ≡ programPart (now (s .entry)) ⌝ }
+{
+    part(s, 0, file::field_start(s, 4))
+}
+
+// The start list in the sheet program's input: the content of its fifth field.
+pub fn initial_part<'a>(s: &'a [u8]) -> &'a [u8]
+    ensures { λ r. ⌜ now r ≡ initialPart (now (s .entry)) ⌝ }
+{
+    let start = file::field_start(s, 4) + 3;
+    let end = file::field_start(s, 5);
+    part(s, start, end)
+}
+
+// The bytes from `start` to `end`, as far as they are there.
+fn part<'a>(s: &'a [u8], start: usize, end: usize) -> &'a [u8]
+    requires { ⌜ start ≤ end ⌝ }
+    ensures { λ r. ⌜ now r ≡ take (end - start) (drop start (now (s .entry))) ⌝ }
+{
+    if s.len() <= start {
+        return &s[..0];
+    }
+    if end <= s.len() {
+        &s[start..end]
+    } else {
+        &s[start..]
+    }
 }

@@ -28,7 +28,7 @@ word-at-requires-3 c κs = search needs
 
 returns : tie.Need-returns
 unfolding entryAt
-returns c = cc
+returns c = λ i. record { kind = c .before .before .before .byte-at .ensures i; p = c .before .before .word-at .ensures i; q = c .before .word-at2 .ensures i; r = c .word-at3 .ensures i }
 
 returns-2 : tie.Need-returns-2
 returns-2 c = entry-past _ _ (c .if1 .left)

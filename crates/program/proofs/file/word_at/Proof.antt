@@ -1,6 +1,7 @@
 -- `program::file::word_at` meets its contract.
+use Prim.Native.Nat.{_+_, _*_}
 use borrow.Author.Needs.{needs}
-use mathlib.Core.Path.{sym}
+use mathlib.Core.Path.{_∙_, sym}
 use Rattle.program.specs.File.{wordAt}
 use Rattle.program.proofs.Reading.{word-past}
 use Rattle.program.proofs.file.word_at.Statement.{statement}
@@ -29,7 +30,10 @@ add-result c = search needs
 
 returns : tie.Need-returns
 unfolding wordAt
-returns c = cc
+returns c =
+    let high = c .before .before .wide .ensures ∙ c .before .before .before .byte-at .ensures in
+    let low = c .wide2 .ensures ∙ c .before .byte-at2 .ensures in
+    λ i. high i * 256 + low i
 
 returns-2 : tie.Need-returns-2
 returns-2 c = sym (word-past _ _ (c .if1 .left))

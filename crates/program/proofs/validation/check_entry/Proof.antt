@@ -1,11 +1,12 @@
 -- `program::validation::check_entry` meets its contract.
 use borrow.Author.Needs.{needs}
+use mathlib.Core.Bool.{false}
 use mathlib.Core.Path.{ap, sym, _∙_, _≡_}
+use Rattle.program.specs.Asking.{ask}
 use Rattle.program.specs.File.{entryAt, entry}
 use Rattle.program.specs.Kind.{shape}
 use Rattle.program.specs.Questions.{entryValidity, shapeValidity}
 use Rattle.program.specs.declared.Entry.{Entry}
-use Rattle.program.specs.declared.Shape.the-variants.{Unknown}
 use Rattle.program.proofs.validation.check_entry.Statement.{statement}
 use Rattle.program.proofs.validation.check_entry.Tie as tie
 
@@ -30,15 +31,18 @@ enum-known-roles c = search needs
 check-operands-requires : tie.Need-check-operands-requires
 unfolding entry
 check-operands-requires c κs =
+    let a = c .before .before .before .before .before .before .before .args in
+    let e : c .before .before .before .before .entry-at .result ≡ entry (a .s .now) (a .table) (a .n) = c .before .before .before .before .entry-at .ensures ∙ ap (entryAt (a .s .now)) (c .before .before .before .before .before .offset .ensures) in
     let pre = c .before .before .before .before .before .before .before .pre in
-    (pre .0, pre .1, cc, cc)
+    (pre .0, pre .1, e, c .before .before .before .before .before .offset .ensures)
 
 returns : tie.Need-returns
 unfolding entryValidity shapeValidity entry
 returns c =
     let a = c .before .before .before .before .before .before .before .args in
-    let told : shape (a .table) (entry (a .s .now) (a .table) (a .n) .kind) ≡ Unknown = cc in
-    rw told (cc)
+    let e : c .before .before .before .before .entry-at .result ≡ entry (a .s .now) (a .table) (a .n) = c .before .before .before .before .entry-at .ensures ∙ ap (entryAt (a .s .now)) (c .before .before .before .before .before .offset .ensures) in
+    let told : shape (a .table) (entry (a .s .now) (a .table) (a .n) .kind) ≡ c .before .before .before .shape .result = ap (λ (x : Entry). shape (a .table) (x .kind)) (sym e) ∙ sym (c .before .before .before .shape .ensures) in
+    rw (told, c .before .enum-told .given .1) (c .ask .ensures ∙ ap (ask false 7) (c .before .before .before .before .before .offset .ensures))
 
 returns-2 : tie.Need-returns-2
 unfolding entryValidity entry

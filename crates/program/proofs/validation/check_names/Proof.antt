@@ -1,10 +1,10 @@
 -- `program::validation::check_names` meets its contract.
-use Prim.Native.Nat.{_<_, _≤_, _*_, _-_}
+use Prim.Native.Nat.{ℕ, _+_, _*_, _<_, _≤_, _-_}
 use borrow.Author.Needs.{needs}
 use mathlib.Core.Path.{sym, refl, ap, _∙_, _≡_}
 use native.Mathlib.Numerals.{add-one}
 use native.Mathlib.Omega.{arith}
-use Rattle.program.specs.Asking.{askEach}
+use Rattle.program.specs.Asking.{ask, askEach}
 use Rattle.program.specs.File.{nameCount, nameOffset, sizes, firstCell}
 use Rattle.program.specs.Questions.{nameValidity}
 use Rattle.program.specs.declared.Validity.the-variants.{Fit}
@@ -56,9 +56,16 @@ asked : (c : tie.After-refused Inv-loop μ-loop) → c .before .ask .result ≡ 
 unfolding nameValidity nameOffset firstCell
 asked c =
     let s = c .before .before .before .before .before .before .before .before .before .args .s .now in
-    let i = c .before .before .before .before .before .before .before .loop .i in
-    let h : i < nameCount s = omega arith in
-    cc (first-cell-suc s i h)
+    let l = c .before .before .before .before .before .before .before .loop in
+    let h : l .i < nameCount s = omega arith in
+    rw (
+      first-cell-suc s (l .i) h,
+      ← l .inv .1,
+      ← c .before .before .before .before .before .size-at .ensures,
+      ← c .before .before .before .before .cells-of .ensures .0,
+      ← c .before .before .before .in-bounds .ensures,
+    )
+    (c .before .ask .ensures ∙ ap (λ (k : ℕ). ask (c .before .before .before .in-bounds .result) 6 (3 + 2 * k)) (c .before .before .long .ensures))
 
 returns : tie.Need-returns Inv-loop μ-loop
 returns c =
@@ -77,7 +84,7 @@ loop-again c =
     let s = c .before .before .before .before .before .before .before .before .before .before .args .s .now in
     let h : l .i < nameCount s = omega arith in (
       search needs,
-      rw (add-one, first-cell-suc s (l .i) h) (cc),
+      rw (add-one, first-cell-suc s (l .i) h, ← l .inv .1, ← c .before .before .before .before .before .before .size-at .ensures, ← c .before .before .before .before .before .cells-of .ensures .0) refl,
       search needs,
       rw add-one (each-goes-on _ (l .i) _ _ (l .inv .3) (asked (c .before)) (c .before .refused .ensures) (c .if1 .left)),
     )

@@ -1,6 +1,7 @@
 -- `program::validation::command_kind` meets its contract.
 use borrow.Author.Needs.{needs}
-use Rattle.program.specs.File.{entry, entryAt}
+use mathlib.Core.Path.{_∙_, ap}
+use Rattle.program.specs.File.{byteAt, entry, entryAt}
 use Rattle.program.proofs.validation.command_kind.Statement.{statement}
 use Rattle.program.proofs.validation.command_kind.Tie as tie
 
@@ -12,7 +13,7 @@ byte-at-requires c κs = search needs
 
 returns : tie.Need-returns
 unfolding entry entryAt
-returns c = cc
+returns c = c .byte-at .ensures ∙ ap (byteAt (c .before .before .before .args .s .now)) (c .before .offset .ensures)
 
 pub command-kind-spec : {M : Type 1} → statement M
 command-kind-spec = tie.close (tie.spec offset-requires byte-at-requires returns)

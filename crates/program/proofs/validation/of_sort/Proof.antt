@@ -1,5 +1,7 @@
 -- `program::validation::of_sort` meets its contract.
 use borrow.Author.Needs.{needs}
+use mathlib.Core.Path.{_∙_, ap}
+use Rattle.program.specs.Kind.{isCommand, isGuarded}
 use Rattle.program.specs.Questions.{ofSort}
 use Rattle.program.proofs.validation.of_sort.Statement.{statement}
 use Rattle.program.proofs.validation.of_sort.Tie as tie
@@ -38,11 +40,11 @@ returns-2 c = rw (c .enum-told2 .given .1)
 
 returns-3 : tie.Need-returns-3
 unfolding ofSort
-returns-3 c = rw (c .before .before .enum-told3 .given .1) (cc)
+returns-3 c = rw (c .before .before .enum-told3 .given .1) (c .is-command .ensures ∙ ap isCommand (c .before .command-kind .ensures))
 
 returns-4 : tie.Need-returns-4
 unfolding ofSort
-returns-4 c = rw (c .before .before .enum-told4 .given .1) (cc)
+returns-4 c = rw (c .before .before .enum-told4 .given .1) (c .is-guarded .ensures ∙ ap isGuarded (c .before .command-kind2 .ensures))
 
 pub of-sort-spec : {M : Type 1} → statement M
 of-sort-spec =
