@@ -1,8 +1,11 @@
 -- `program::file::entry` meets its contract.
+use Prim.Native.Nat.{_+_, _*_}
 use borrow.Author.Needs.{needs}
-use mathlib.Core.Path.{_≡_}
+use mathlib.Core.Path.{ap, _∙_, _≡_}
 use native.Mathlib.Omega.{arith}
-use Rattle.program.specs.File.{layoutOf, spanOf, entry, entryOffset}
+use Rattle.program.specs.File.{entryAt, layoutOf, spanOf, entry, entryOffset}
+use Rattle.program.specs.declared.Layout.{Layout}
+use Rattle.program.specs.declared.Span.{Span}
 use Rattle.program.proofs.Reading.{entry-past}
 use Rattle.program.proofs.file.entry.Statement.{statement}
 use Rattle.program.proofs.file.entry.Tie as tie
@@ -27,13 +30,16 @@ entry-at-requires c κs = search needs
 
 returns : tie.Need-returns
 unfolding entry entryOffset
-returns c = cc
+returns c =
+    let a = c .before .before .before .before .before .before .args in
+    let start : c .before .before .before .span-of .result .start ≡ spanOf (layoutOf (a .s .now)) (a .table) .start = ap (λ (x : Span). x .start) (c .before .before .before .span-of .ensures ∙ ap (λ (l : Layout). spanOf l (a .table)) (c .before .before .before .before .layout .ensures .0)) in
+    c .entry-at .ensures ∙ (λ i. entryAt (a .s .now) (start i + 7 * c .before .long .ensures i))
 
 returns-2 : tie.Need-returns-2
 unfolding entry entryOffset
 returns-2 c =
     let a = c .before .before .before .before .args in
-    let start : c .before .span-of .result .start ≡ spanOf (layoutOf (a .s .now)) (a .table) .start = cc in
+    let start : c .before .span-of .result .start ≡ spanOf (layoutOf (a .s .now)) (a .table) .start = ap (λ (x : Span). x .start) (c .before .span-of .ensures ∙ ap (λ (l : Layout). spanOf l (a .table)) (c .before .before .layout .ensures .0)) in
     entry-past _ _ (omega arith)
 
 pub entry-spec : {M : Type 1} → statement M

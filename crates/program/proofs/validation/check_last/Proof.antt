@@ -1,8 +1,11 @@
 -- `program::validation::check_last` meets its contract.
+use Prim.Native.Nat.{ℕ, _-_}
 use borrow.Author.Needs.{needs}
-use mathlib.Core.Path.{_≡_, ap}
+use mathlib.Core.Path.{ap, _∙_, _≡_}
 use native.Mathlib.Omega.{arith}
-use Rattle.program.specs.File.{entryCount, spanOf}
+use Rattle.program.specs.Asking.{ask}
+use Rattle.program.specs.File.{entry, entryOffset, entryCount, spanOf}
+use Rattle.program.specs.Kind.{isCommand}
 use Rattle.program.specs.Questions.{lastValidity, lastCommand}
 use Rattle.program.specs.declared.Layout.{Layout}
 use Rattle.program.specs.declared.Table.the-variants.{Commands}
@@ -29,7 +32,11 @@ ask-requires c κs = search needs
 
 returns : tie.Need-returns
 unfolding lastValidity lastCommand entryCount spanOf
-returns c = cc
+returns c =
+    let s = c .before .before .before .before .before .before .before .args .s .now in
+    let last = ap (λ (l : Layout). l .commands .count - 1) (c .before .before .before .before .before .before .before .pre .0) in
+    let asked = c .before .before .is-command .ensures ∙ ap isCommand (c .before .before .before .command-kind .ensures) in
+    c .ask .ensures ∙ (λ i. ask (asked i) 11 (c .before .offset .ensures i)) ∙ ap (λ (n : ℕ). ask (isCommand (entry s Commands n .kind)) 11 (entryOffset s Commands n)) last
 
 pub check-last-spec : {M : Type 1} → statement M
 check-last-spec =

@@ -1,7 +1,10 @@
 -- `program::validation::limit` meets its contract.
 use borrow.Author.Needs.{needs}
-use Rattle.program.specs.File.{entryCount}
+use mathlib.Core.Path.{ap, _∙_}
+use Rattle.program.specs.File.{spanOf, entryCount}
 use Rattle.program.specs.Questions.{limit}
+use Rattle.program.specs.declared.Layout.{Layout}
+use Rattle.program.specs.declared.Span.{Span}
 use Rattle.program.proofs.validation.limit.Statement.{statement}
 use Rattle.program.proofs.validation.limit.Tie as tie
 
@@ -17,7 +20,9 @@ span-of-requires c κs = search needs
 
 returns-2 : tie.Need-returns-2
 unfolding limit entryCount
-returns-2 c = rw (← c .before .before .same-table .ensures, c .before .if1 .left) (cc)
+returns-2 c =
+    rw (← c .before .before .same-table .ensures, c .before .if1 .left)
+    (ap (λ (x : Span). x .count) (c .span-of .ensures ∙ ap (λ (l : Layout). spanOf l (c .before .before .before .before .args .target)) (c .before .before .before .before .pre)))
 
 pub limit-spec : {M : Type 1} → statement M
 limit-spec = tie.close (tie.spec same-table-requires returns span-of-requires returns-2)
