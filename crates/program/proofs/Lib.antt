@@ -19,5 +19,6 @@ pub mod Counts
 pub mod Strips
 pub mod Drawings
 pub mod EdgeReading
+pub mod Laws
 pub mod Open
 pub mod Examples

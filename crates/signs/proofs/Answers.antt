@@ -26,6 +26,13 @@ same-truths t u h = λ i. record { holds = beq-eq (t .holds) (u .holds) (both .0
     both : T (Bool·beq (t .holds) (u .holds)) × T (Bool·beq (t .fails) (u .fails))
     both = and-yes (Bool·beq (t .holds) (u .holds)) (Bool·beq (t .fails) (u .fails)) h
 
+-- a test of every set of answers
+abbrev everyTruths : (Truths → Bool) → Bool
+everyTruths p = everyBool (λ h. everyBool (λ f. p (record { holds = h; fails = f })))
+
+at-truths : (p : Truths → Bool) → T (everyTruths p) → (t : Truths) → T (p t)
+at-truths p h t = at-bool (λ f. p (record { holds = t .holds; fails = f })) (at-bool (λ h. everyBool (λ f. p (record { holds = h; fails = f }))) h (t .holds)) (t .fails)
+
 -- ---- comparisons of sets
 
 remainders : (c : Comparison) (a b : ℕ) → compareSets c (a % 8) (b % 8) ≡ compareSets c a b
@@ -104,3 +111,17 @@ conjoined-by a b =
   where
     right : Bool → Bool → Bool → Bool → Bool
     right h f k g = sameTruths (conjunction (of h f) (of k g)) (conjoined (of h f) (of k g))
+
+-- ---- conjunction of three
+
+grouped : Truths → Truths → Truths → Bool
+grouped a b c = sameTruths (conjoined (conjoined a b) c) (conjoined a (conjoined b c))
+
+-- how a conjunction of three is grouped makes no difference
+pub conjoined-assoc : (a b c : Truths) → conjoined (conjoined a b) c ≡ conjoined a (conjoined b c)
+unfolding definitions grouped
+conjoined-assoc a b c =
+    same-truths _ _
+    (at-truths (grouped a b)
+    (at-truths (λ b. everyTruths (grouped a b))
+    (at-truths (λ a. everyTruths (λ b. everyTruths (grouped a b))) tt a) b) c)

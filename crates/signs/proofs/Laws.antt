@@ -167,6 +167,10 @@ conjoined-monotone a a′ b b′ ha hb v h = subst (λ (t : Truths). T (among v 
         (and-mono (a .fails) _ (a′ .fails) _ (ha false) (or-mono (b .holds) (b .fails) (b′ .holds) (b′ .fails) (hb true) (hb false)))
         (and-mono (a .holds) (b .fails) (a′ .holds) (b′ .fails) (ha true) (hb false))
 
+-- how a conjunction of three is grouped makes no difference
+pub conjoined-assoc : (a b c : Truths) → conjoined (conjoined a b) c ≡ conjoined a (conjoined b c)
+conjoined-assoc = Answers.conjoined-assoc
+
 -- the right side counts only where the left is true
 pub andThen-entry : (a b : Truths) (u v : Bool) → T (among u a) → (T u → T (among v b)) → T (among (u && v) (andThen a b))
 unfolding among andThen
