@@ -4,6 +4,7 @@ pub mod Lists
 pub mod Sums
 pub mod Asking
 pub mod Reading
+pub mod Heads
 pub mod Cells
 pub mod Shapes
 pub mod Counting

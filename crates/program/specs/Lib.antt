@@ -1,4 +1,5 @@
 pub mod File
+pub mod Reader
 pub mod Asking
 pub mod Kind
 pub mod Questions

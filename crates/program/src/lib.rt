@@ -3,6 +3,7 @@
 pub mod drawing;
 pub mod file;
 pub mod kinds;
+pub mod reader;
 pub mod validation;
 
 // The three tables of entries of a file.
@@ -89,4 +90,24 @@ pub struct EdgeBytes {
     pub target: u16,
     pub kind: u8,
     pub entry: u16,
+}
+
+// The head of a field, and where its content and the next field start.
+pub struct FieldHead {
+    pub tag: u8,
+    pub length: u16,
+    pub content: usize,
+    pub next: usize,
+}
+
+// What stands at a place of a file: fewer bytes than a head has, or the head of a field.
+pub enum Head {
+    Short,
+    Found(FieldHead),
+}
+
+// The field reader: a file's bytes and a place in them.
+pub struct FieldReader<'a> {
+    pub bytes: &'a [u8],
+    pub at: usize,
 }

@@ -1,0 +1,82 @@
+// Reading a file field by field. A `FieldReader` holds the file's bytes and the place where it stands.
+
+ghost use mathlib.Core.Path.{_≡_};
+ghost use Rattle.program.specs.File.{fieldStart};
+ghost use Rattle.program.specs.Reader.{headAt, nextPlace, placeAfter};
+use crate::FieldHead;
+use crate::FieldReader;
+use crate::Head;
+use crate::file;
+
+// What stands at `at`.
+pub fn head_at(s: &[u8], at: usize) -> Head
+    ensures { λ r. ⌜ r ≡ headAt (now (s .entry)) at ⌝ }
+{
+    if s.len() <= at {
+        return Head::Short;
+    }
+    if s.len() - at < 3 {
+        return Head::Short;
+    }
+    let length = file::word_at(s, at + 1);
+    Head::Found(FieldHead {
+        tag: file::byte_at(s, at),
+        length,
+        content: at + 3,
+        next: at + 3 + file::long(length),
+    })
+}
+
+// Where the field after the one at `at` starts; `at` itself where no head stands there.
+fn next_place(s: &[u8], at: usize) -> usize
+    ensures { λ r. ⌜ r ≡ nextPlace (now (s .entry)) at ⌝ }
+{
+    match head_at(s, at) {
+        Head::Short => at,
+        Head::Found(field) => field.next,
+    }
+}
+
+// Where `k` fields from `at` on end, or the first place on the way where no head stands.
+pub fn place_after(s: &[u8], at: usize, k: u8) -> usize
+    ensures { λ r. ⌜ r ≡ placeAfter (now (s .entry)) at k ⌝ }
+{
+    let mut place: usize = at;
+    let mut i: u8 = 0;
+    while i < k {
+        place = next_place(s, place);
+        i += 1;
+    }
+    place
+}
+
+// A reader at the start of a file.
+pub fn new<'a>(bytes: &'a [u8]) -> FieldReader<'a>
+    ensures { λ r. ⌜ (r .bytes ≡ bytes .entry) × (r .at ≡ 0) ⌝ }
+{
+    FieldReader { bytes, at: 0 }
+}
+
+// What stands where the reader is.
+pub fn head<'a>(r: FieldReader<'a>) -> Head
+    ensures { λ h. ⌜ h ≡ headAt (now (r .entry .bytes)) (r .entry .at) ⌝ }
+{
+    head_at(r.bytes, r.at)
+}
+
+// The reader `k` fields further on, or at the first place on the way where no head stands.
+pub fn advance<'a>(r: FieldReader<'a>, k: u8) -> FieldReader<'a>
+    ensures { λ q. ⌜ (q .bytes ≡ r .entry .bytes) × (q .at ≡ placeAfter (now (r .entry .bytes)) (r .entry .at) k) ⌝ }
+{
+    FieldReader {
+        bytes: r.bytes,
+        at: place_after(r.bytes, r.at, k),
+    }
+}
+
+// The head of the field with `k` fields before it.
+pub fn field_head(s: &[u8], k: u8) -> Head
+    ensures { λ r. ⌜ r ≡ headAt (now (s .entry)) (fieldStart (now (s .entry)) k) ⌝ }
+{
+    head(advance(new(s), k))
+}
