@@ -1,5 +1,5 @@
 -- What the questions say of a program that passes them all.
-use mathlib.Core.Path.{_≡_, refl, ap, _∙_}
+use mathlib.Core.Path.{_≡_, refl}
 use mathlib.Core.Bool.{true}
 use mathlib.Core.List.{List, [], _∷_}
 use Prim.Native.Nat.{ℕ, zero, suc, _/_, _%_, _≤_, _<_}
@@ -24,10 +24,6 @@ unfolding inTurn
 turn-fit [] k e = refl
 turn-fit (x ∷ xs) zero e = then-first x (inTurn xs) e
 turn-fit (x ∷ xs) (suc k) e = turn-fit xs k (then-second x (inTurn xs) e)
-
--- the answer at a place that is the start of field k
-pub head-at : (s : List ℕ) (f : Field) (v : Validity) (at k : ℕ) → v ≡ headValidity s at f → at ≡ fieldStart s k → v ≡ headValidity s (fieldStart s k) f
-head-at s f v at k e p = e ∙ ap (λ (n : ℕ). headValidity s n f) p
 
 -- a field's number of entries is one that is allowed
 record Allowed (f : Field) (count : ℕ) : Type 0 where

@@ -1,6 +1,6 @@
 -- Heads at places: where one stands and where none does, and that a reader from the start finds the fields' own.
 use mathlib.Core.Path.{_≡_, refl, ap, sym, _∙_}
-use mathlib.Core.Bool.{Bool, true, false}
+use mathlib.Core.Bool.{Bool, true, false, cond}
 use mathlib.Core.List.{List}
 use mathlib.Core.Logic.{_⊎_, inl, inr, ⊎-elim}
 use Prim.Native.Nat.{ℕ, zero, suc, _+_, _≤_, _<_}
@@ -10,6 +10,7 @@ use lib.Dec.{leb}
 use lib.ListN.{length}
 use Rattle.program.specs.File.{nextField, fieldStart}
 use Rattle.program.specs.Reader.{fieldHead, headAt, afterHead, nextPlace, placeAfter}
+use Rattle.program.specs.declared.FieldHead.{FieldHead}
 use Rattle.program.specs.declared.Head.the-variants.{Short, Found}
 
 pub head-there : (s : List ℕ) (at : ℕ) → at + 3 ≤ length s → headAt s at ≡ Found (fieldHead s at)
@@ -19,6 +20,23 @@ head-there s at h = rw (le-leb _ _ h)
 pub head-short : (s : List ℕ) (at : ℕ) → length s < at + 3 → headAt s at ≡ Short
 unfolding headAt
 head-short s at h = rw (lt-leb _ _ h)
+
+-- what a head that is found, or none, says of the file
+pub found-short : (s : List ℕ) (at : ℕ) → headAt s at ≡ Short → leb (at + 3) (length s) ≡ false
+unfolding headAt
+found-short s at e = go (leb (at + 3) (length s)) e
+  where
+    go : (b : Bool) → cond b (Found (fieldHead s at)) Short ≡ Short → b ≡ false
+    go true e = absurd (let z : _≡_ {A = ℕ} 0 1 = cc in omega arith)
+    go false e = refl
+
+pub found-there : (s : List ℕ) (at : ℕ) (h : FieldHead) → headAt s at ≡ Found h → (leb (at + 3) (length s) ≡ true) × (fieldHead s at ≡ h)
+unfolding headAt
+found-there s at h e = go (leb (at + 3) (length s)) e
+  where
+    go : (b : Bool) → cond b (Found (fieldHead s at)) Short ≡ Found h → (b ≡ true) × (fieldHead s at ≡ h)
+    go true e = (refl, cc)
+    go false e = absurd (let z : _≡_ {A = ℕ} 0 1 = cc in omega arith)
 
 next-there : (s : List ℕ) (at : ℕ) → at + 3 ≤ length s → nextPlace s at ≡ nextField s at
 unfolding nextPlace afterHead fieldHead

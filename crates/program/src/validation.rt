@@ -7,11 +7,12 @@ ghost use Rattle.program.specs.Counting.{capacity, UsesIn};
 ghost use mathlib.Core.Bool.{_&&_};
 ghost use lib.Dec.{leb};
 ghost use Rattle.program.specs.Asking.{ask, isRefused, askEach};
-ghost use Rattle.program.specs.File.{layoutOf, spanOf, Near, nameCount, entryCount, entryOffset, entry, programFields};
+ghost use Rattle.program.specs.File.{layoutOf, spanOf, Near, nameCount, entryCount, entryOffset, entry, fieldStart, programFields};
 ghost use Rattle.program.specs.declared.Table.the-variants.{Commands};
 ghost use Rattle.program.specs.declared.Validity.the-variants.{Fit};
 ghost use Rattle.program.specs.Questions.{wholeEntries, headValidity, headsValidity, endValidity, nameValidity, named, sameTable, limit, ofSort, points, eachOperand, shapeValidity, entryValidity, tableValidity, useValidity, lastValidity, usesValidity, contentValidity, validity, inputValidity, programPart, initialPart};
 use crate::Entry;
+use crate::Head;
 use crate::Layout;
 use crate::Refusal;
 use crate::Role;
@@ -25,6 +26,7 @@ mod uses;
 
 use crate::file;
 use crate::kinds;
+use crate::reader;
 
 // One question: its answer, and its number and place when that is no.
 fn ask(yes: bool, number: u8, offset: usize) -> Validity
@@ -58,22 +60,23 @@ fn whole_entries(len: u16, tag: u8, width: u16, least: u16, most: u16) -> bool
     least <= count && count <= most
 }
 
-// Questions 1 to 4 of the field at `at`.
-fn check_head(s: &[u8], at: usize, tag: u8, width: u16, least: u16, most: u16) -> Validity
-    requires { ⌜ (at < 1000000) × (0 < width) ⌝ }
-    ensures { λ r. ⌜ r ≡ headValidity (now (s .entry)) at (record { tag = tag; width = width; least = least; most = most }) ⌝ }
+// Questions 1 to 4 of the field with `k` fields before it.
+fn check_head(s: &[u8], k: u8, tag: u8, width: u16, least: u16, most: u16) -> Validity
+    requires { ⌜ 0 < width ⌝ }
+    ensures { λ r. ⌜ r ≡ headValidity (now (s .entry)) (fieldStart (now (s .entry)) k) (record { tag = tag; width = width; least = least; most = most }) ⌝ }
 {
-    if s.len() < at + 3 {
+    let at = file::field_start(s, k);
+    let found = reader::field_head(s, k);
+    let Head::Found(field) = found else {
         return ask(false, 1, at);
-    }
-    if file::byte_at(s, at) != tag {
+    };
+    if field.tag != tag {
         return ask(false, 2, at);
     }
-    let len = file::word_at(s, at + 1);
-    if !whole_entries(len, tag, width, least, most) {
+    if !whole_entries(field.length, tag, width, least, most) {
         return ask(false, 3, at);
     }
-    ask(at + 3 + file::long(len) <= s.len(), 4, at)
+    ask(field.next <= s.len(), 4, at)
 }
 
 // Whether operand `x` is zero where it is unused, and names a name of its sort where it is a name.
@@ -98,15 +101,15 @@ fn check_heads(s: &[u8]) -> Validity
     if refused(names) {
         return names;
     }
-    let arithmetic = check_head(s, file::field_start(s, 1), 2, 7, 0, 512);
+    let arithmetic = check_head(s, 1, 2, 7, 0, 512);
     if refused(arithmetic) {
         return arithmetic;
     }
-    let boolean = check_head(s, file::field_start(s, 2), 3, 7, 0, 256);
+    let boolean = check_head(s, 2, 3, 7, 0, 256);
     if refused(boolean) {
         return boolean;
     }
-    check_head(s, file::field_start(s, 3), 4, 7, 1, 256)
+    check_head(s, 3, 4, 7, 1, 256)
 }
 
 // Whether a size is 0 to 64 and a cell total at most 512.
@@ -436,7 +439,7 @@ pub fn validate_input(s: &[u8]) -> Validity
     if refused(heads) {
         return heads;
     }
-    let initial = check_head(s, file::field_start(s, 4), 5, file::name_count(s), 0, 512);
+    let initial = check_head(s, 4, 5, file::name_count(s), 0, 512);
     if refused(initial) {
         return initial;
     }
