@@ -1,9 +1,9 @@
 //! Test files of the program crate, and what `program_files` must print of them.
 //!
-//! A reader, a validator and a graph builder written from document 01 alone ("The script file", "Questions asked", "The graph"), without
-//! a look at the engine's definitions. It makes the test files, works out each answer, and writes both (oracle/README.md):
+//! A reader, a validator and a graph builder written from document 01 ("The script file", "Questions asked", "The graph"), which share no
+//! definition and no code with the engine. It makes the test files, works out each answer, and writes both (oracle/README.md):
 //!
-//!     rustc -O -o /tmp/files oracle/files.rs && /tmp/files crates/program_files
+//!     rustc --edition 2021 -O -o /tmp/files oracle/files.rs && /tmp/files crates/program_files
 
 use std::fs;
 
@@ -1100,7 +1100,7 @@ fn rest(out: &mut Out) {
     s.true_skip();
     known(out, "11, a guarded command last", &s, 11, 28);
     let g = s.true_skip();
-    s.choice(0 + 1, g);
+    s.choice(1, g);
     known(out, "11, a choice last", &s, 11, s.place(2, 4));
     let mut s = loops(127);
     s.tables[2].pop();
@@ -1250,7 +1250,7 @@ fn rooms(out: &mut Out) {
     for (name, s) in [("skip", sequence(1, 0)), ("factorial", factorial()), ("tour", tour()), ("127 loops", loops(127))] {
         let file = s.bytes();
         let need = Graph::of(&s).bytes().len() as u16;
-        for room in [0, 1, 6, 7, 8, need - 7, need - 1, need, need + 1, need + 6, need + 7, 1785, 1999, 2000] {
+        for room in [0, 6, 7, need - 7, need - 1, need, need + 1, need + 7, 1785, 1999, 2000] {
             out.put(Mode::Sum(room), &format!("{name}, {room} bytes"), &file);
         }
         out.put(Mode::Sum(0), &format!("{name} cut, 0 bytes"), &file[..file.len() - 1]);
@@ -1518,6 +1518,23 @@ fn damage_script(r: &mut Random, s: &mut Script) {
     }
 }
 
+fn refer_elsewhere(r: &mut Random, s: &mut Script) {
+    for _ in 0..50 {
+        let t = r.below(3);
+        if s.tables[t].is_empty() {
+            continue;
+        }
+        let (i, k) = (r.below(s.tables[t].len()), r.below(3));
+        let operand = rule(t, s.tables[t][i].kind).unwrap()[k];
+        let Some(to) = referred(operand) else { continue };
+        let x = r.below(if to == t { i } else { s.tables[to].len() });
+        if to < 2 || is_guarded(s.tables[2][x]) == (operand == Guarded) {
+            s.tables[t][i].operands[k] = x as u16;
+            return;
+        }
+    }
+}
+
 fn damage_bytes(r: &mut Random, bytes: &mut Vec<u8>) {
     if bytes.is_empty() {
         return;
@@ -1544,23 +1561,45 @@ fn damage_bytes(r: &mut Random, bytes: &mut Vec<u8>) {
 fn random(out: &mut Out) {
     let mut r = Random(20_260_101_004);
     out.group("random");
-    for k in 0..260 {
-        let size = [4, 10, 20, 40, 60, 100][k % 6];
-        let s = random_script(&mut r, if k < 250 { size } else { 300 });
+    for k in 0..240 {
+        let size = [4, 10, 20, 30, 50, 80][k % 6];
+        let s = random_script(&mut r, if k < 234 { size } else { 300 });
         let mode = if k < 12 { Mode::Edges } else { Mode::Sum(1785) };
         let bytes = s.bytes();
         out.put(mode, &k.to_string(), &bytes);
-        if k % 5 == 0 {
+        if k % 8 == 0 {
             out.put(Mode::Readings, &format!("{k}, read"), &bytes);
         }
     }
     out.group("entry damage");
-    for k in 0..400 {
+    for k in 0..360 {
         let mut s = random_script(&mut r, [3, 8, 16, 32][k % 4]);
         for _ in 0..1 + k % 3 {
             damage_script(&mut r, &mut s);
         }
         out.put(Mode::Sum(1785), &k.to_string(), &s.bytes());
+    }
+    // One reference goes to another entry that it might name: some entry is used twice and another not at all.
+    out.group("other reference");
+    for k in 0..120 {
+        let mut s = random_script(&mut r, [8, 16, 32][k % 3]);
+        for _ in 0..1 + k % 2 {
+            refer_elsewhere(&mut r, &mut s);
+        }
+        out.put(Mode::Sum(1785), &k.to_string(), &s.bytes());
+    }
+    // A script under one guard more, or two in a choice: well formed, but for its last entry.
+    out.group("guarded last");
+    for k in 0..40 {
+        let mut s = random_script(&mut r, [4, 8, 16, 32][k % 4]);
+        let b = s.truth();
+        let c = s.tables[2].len() as u16 - 1;
+        let g = s.guard(b, c);
+        if k % 2 == 1 {
+            let h = s.true_skip();
+            s.choice(h, g);
+        }
+        out.put_known(Mode::Edges, &k.to_string(), &s.bytes(), &format!("refused 11 at {}", s.place(2, s.tables[2].len() - 1)));
     }
     out.group("byte damage");
     for k in 0..300 {
