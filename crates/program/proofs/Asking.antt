@@ -33,11 +33,6 @@ unfolding thenAsk
 then-fit Fit = refl
 then-fit (Refused x) = refl
 
-pub then-assoc : (a b c : Validity) → thenAsk (thenAsk a b) c ≡ thenAsk a (thenAsk b c)
-unfolding thenAsk
-then-assoc Fit b c = refl
-then-assoc (Refused x) b c = refl
-
 -- how code asks: an answer v to the first questions is returned where it is a refusal, and the next asked where it is not
 pub stops : (a b v : Validity) (r : Bool) → v ≡ a → r ≡ isRefused v → r ≡ true → v ≡ thenAsk a b
 unfolding thenAsk isRefused
