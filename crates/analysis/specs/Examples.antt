@@ -1,11 +1,10 @@
 -- The worked examples of document 01 on sheets, and all its worked examples as one list. `proofs/Examples` shows that each holds.
 use Prim.Native.Nat.{ℕ}
-use mathlib.Core.List.{List, [], _∷_, _++_}
+use mathlib.Core.List.{List, [], _∷_, _++_, flatMap}
 use lib.IntN.{ℤ, pos}
 use lib.ListN.{replicate}
 use Rattle.signs.specs.Case.{Case, _gives_, row}
 use Rattle.signs.specs.Examples.{cases as signCases}
-use Rattle.signs.specs.Lists.{concatMap}
 use Rattle.program.specs.Examples.{factorial, field, fileOf, entryOf, cases as programCases}
 use Rattle.program.specs.Syntax.{number, store}
 use Rattle.semantics.specs.Examples.{cases as semanticCases}
@@ -69,7 +68,7 @@ verdicts =
 -- (P) "A store of sign zero at index zero, set 4: sets 6, then 2."
 unfoldable pub stores : List Case
 stores =
-    (row (concatMap (λ ρ. ρ) (performedOn (4 ∷ []) (store 0 0 (number 0 (pos 0)) (number 0 (pos 0))))) gives row (6 ∷ 2 ∷ []))
+    (row (flatMap (λ ρ. ρ) (performedOn (4 ∷ []) (store 0 0 (number 0 (pos 0)) (number 0 (pos 0))))) gives row (6 ∷ 2 ∷ []))
     ∷ []
 
 -- A[j] := 0, over j and an array A of size 3
@@ -94,7 +93,7 @@ places = (row (split factorial 14 .«record» ∷ split factorial 14 .column ∷
 -- the listing of the factorial lesson; and with 0 for a sign of its start list
 unfoldable pub listings : List Case
 listings =
-    (row (concatMap (λ r. r) (printedRows (factorial ++ field 5 factorialStart)))
+    (row (flatMap (λ r. r) (printedRows (factorial ++ field 5 factorialStart)))
     gives row
     ((5 ∷ 5 ∷ 8 ∷ [])
     ++ (0 ∷ 0 ∷ 4 ∷ 2 ∷ [])
@@ -105,7 +104,7 @@ listings =
     ++ (5 ∷ 2 ∷ 2 ∷ 4 ∷ [])
     ++ (6 ∷ 1 ∷ 1 ∷ 4 ∷ [])
     ++ (7 ∷ 1 ∷ 2 ∷ 4 ∷ [])))
-    ∷ (row (concatMap (λ r. r) (printedRows (factorial ++ field 5 (4 ∷ 0 ∷ [])))) gives row (17 ∷ 1 ∷ []))
+    ∷ (row (flatMap (λ r. r) (printedRows (factorial ++ field 5 (4 ∷ 0 ∷ [])))) gives row (17 ∷ 1 ∷ []))
     ∷ []
 
 unfoldable pub sheetCases : List Case

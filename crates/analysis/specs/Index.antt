@@ -2,7 +2,7 @@
 use Prim.Native.Nat.{ℕ}
 use mathlib.Core.Bool.{Bool}
 use mathlib.Core.List.{List, [], _∷_, _++_}
-use Rattle.signs.specs.Lists.{any}
+use Rattle.signs.specs.Lists.{anyOf}
 use Rattle.signs.specs.Sign.{has}
 use Rattle.signs.specs.declared.Sign.the-variants.{Minus}
 use Rattle.program.specs.Graph.{Action, perform, test, leave, done}
@@ -39,4 +39,4 @@ indexSets ρ (leave c) = booleanIndexes ρ (done c)
 
 -- whether an action holds an index expression "whose set has minus"
 unfoldable pub mayBeNegative : List ℕ → Action → Bool
-mayBeNegative ρ x = any (λ set. has set Minus) (indexSets ρ x)
+mayBeNegative ρ x = anyOf (λ set. has set Minus) (indexSets ρ x)

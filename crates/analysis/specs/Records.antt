@@ -4,7 +4,7 @@ use mathlib.Core.Bool.{Bool, true, false, _&&_}
 use mathlib.Core.List.{List, [], _∷_, _++_}
 use lib.Dec.{eqb, leb, ltb}
 use lib.ListN.{length, take, drop}
-use Rattle.signs.specs.Lists.{any, tabulate}
+use Rattle.signs.specs.Lists.{anyOf, tabulate}
 use Rattle.program.specs.Asking.{ask, askPlain, thenAsk, askEach}
 use Rattle.program.specs.File.{byteAt, wordAt, nameCount, sizeAt}
 use Rattle.program.specs.Graph.{nodeCount, wordBytes}
@@ -47,7 +47,7 @@ sameBytes (x ∷ xs) [] = false
 sameBytes (x ∷ xs) (y ∷ ys) = eqb x y && sameBytes xs ys
 
 unfoldable pub listed : List (List ℕ) → List ℕ → Bool
-listed rs r = any (sameBytes r) rs
+listed rs r = anyOf (sameBytes r) rs
 
 -- "Are start list and sheet each whole records, at most 4,096? 16"
 unfoldable pub wholeRecords : ℕ → List ℕ → Bool

@@ -1,9 +1,8 @@
 -- The results of an action from an abstract memory ρ, in order (document 01, "Signs": "An arrow's results from a record"; book, Definition 4.21).
 use Prim.Native.Nat.{ℕ}
 use mathlib.Core.Bool.{Bool, cond}
-use mathlib.Core.List.{List, [], _∷_, map}
+use mathlib.Core.List.{List, [], _∷_, map, flatMap}
 use lib.ListN.{getD, set}
-use Rattle.signs.specs.Lists.{concatMap}
 use Rattle.signs.specs.Sign.{single, members, added, removed}
 use Rattle.signs.specs.declared.Sign.{Sign}
 use Rattle.program.specs.Graph.{Action, perform, test, leave, done}
@@ -24,7 +23,7 @@ performedOn ρ (skip k) = ρ ∷ []
 performedOn ρ (assign k x a) = map (λ s. set ρ x (single s)) (members (signsIn ρ a))
 performedOn ρ (store k x i a) =
     cond (mayIndex (signsIn ρ i))
-    (map (set ρ x) (concatMap (λ s. storedSets s (getD ρ x 0)) (members (signsIn ρ a))))
+    (map (set ρ x) (flatMap (λ s. storedSets s (getD ρ x 0)) (members (signsIn ρ a))))
     []
 performedOn ρ (sequence k c d) = ρ ∷ []
 performedOn ρ (conditional k c) = ρ ∷ []

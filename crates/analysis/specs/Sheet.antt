@@ -1,9 +1,9 @@
 -- What the sheet program prints, as rows of numbers (document 01, "The sheet program and the factorial lesson").
 use Prim.Native.Nat.{ℕ}
 use mathlib.Core.Bool.{not}
-use mathlib.Core.List.{List, [], _∷_, _++_}
+use mathlib.Core.List.{List, [], _∷_, _++_, flatMap}
 use lib.ListN.{length, getD}
-use Rattle.signs.specs.Lists.{concatMap, tabulate}
+use Rattle.signs.specs.Lists.{tabulate}
 use Rattle.program.specs.Asking.{askPlain, inTurn}
 use Rattle.program.specs.Graph.{edgeCount, nodeCount}
 use Rattle.program.specs.Questions.{inputValidity, programPart, initialPart}
@@ -30,7 +30,7 @@ unfoldable pub listing : List ℕ → List (List ℕ) → List (List ℕ)
 listing s rs =
     ((nodeCount s ∷ edgeCount s ∷ length rs ∷ [])
     ∷ tabulate (length rs) (λ k. k ∷ nodeOf (getD rs k []) ∷ memoryOf (getD rs k [])))
-    ++ (indexRow (markOf (negativeIndexes s (concatMap (λ r. r) rs))) ∷ [])
+    ++ (indexRow (markOf (negativeIndexes s (flatMap (λ r. r) rs))) ∷ [])
 
 -- whether a listing is printed: after 1 to 11, 17, whose "place counts from the start list's first byte", and 18 (16 cannot be refused here: the fifth field is whole records, at most 512)
 unfoldable pub printValidity : List ℕ → Found → Validity

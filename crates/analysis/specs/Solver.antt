@@ -1,10 +1,10 @@
 -- The solver's list (document 01, "Signs": "The solver goes through …", and question 18).
 use Prim.Native.Nat.{ℕ, zero, suc, _+_, _/_, min}
 use mathlib.Core.Bool.{Bool, true, false, cond}
-use mathlib.Core.List.{List, [], _∷_, _++_, map}
+use mathlib.Core.List.{List, [], _∷_, _++_, map, flatMap}
 use lib.Dec.{ltb}
 use lib.ListN.{length, getD, drop}
-use Rattle.signs.specs.Lists.{filter, concatMap, indices}
+use Rattle.signs.specs.Lists.{passing, indices}
 use Rattle.program.specs.Drawing.{over}
 use Rattle.program.specs.Graph.{edgeCount}
 use Rattle.program.specs.declared.Validity.{Validity}
@@ -37,9 +37,9 @@ offerAll room f (r ∷ rs) = offerAll room (offer room f r) rs
 -- what follows a record: "arrow by arrow, result by result"
 unfoldable pub successors : List ℕ → List ℕ → List (List ℕ)
 successors s r =
-    concatMap
+    flatMap
     (λ e. map (recordFor (edgeAt s e .target)) (results (memoryOf r) (edgeAt s e .action)))
-    (filter (λ e. leaves s e (nodeOf r)) (indices (edgeCount s)))
+    (passing (λ e. leaves s e (nodeOf r)) (indices (edgeCount s)))
 
 -- "then down its own list": from record k on. The list has no more than `room` records, so that many turns are enough
 unfoldable pub descend : ℕ → List ℕ → ℕ → ℕ → Found → Found
@@ -74,7 +74,7 @@ solved s initial buffer =
 
 -- the buffer afterwards: "After 18 the buffer holds the leading records that found room"
 unfoldable pub bufferWith : Validity → Validity → Found → List ℕ → List ℕ
-bufferWith Fit Fit f buffer = over (concatMap (λ r. r) (f .records)) buffer
+bufferWith Fit Fit f buffer = over (flatMap (λ r. r) (f .records)) buffer
 bufferWith Fit (Refused x) f buffer = buffer
 bufferWith (Refused x) malformed f buffer = buffer
 

@@ -5,7 +5,7 @@ use mathlib.Core.List.{List}
 use mathlib.Core.Path.{_≡_}
 use lib.Dec.{T}
 use lib.IntN.{ℤ}
-use Rattle.signs.specs.Lists.{all, indices}
+use Rattle.signs.specs.Lists.{allOf, indices}
 use Rattle.signs.specs.declared.Reason.{Reason}
 use Rattle.signs.specs.declared.Reason.the-variants.{ConditionFalse, DivisorZero, ExponentNegative, IndexNegative, IndexTooLarge, OutOfRange}
 use Rattle.program.specs.File.{sizes}
@@ -54,7 +54,7 @@ hasConfiguration s solution c = hasAt s solution (c .run .node) (abstractMemory 
 -- no edge out of a configuration's node meets a negative index
 unfoldable pub noEdgeMeets : List ℕ → Configuration → Bool
 noEdgeMeets s c =
-    all
+    allOf
     (λ e. not (leaves s e (c .run .node) && meetsInEffect (edgeEffect s (c .memory) e)))
     (indices (edgeCount s))
 
@@ -62,7 +62,7 @@ noEdgeMeets s c =
 pub record Kept (s solution : List ℕ) (mark : Mark) (m : List ℤ) (calls : List ℕ) (budget : ℕ) : Type 0 where
   pub reached : T (hasConfiguration s solution (replay s calls (begun m)))
   pub run-reached : T (hasConfiguration s solution (budgeted s budget m .final))
-  pub no-call-meets : mark ≡ Clean → T (all (λ o. not (meetsInCall o)) (outcomes s calls (begun m)))
+  pub no-call-meets : mark ≡ Clean → T (allOf (λ o. not (meetsInCall o)) (outcomes s calls (begun m)))
   pub no-edge-meets : mark ≡ Clean → T (noEdgeMeets s (replay s calls (begun m)))
   pub run-no-edge-meets : mark ≡ Clean → T (noEdgeMeets s (budgeted s budget m .final))
 

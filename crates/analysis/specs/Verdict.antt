@@ -1,9 +1,9 @@
 -- The verdict on a candidate solution (document 01, "Signs": "Verdict"; book, Definition 4.29).
 use Prim.Native.Nat.{ℕ}
 use mathlib.Core.Bool.{Bool, not, _&&_}
-use mathlib.Core.List.{List, [], _∷_, _++_, map}
+use mathlib.Core.List.{List, [], _∷_, _++_, map, flatMap}
 use lib.ListN.{getD}
-use Rattle.signs.specs.Lists.{any, filter, concatMap, indices}
+use Rattle.signs.specs.Lists.{anyOf, passing, indices}
 use Rattle.program.specs.Graph.{edgeCount}
 use Rattle.program.specs.declared.Validity.{Validity}
 use Rattle.program.specs.declared.Validity.the-variants.{Fit, Refused}
@@ -25,7 +25,7 @@ hasAt s solution node ρ = listed (recordsOf (recordWidth s) solution) (recordFo
 -- the start records that are missing at node 0, by number: "41, a start record missing at node 0 (first such)"
 unfoldable pub missingInitial : List ℕ → List ℕ → List ℕ → List ℕ
 missingInitial s initial solution =
-    filter
+    passing
     (λ k. not (hasAt s solution 0 (recordAt (initialWidth s) initial k)))
     (indices (recordCount (initialWidth s) initial))
 
@@ -37,18 +37,18 @@ pub record Spot : Type 0 where
 -- the records and edges out of their nodes that a test picks: "lowest record, then lowest arrow"
 unfoldable pub spots : List ℕ → List ℕ → (List ℕ → ℕ → Bool) → List Spot
 spots s solution picks =
-    concatMap
+    flatMap
     (λ k.
     let r = recordAt (recordWidth s) solution k in
     map (λ e. record { record-number = k; edge-number = e })
-    (filter (λ e. leaves s e (nodeOf r) && picks r e) (indices (edgeCount s))))
+    (passing (λ e. leaves s e (nodeOf r) && picks r e) (indices (edgeCount s))))
     (indices (recordCount (recordWidth s) solution))
 
 -- "42, a result missing at the arrow's target (lowest record, then lowest arrow)"
 unfoldable pub missingResults : List ℕ → List ℕ → List Spot
 missingResults s solution =
     spots s solution
-    (λ r e. any (λ ρ. not (hasAt s solution (edgeAt s e .target) ρ)) (results (memoryOf r) (edgeAt s e .action)))
+    (λ r e. anyOf (λ ρ. not (hasAt s solution (edgeAt s e .target) ρ)) (results (memoryOf r) (edgeAt s e .action)))
 
 -- "index clean if at no record does an arrow leaving its node hold an index expression … whose set has minus"
 unfoldable pub negativeIndexes : List ℕ → List ℕ → List Spot

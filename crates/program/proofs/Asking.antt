@@ -1,13 +1,13 @@
 -- Laws of asking: what a fit answer says of each question, and what the first refusal says of all.
 use mathlib.Core.Path.{_≡_, refl, sym, _∙_, ap}
 use mathlib.Core.Bool.{Bool, true, false, false≢true}
-use Prim.Native.Nat.{ℕ, zero, suc, _≤_, _<_}
+use Prim.Native.Nat.{ℕ, suc, _<_}
 use native.Mathlib.Omega.{arith}
-use native.Mathlib.Decide.{ℕ-discrete}
 use Rattle.program.specs.Asking.{ask, thenAsk, isRefused, askEach}
 use Rattle.program.specs.declared.Refusal.{Refusal}
 use Rattle.program.specs.declared.Validity.{Validity}
 use Rattle.program.specs.declared.Validity.the-variants.{Fit, Refused}
+use Rattle.program.proofs.FirstSuch.{first-nothing, first-at, first-more}
 
 -- a refusal is not fit
 pub refused-unfit {ℓ} : {A : Type ℓ} (x : Refusal) → Refused x ≡ Fit → A
@@ -52,32 +52,20 @@ unfolding isRefused
 not-refused Fit r i f = refl
 not-refused (Refused x) r i f = absurd (false≢true (sym f ∙ i))
 
+-- an answer that is no refusal is fit
+fit-only : (v : Validity) → isRefused v ≡ false → v ≡ Fit
+fit-only v i = not-refused v (isRefused v) refl i
+
 -- asked up to n and all yes: yes to each
 pub each-fit : (n : ℕ) (q : ℕ → Validity) → askEach n q ≡ Fit → (k : ℕ) → k < n → q k ≡ Fit
-unfolding askEach
-each-fit zero q e k h = absurd (omega arith)
-each-fit (suc n) q e k h =
-    elim (ℕ-discrete k n) [
-      | yes p ↦ ap q p ∙ then-second (askEach n q) (q n) e
-      | no f ↦ each-fit n q (then-first (askEach n q) (q n) e) k (omega arith)
-    ]
-
--- asked up to n, with a first no at k: that is the answer
-pub each-refused : (n : ℕ) (q : ℕ → Validity) (k : ℕ) (x : Refusal) → k < n → askEach k q ≡ Fit → q k ≡ Refused x → askEach n q ≡ Refused x
-unfolding askEach thenAsk
-each-refused zero q k x h e r = absurd (omega arith)
-each-refused (suc n) q k x h e r =
-    elim (ℕ-discrete k n) [
-      | yes p ↦ rw (← p, e, r)
-      | no f ↦ rw (each-refused n q k x (omega arith) e r)
-    ]
+unfolding askEach isRefused
+each-fit = first-nothing isRefused Fit refl fit-only
 
 -- how code asks in a loop: the answer v at k is returned where it is a refusal
 pub each-stops : (n : ℕ) (q : ℕ → Validity) (k : ℕ) (v : Validity) (r : Bool) → k < n → askEach k q ≡ Fit → v ≡ q k → r ≡ isRefused v → r ≡ true → v ≡ askEach n q
-unfolding isRefused
-each-stops n q k (Refused x) r h e p i t = sym (each-refused n q k x h e (sym p))
-each-stops n q k Fit r h e p i t = absurd (false≢true (sym i ∙ t))
+unfolding askEach isRefused
+each-stops n q k v r h e p i t = p ∙ sym (first-at isRefused Fit refl fit-only n q k h e (ap isRefused (sym p) ∙ sym i ∙ t))
 
 pub each-goes-on : (q : ℕ → Validity) (k : ℕ) (v : Validity) (r : Bool) → askEach k q ≡ Fit → v ≡ q k → r ≡ isRefused v → r ≡ false → askEach (suc k) q ≡ Fit
-unfolding askEach thenAsk
-each-goes-on q k v r e p i f = rw (e, ← p) (not-refused v r i f)
+unfolding askEach isRefused
+each-goes-on q k v r e p i f = first-more isRefused Fit refl fit-only q k e (sym p ∙ not-refused v r i f)

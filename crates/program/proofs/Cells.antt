@@ -1,12 +1,12 @@
 -- Laws of the cells of names.
 use mathlib.Core.Path.{_≡_, refl, sym, _∙_, ap}
-use mathlib.Core.List.{List, [], _∷_, _++_, map}
+use mathlib.Core.List.{List, [], _∷_, _++_, map, sum}
 use Prim.Native.Nat.{ℕ, zero, suc, _+_, _≤_, _<_, min}
 use native.Mathlib.Decide.{ℕ-discrete, decLe}
 use native.Mathlib.Omega.{arith}
 use lib.ListN.{take}
 use lib.Seq.{take-append-le, take-all}
-use Rattle.signs.specs.Lists.{tabulate, sum}
+use Rattle.signs.specs.Lists.{tabulate}
 use Rattle.program.specs.File.{nameCount, sizeAt, sizes, cellsOf, cellCount, firstCell}
 use Rattle.program.proofs.Lists.{length-tabulate}
 

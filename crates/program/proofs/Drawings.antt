@@ -1,6 +1,6 @@
 -- Laws of the drawing of a well-formed program.
 use mathlib.Core.Path.{_≡_, refl, _∙_}
-use mathlib.Core.List.{List, [], _∷_}
+use mathlib.Core.List.{List, [], _∷_, flatMap}
 use Prim.Native.Nat.{ℕ, suc, _+_, _-_, _*_, _≤_, _<_}
 use native.Mathlib.Numerals.{add-one}
 use native.Mathlib.Omega.{arith}
@@ -8,7 +8,6 @@ use native.Mathlib.Nat.{zero-add}
 use lib.ListN.{length, take, drop, set, getD, length-append, length-drop}
 use lib.Seq.{length-take-le, take-at, paste-suc}
 use borrow.Author.Tests.{le-leb, lt-leb}
-use Rattle.signs.specs.Lists.{concatMap}
 use Rattle.program.specs.Asking.{ask, thenAsk}
 use Rattle.program.specs.Drawing.{drawValidity, over}
 use Rattle.program.specs.DrawingParts.{strip, partAt, Room, Drew}
@@ -42,10 +41,10 @@ unfolding over
 length-over bytes buffer h = omega (arith, length-append bytes (drop (length bytes) buffer), length-drop (length bytes) buffer)
 
 -- seven bytes for each edge
-bytes-length : (es : List Edge) → length (concatMap edgeBytes es) ≡ 7 * length es
-unfolding concatMap edgeBytes wordBytes
+bytes-length : (es : List Edge) → length (flatMap edgeBytes es) ≡ 7 * length es
+unfolding flatMap edgeBytes wordBytes
 bytes-length [] = refl
-bytes-length (e ∷ es) = omega (arith, length-append (edgeBytes e) (concatMap edgeBytes es), bytes-length es)
+bytes-length (e ∷ es) = omega (arith, length-append (edgeBytes e) (flatMap edgeBytes es), bytes-length es)
 
 module _ (s : List ℕ) where
   pub graph-length : length (graphBytes s) ≡ 7 * edgeCount s

@@ -1,12 +1,11 @@
 -- An edge read out of the graph's bytes has the numbers of the graph's edge.
 use mathlib.Core.Path.{_≡_}
-use mathlib.Core.List.{List, [], _∷_, _++_}
+use mathlib.Core.List.{List, [], _∷_, _++_, flatMap}
 use Prim.Native.Nat.{ℕ, zero, suc, _+_, _*_, _/_, _%_, _≤_, _<_}
 use native.Mathlib.Nat.{le-of-suc-le-suc, not-suc-le-zero}
 use native.Mathlib.Omega.{arith}
 use lib.ListN.{length, getD, drop}
 use lib.Seq.{getD-append-add}
-use Rattle.signs.specs.Lists.{concatMap}
 use Rattle.program.specs.Drawing.{over, edgeRead, edgeNumbers}
 use Rattle.program.specs.File.{byteAt, wordAt, entryCount}
 use Rattle.program.specs.Graph.{Edge, edges, edgeCount, actionKind, actionEntry, actionTable, wordBytes, edgeBytes, graphBytes}
@@ -52,11 +51,11 @@ module _ (e : Edge) (bytes : List ℕ) where
   unfolding edgeRead edgeNumbers edgeBytes wordBytes byteAt wordAt
   read-first h = rw (word-back _ (h .source), word-back _ (h .target), word-back _ (h .entry))
 
-read-at : (es : List Edge) (rest : List ℕ) (k : ℕ) (d : Edge) → k < length es → Small (getD es k d) → edgeRead (concatMap edgeBytes es ++ rest) k ≡ edgeNumbers (getD es k d)
-unfolding concatMap edgeBytes wordBytes
+read-at : (es : List Edge) (rest : List ℕ) (k : ℕ) (d : Edge) → k < length es → Small (getD es k d) → edgeRead (flatMap edgeBytes es ++ rest) k ≡ edgeNumbers (getD es k d)
+unfolding flatMap edgeBytes wordBytes
 read-at [] rest k d h small = absurd (not-suc-le-zero h)
-read-at (e ∷ es) rest zero d h small = read-first e (concatMap edgeBytes es ++ rest) small
-read-at (e ∷ es) rest (suc k) d h small = rw (read-next e (concatMap edgeBytes es ++ rest) k) (read-at es rest k d (le-of-suc-le-suc h) small)
+read-at (e ∷ es) rest zero d h small = read-first e (flatMap edgeBytes es ++ rest) small
+read-at (e ∷ es) rest (suc k) d h small = rw (read-next e (flatMap edgeBytes es ++ rest) k) (read-at es rest k d (le-of-suc-le-suc h) small)
 
 module _ (s : List ℕ) (fit : validity s ≡ Fit) where
   few-entries : (t : Table) → entryCount s t ≤ 512

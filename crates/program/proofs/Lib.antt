@@ -2,6 +2,7 @@ pub mod Tests
 pub mod Induction
 pub mod Lists
 pub mod Sums
+pub mod FirstSuch
 pub mod Asking
 pub mod Reading
 pub mod Heads

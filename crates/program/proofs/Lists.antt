@@ -9,7 +9,7 @@ use native.Mathlib.Decide.{ℕ-discrete}
 use lib.Dec.{T}
 use lib.ListN.{length, getD, length-append, List·getD-append, List·getD-eq-default, replicate}
 use lib.Seq.{getD-append-seam}
-use Rattle.signs.specs.Lists.{all, tabulate}
+use Rattle.signs.specs.Lists.{allOf, tabulate}
 use Rattle.program.proofs.Tests.{both, passed, is-true}
 
 -- a list that gets one element more at its end each time: its length is the number of times, and it holds each element at its place
@@ -62,7 +62,7 @@ module _ {A : Type 0} {P : A → Type 0} where
   each-at (suc k) d (more p h) l = each-at k d h (le-of-suc-le-suc l)
 
   -- a test that every element with the property passes
-  pub each-all : {xs : List A} (f : A → Bool) → ((x : A) → P x → T (f x)) → Each P xs → T (all f xs)
-  unfolding all
-  each-all f g none = tt
-  each-all f g (more {x = x} {xs = xs} p h) = passed (both (is-true (f x) (g x p)) (is-true (all f xs) (each-all f g h)))
+  pub each-allOf : {xs : List A} (f : A → Bool) → ((x : A) → P x → T (f x)) → Each P xs → T (allOf f xs)
+  unfolding allOf
+  each-allOf f g none = tt
+  each-allOf f g (more {x = x} {xs = xs} p h) = passed (both (is-true (f x) (g x p)) (is-true (allOf f xs) (each-allOf f g h)))

@@ -9,11 +9,11 @@ use native.Mathlib.Omega.{arith}
 use lib.Dec.{T, eqb, ltb}
 use lib.ListN.{getD}
 use borrow.Author.Tests.{lt-ltb, ne-eqb}
-use Rattle.signs.specs.Lists.{all}
+use Rattle.signs.specs.Lists.{allOf}
 use Rattle.program.specs.Graph.{Action, Edge, edge, part, graph, edges, edgeCount, nodeCount}
 use Rattle.program.specs.Syntax.{Command, skip, assign, store, sequence, conditional, iteration, guarded, choice}
 use Rattle.program.specs.Tree.{script}
-use Rattle.program.proofs.Lists.{Each, none, more, each-append, each-at, each-all}
+use Rattle.program.proofs.Lists.{Each, none, more, each-append, each-at, each-allOf}
 use Rattle.program.proofs.Tests.{both, passed}
 
 -- what holds of an edge in a graph of so many nodes
@@ -80,6 +80,6 @@ module _ (s : List ℕ) where
   unfolding edgeCount
   edge-inside k d h = each-at k d edges-inside h
 
-  pub all-inside : T (all (λ e. ltb (e .source) (nodeCount s) && ltb (e .target) (nodeCount s) && not (eqb (e .source) 1)) (edges s))
+  pub all-inside : T (allOf (λ e. ltb (e .source) (nodeCount s) && ltb (e .target) (nodeCount s) && not (eqb (e .source) 1)) (edges s))
   all-inside =
-      each-all _ (λ e h. passed (both (both (lt-ltb _ _ (h .source-inside)) (lt-ltb _ _ (h .target-inside))) (ap not (ne-eqb _ _ (h .source-not-end))))) edges-inside
+      each-allOf _ (λ e h. passed (both (both (lt-ltb _ _ (h .source-inside)) (lt-ltb _ _ (h .target-inside))) (ap not (ne-eqb _ _ (h .source-not-end))))) edges-inside

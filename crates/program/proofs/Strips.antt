@@ -2,7 +2,7 @@
 use mathlib.Core.Path.{_≡_, refl, sym, _∙_, ap}
 use mathlib.Core.Bool.{Bool, true, false}
 use mathlib.Core.Logic.{_⊎_, inl, inr, ⊎-elim}
-use mathlib.Core.List.{List, [], _∷_, _++_, append-assoc, append-nil}
+use mathlib.Core.List.{List, [], _∷_, _++_, append-assoc, append-nil, flatMap}
 use Prim.Native.Nat.{ℕ, _+_, _≤_, _<_}
 use native.Mathlib.Numerals.{add-one}
 use native.Mathlib.Nat.{le-refl}
@@ -11,7 +11,6 @@ use lib.ListN.{length, take, drop, set, length-append}
 use lib.Seq.{length-take-le, set-split, take-at, drop-at, drop-drop}
 use lib.Dec.{ltb}
 use borrow.Author.Tests.{lt-ltb, le-ltb, ltb-true, ltb-false}
-use Rattle.signs.specs.Lists.{concatMap}
 use Rattle.program.specs.Drawing.{over}
 use Rattle.program.specs.DrawingParts.{overAt, edgeRow, Strip, strip, edgeStrip, partAt, constructBy, constructOf, Room, Drew}
 use Rattle.program.specs.Graph.{guardAction, part, actionKind, actionEntry, wordBytes, edgeBytes}
@@ -90,10 +89,10 @@ unfolding followed
 drew-only x d = rw append-nil d
 
 -- the bytes of edges in a row
-concat-append : {A B : Type 0} (f : A → List B) (xs ys : List A) → concatMap f (xs ++ ys) ≡ concatMap f xs ++ concatMap f ys
-unfolding concatMap
+concat-append : {A B : Type 0} (f : A → List B) (xs ys : List A) → flatMap f (xs ++ ys) ≡ flatMap f xs ++ flatMap f ys
+unfolding flatMap
 concat-append f [] ys = refl
-concat-append f (x ∷ xs) ys = rw (concat-append f xs ys) (sym (append-assoc (f x) (concatMap f xs) (concatMap f ys)))
+concat-append f (x ∷ xs) ys = rw (concat-append f xs ys) (sym (append-assoc (f x) (flatMap f xs) (flatMap f ys)))
 
 pub strip-grows : (c : Command) (a b n : ℕ) → n ≤ strip c a b n .fresh
 unfolding strip
@@ -173,11 +172,11 @@ module _ (s : List ℕ) where
       (lt-or-ge p n)
 
   skip-strip : (n a b f : ℕ) → strip (skip n) a b f ≡ drawnAs s n Leaf a b f
-  unfolding drawnAs firstAs restAs followed strip edgeStrip part concatMap edgeBytes edgeRow wordBytes actionKind actionEntry commandEntry
+  unfolding drawnAs firstAs restAs followed strip edgeStrip part flatMap edgeBytes edgeRow wordBytes actionKind actionEntry commandEntry
   skip-strip n a b f = refl
 
   node-strip : (n k p q r a b f : ℕ) → strip (commandNode s (commandTrees s n) n (record { kind = k; p = p; q = q; r = r })) a b f ≡ drawnAs s n (constructBy (record { kind = k; p = p; q = q; r = r })) a b f
-  unfolding commandNode constructBy drawnAs firstAs restAs followed strip edgeStrip part guardAction concatMap edgeBytes edgeRow wordBytes actionKind actionEntry commandEntry
+  unfolding commandNode constructBy drawnAs firstAs restAs followed strip edgeStrip part guardAction flatMap edgeBytes edgeRow wordBytes actionKind actionEntry commandEntry
   node-strip n =
       by-kind _
       (λ p q r a b f. refl)

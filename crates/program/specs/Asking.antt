@@ -1,7 +1,8 @@
 -- Questions asked in order, and what the first "no" answers (document 01, "Questions asked, with the number when it is no").
-use Prim.Native.Nat.{ℕ, zero, suc}
+use Prim.Native.Nat.{ℕ}
 use mathlib.Core.Bool.{Bool, true, false, cond}
 use mathlib.Core.List.{List, [], _∷_}
+use Rattle.program.specs.FirstSuch.{firstOf}
 use Rattle.program.specs.declared.Validity.{Validity}
 use Rattle.program.specs.declared.Validity.the-variants.{Fit, Refused}
 
@@ -30,8 +31,7 @@ inTurn (x ∷ xs) = thenAsk x (inTurn xs)
 
 -- what is asked of 0, 1, … n - 1, in turn
 unfoldable pub askEach : ℕ → (ℕ → Validity) → Validity
-askEach zero q = Fit
-askEach (suc n) q = thenAsk (askEach n q) (q n)
+askEach = firstOf isRefused Fit
 
 -- an answer in document 01's numbers: 0, or the question's number and its place
 unfoldable pub validityNumbers : Validity → List ℕ

@@ -2,10 +2,9 @@
 use Prim.Native.Nat.{ℕ, _+_, _≤_, _<_}
 use mathlib.Core.Path.{_≡_}
 use mathlib.Core.Bool.{cond}
-use mathlib.Core.List.{List, [], _∷_, _++_}
+use mathlib.Core.List.{List, [], _∷_, _++_, flatMap}
 use lib.Dec.{ltb}
 use lib.ListN.{length, take, drop, getD}
-use Rattle.signs.specs.Lists.{concatMap}
 use Rattle.program.specs.Drawing.{over}
 use Rattle.program.specs.File.{entry}
 use Rattle.program.specs.Graph.{part, wordBytes, edgeBytes, edgeCount, nodeCount, graphBytes}
@@ -32,7 +31,7 @@ pub record Strip : Type 0 where
   pub fresh : ℕ
 
 unfoldable pub strip : Command → ℕ → ℕ → ℕ → Strip
-strip c a b n = record { bytes = concatMap edgeBytes (part c a b n .edges); fresh = part c a b n .fresh }
+strip c a b n = record { bytes = flatMap edgeBytes (part c a b n .edges); fresh = part c a b n .fresh }
 
 -- what drawing such a part does: the bytes over the buffer from a place on, and the next fresh node and place
 pub record Drew (x : Strip) (at : ℕ) (before after : List ℕ) (r : Pen) : Type 0 where

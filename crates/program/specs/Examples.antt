@@ -1,10 +1,9 @@
 -- The worked examples of document 01 on files and graphs. `proofs/Examples` shows that each holds.
 use Prim.Native.Nat.{ℕ}
-use mathlib.Core.List.{List, [], _∷_, _++_}
+use mathlib.Core.List.{List, [], _∷_, _++_, flatMap}
 use lib.ListN.{length, replicate}
 use lib.IntN.{ℤ, pos}
 use Rattle.signs.specs.Case.{Case, _gives_, row}
-use Rattle.signs.specs.Lists.{concatMap}
 use Rattle.program.specs.Asking.{validityNumbers}
 use Rattle.program.specs.Drawing.{drawn, drawnBuffer, drawnNumbers}
 use Rattle.program.specs.Graph.{done, wordBytes}
@@ -53,10 +52,10 @@ entryOf kind p q r = (kind ∷ []) ++ wordBytes p ++ wordBytes q ++ wordBytes r
 -- a file of names with these sizes and of these entries
 unfoldable pub fileOf : List ℕ → List (List ℕ) → List (List ℕ) → List (List ℕ) → List ℕ
 fileOf names arithmetic booleans commands =
-    field 1 (concatMap wordBytes names)
-    ++ field 2 (concatMap (λ e. e) arithmetic)
-    ++ field 3 (concatMap (λ e. e) booleans)
-    ++ field 4 (concatMap (λ e. e) commands)
+    field 1 (flatMap wordBytes names)
+    ++ field 2 (flatMap (λ e. e) arithmetic)
+    ++ field 3 (flatMap (λ e. e) booleans)
+    ++ field 4 (flatMap (λ e. e) commands)
 
 -- skip, over names with these sizes
 unfoldable pub skipOver : List ℕ → List ℕ

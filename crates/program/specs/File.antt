@@ -1,11 +1,11 @@
 -- The program file: numbers, fields and entries (document 01, "The script file"). All reading is total: a byte past the end is 0.
 use Prim.Native.Nat.{ℕ, zero, suc, _+_, _*_, _/_, _-_, _<_}
 use mathlib.Core.Bool.{cond}
-use mathlib.Core.List.{List, [], _∷_, map}
+use mathlib.Core.List.{List, [], _∷_, map, sum}
 use lib.Dec.{eqb, ltb}
 use lib.ListN.{getD, take}
 use lib.IntN.{ℤ, pos, negsuc}
-use Rattle.signs.specs.Lists.{tabulate, sum}
+use Rattle.signs.specs.Lists.{tabulate}
 use Rattle.program.specs.declared.Entry.{Entry}
 use Rattle.program.specs.declared.Layout.{Layout}
 use Rattle.program.specs.declared.Span.{Span}
@@ -109,7 +109,7 @@ unfoldable pub cellsOf : ℕ → ℕ
 cellsOf size = cond (eqb size 0) 1 size
 
 unfoldable pub cellCount : List ℕ → ℕ
-cellCount ns = sum (map cellsOf ns)
+cellCount ns = sum _+_ 0 (map cellsOf ns)
 
 unfoldable pub firstCell : List ℕ → ℕ → ℕ
 firstCell ns i = cellCount (take i ns)

@@ -1,10 +1,9 @@
 -- The program graph (document 01, "The graph"; book, Definitions 2.7, 2.8 and 2.19).
 use Prim.Native.Nat.{ℕ, _+_, _/_, _%_}
 use mathlib.Core.Bool.{cond}
-use mathlib.Core.List.{List, [], _∷_, _++_}
+use mathlib.Core.List.{List, [], _∷_, _++_, flatMap}
 use lib.Dec.{eqb}
 use lib.ListN.{length, getD}
-use Rattle.signs.specs.Lists.{concatMap}
 use Rattle.program.specs.Syntax.{Boolean, truth, conjunction, negation, booleanEntry, Command, skip, assign, store, sequence, conditional, iteration, guarded, choice, commandEntry}
 use Rattle.program.specs.Tree.{booleanAt, commandAt, script}
 use Rattle.program.specs.declared.Table.{Table}
@@ -115,4 +114,4 @@ edgeBytes e =
     ++ wordBytes (actionEntry (e .action))
 
 unfoldable pub graphBytes : List ℕ → List ℕ
-graphBytes s = concatMap edgeBytes (edges s)
+graphBytes s = flatMap edgeBytes (edges s)

@@ -1,5 +1,6 @@
 pub mod File
 pub mod Reader
+pub mod FirstSuch
 pub mod Asking
 pub mod Kind
 pub mod Questions

@@ -77,6 +77,12 @@ pub enum Validity {
     Refused(Refusal),
 }
 
+// The first number that passes a test, or that there is none.
+pub enum First {
+    At(u16),
+    Nothing,
+}
+
 // What drawing the graph replies: the counts are zero where it is refused.
 pub struct Drawn {
     pub validity: Validity,

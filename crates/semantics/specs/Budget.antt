@@ -4,7 +4,7 @@ use mathlib.Core.Bool.{Bool, true, false, cond, _&&_}
 use mathlib.Core.List.{List, [], _∷_, _++_}
 use lib.Dec.{eqb}
 use lib.IntN.{ℤ}
-use Rattle.signs.specs.Lists.{filter, indices}
+use Rattle.signs.specs.Lists.{passing, indices}
 use Rattle.program.specs.Graph.{edgeCount}
 use Rattle.program.specs.declared.Validity.{Validity}
 use Rattle.program.specs.declared.Validity.the-variants.{Fit, Refused}
@@ -16,7 +16,7 @@ use Rattle.semantics.specs.declared.Ending.the-variants.{Arrived, Spent,
 
 -- the defined edges out of a node, in order
 unfoldable pub definedEdges : List ℕ → ℕ → List ℤ → List ℕ
-definedEdges s node m = filter (λ e. leaves s e node && isDefined (edgeEffect s m e)) (indices (edgeCount s))
+definedEdges s node m = passing (λ e. leaves s e node && isDefined (edgeEffect s m e)) (indices (edgeCount s))
 
 -- the configuration along edge e
 unfoldable pub along : List ℕ → ℕ → Configuration → Configuration

@@ -1,10 +1,9 @@
 -- The worked examples of document 01 on values, steps and runs. `proofs/Examples` shows that each holds.
 use Prim.Native.Nat.{ℕ}
 use mathlib.Core.Bool.{Bool, true, false, cond}
-use mathlib.Core.List.{List, [], _∷_, _++_, map}
+use mathlib.Core.List.{List, [], _∷_, _++_, map, flatMap}
 use lib.IntN.{ℤ, pos}
 use Rattle.signs.specs.Case.{Case, _gives_, row}
-use Rattle.signs.specs.Lists.{concatMap}
 use Rattle.signs.specs.Number.{reasonNumber, valueNumbers}
 use Rattle.signs.specs.declared.Comparison.the-variants.{Greater}
 use Rattle.signs.specs.declared.Operator.the-variants.{Add, Sub}
@@ -79,7 +78,7 @@ afterCalls s es m =
 
 -- what the calls of the factorial lesson answer
 unfoldable pub answers : List ℕ → List ℤ → List ℕ
-answers es m = concatMap outcomeNumbers (outcomes factorial es (record { run = fresh; memory = m }))
+answers es m = flatMap outcomeNumbers (outcomes factorial es (record { run = fresh; memory = m }))
 
 -- calls along edges 1, 0, 1 and 4 of the factorial lesson: refused, taken, taken, refused; and 0, 4 from x 1: taken, undefined
 unfoldable pub calls : List Case

@@ -1,14 +1,14 @@
 -- Comparisons and truth answers: what is among the answers.
 use mathlib.Core.Path.{_≡_, refl, subst, _∙_}
 use mathlib.Core.Bool.{Bool, true, false, cond, not, _&&_}
-use mathlib.Core.List.{List, [], _∷_, _++_, List·Memᴰ}
+use mathlib.Core.List.{List, [], _∷_, _++_, List·Memᴰ, flatMap}
 use Prim.Native.Nat.{ℕ, zero, suc}
 use native.Mathlib.Omega.{arith}
 use borrow.Author.Tests.{le-leb, lt-leb}
 use lib.Dec.{T, eqb·zero-suc, eqb·suc-zero}
 use lib.IntN.{ℤ, pos, negsuc}
 use mir.Facts.{and-yes}
-use Rattle.signs.specs.Lists.{any, all, concatMap, pairs}
+use Rattle.signs.specs.Lists.{anyOf, allOf, pairs}
 use Rattle.signs.specs.Number.{compares}
 use Rattle.signs.specs.Sign.{has, single, members, signOf}
 use Rattle.signs.specs.Truth.{truthsOf, among, answers, samples, compareSigns, compareSets}
@@ -18,8 +18,8 @@ use Rattle.signs.specs.declared.Sign.{Sign}
 use Rattle.signs.specs.declared.Sign.the-variants.{Minus, Zero, Plus}
 use Rattle.signs.specs.declared.Truths.{Truths}
 use Rattle.signs.proofs.Finite.{at-sign, at-comparison}
-use Rattle.signs.proofs.Lists.{any-cong, any-concatMap, any-pairs, any-witness, all-member}
-use Rattle.signs.proofs.Membership.{any-member-pairs, somePair, single-only}
+use Rattle.signs.proofs.Lists.{anyOf-cong, anyOf-flatMap, anyOf-pairs, anyOf-witness, allOf-member}
+use Rattle.signs.proofs.Membership.{anyOf-member-pairs, somePair, single-only}
 use Rattle.signs.proofs.Open.{definitions}
 
 -- whether a truth value is the one asked about
@@ -27,16 +27,16 @@ abbrev is : Bool → Bool → Bool
 is true b = b
 is false b = not b
 
-among-truthsOf : (v : Bool) (bs : List Bool) → among v (truthsOf bs) ≡ any (is v) bs
+among-truthsOf : (v : Bool) (bs : List Bool) → among v (truthsOf bs) ≡ anyOf (is v) bs
 unfolding among truthsOf
 among-truthsOf true bs = refl
 among-truthsOf false bs = refl
 
-among-answers : (v : Bool) (t : Truths) → any (is v) (answers t) ≡ among v t
-unfolding among answers any
+among-answers : (v : Bool) (t : Truths) → anyOf (is v) (answers t) ≡ among v t
+unfolding among answers anyOf
 among-answers v t = go v (t .holds) (t .fails)
   where
-    go : (v h f : Bool) → any (is v) (cond h (true ∷ []) [] ++ cond f (false ∷ []) []) ≡ among v (record { holds = h; fails = f })
+    go : (v h f : Bool) → anyOf (is v) (cond h (true ∷ []) [] ++ cond f (false ∷ []) []) ≡ among v (record { holds = h; fails = f })
     go true true f = refl
     go true false true = refl
     go true false false = refl
@@ -48,11 +48,11 @@ among-answers v t = go v (t .holds) (t .fails)
 pub among-compareSets : (c : Comparison) (a b : ℕ) (v : Bool) → among v (compareSets c a b) ≡ somePair (λ l r. among v (compareSigns c l r)) a b
 unfolding compareSets
 among-compareSets c a b v =
-    among-truthsOf v (concatMap answers (pairs (compareSigns c) (members a) (members b)))
-    ∙ any-concatMap (is v) answers (pairs (compareSigns c) (members a) (members b))
-    ∙ any-cong (λ t. any (is v) (answers t)) (among v) (among-answers v) (pairs (compareSigns c) (members a) (members b))
-    ∙ any-pairs (among v) (compareSigns c) (members a) (members b)
-    ∙ any-member-pairs (λ l r. among v (compareSigns c l r)) a b
+    among-truthsOf v (flatMap answers (pairs (compareSigns c) (members a) (members b)))
+    ∙ anyOf-flatMap (is v) answers (pairs (compareSigns c) (members a) (members b))
+    ∙ anyOf-cong (λ t. anyOf (is v) (answers t)) (among v) (among-answers v) (pairs (compareSigns c) (members a) (members b))
+    ∙ anyOf-pairs (among v) (compareSigns c) (members a) (members b)
+    ∙ anyOf-member-pairs (λ l r. among v (compareSigns c l r)) a b
 
 -- both answers are there
 either : (v : Bool) (t : Truths) → T (t .holds && t .fails) → T (among v t)
@@ -87,10 +87,10 @@ pub record Occurs (c : Comparison) (l r : Sign) (v : Bool) : Type 0 where
 
 sampled : (s : Sign) (z : ℤ) → List·Memᴰ z (samples s) → signOf z ≡ s
 unfolding definitions
-sampled s z m = single-only (signOf z) s (all-member (λ z. has (single (signOf z)) s) (samples s) (right s) m)
+sampled s z m = single-only (signOf z) s (allOf-member (λ z. has (single (signOf z)) s) (samples s) (right s) m)
   where
-    right : (s : Sign) → T (all (λ z. has (single (signOf z)) s) (samples s))
-    right s = at-sign (λ s. all (λ z. has (single (signOf z)) s) (samples s)) tt s
+    right : (s : Sign) → T (allOf (λ z. has (single (signOf z)) s) (samples s))
+    right s = at-sign (λ s. allOf (λ z. has (single (signOf z)) s) (samples s)) tt s
 
 is-eq : (v b : Bool) → T (is v b) → b ≡ v
 is-eq true true t = refl
@@ -102,11 +102,11 @@ pub occurs : (c : Comparison) (l r : Sign) (v : Bool) → T (among v (compareSig
 unfolding compareSigns
 occurs c l r v h = record { left = x .0; right = y .0; left-sign = sampled l (x .0) (x .1); right-sign = sampled r (y .0) (y .1); truth = is-eq v (compares c (x .0) (y .0)) (y .2) }
   where
-    tested : T (any (λ x. any (λ y. is v (compares c x y)) (samples r)) (samples l))
-    tested = subst T (among-truthsOf v (pairs (compares c) (samples l) (samples r)) ∙ any-pairs (is v) (compares c) (samples l) (samples r)) h
+    tested : T (anyOf (λ x. anyOf (λ y. is v (compares c x y)) (samples r)) (samples l))
+    tested = subst T (among-truthsOf v (pairs (compares c) (samples l) (samples r)) ∙ anyOf-pairs (is v) (compares c) (samples l) (samples r)) h
 
-    x : (x : ℤ) × List·Memᴰ x (samples l) × T (any (λ y. is v (compares c x y)) (samples r))
-    x = any-witness (λ x. any (λ y. is v (compares c x y)) (samples r)) (samples l) tested
+    x : (x : ℤ) × List·Memᴰ x (samples l) × T (anyOf (λ y. is v (compares c x y)) (samples r))
+    x = anyOf-witness (λ x. anyOf (λ y. is v (compares c x y)) (samples r)) (samples l) tested
 
     y : (y : ℤ) × List·Memᴰ y (samples r) × T (is v (compares c (x .0) y))
-    y = any-witness (λ y. is v (compares c (x .0) y)) (samples r) (x .2)
+    y = anyOf-witness (λ y. is v (compares c (x .0) y)) (samples r) (x .2)

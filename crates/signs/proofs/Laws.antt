@@ -7,9 +7,9 @@ use lib.Dec.{T}
 use lib.IntN.{ℤ}
 use mir.Facts.{yes-and}
 use Rattle.signs.specs.Grid.{grid, operate}
-use Rattle.signs.specs.Lists.{any, pairs}
+use Rattle.signs.specs.Lists.{anyOf, pairs}
 use Rattle.signs.specs.Number.{apply, compares}
-use Rattle.signs.specs.Sign.{signOf, single, signs, has, setOf, members, union, unionAll, added, removed}
+use Rattle.signs.specs.Sign.{signOf, single, signs, has, setOf, members, unite, unionAll, added, removed}
 use Rattle.signs.specs.Truth.{among, compareSigns, compareSets, negated, conjoined, andThen}
 use Rattle.signs.specs.declared.Comparison.{Comparison}
 use Rattle.signs.specs.declared.Operator.{Operator}
@@ -46,10 +46,10 @@ setOf-has = Membership.setOf-has
 pub same-set : (a b : ℕ) → a < 8 → b < 8 → ((s : Sign) → has a s ≡ has b s) → a ≡ b
 same-set = Membership.same-set
 
-pub has-union : (a b : ℕ) (s : Sign) → has (union a b) s ≡ (has a s || has b s)
-has-union = Membership.has-union
+pub has-unite : (a b : ℕ) (s : Sign) → has (unite a b) s ≡ (has a s || has b s)
+has-unite = Membership.has-unite
 
-pub has-unionAll : (l : List ℕ) (s : Sign) → has (unionAll l) s ≡ any (λ a. has a s) l
+pub has-unionAll : (l : List ℕ) (s : Sign) → has (unionAll l) s ≡ anyOf (λ a. has a s) l
 has-unionAll = Membership.has-unionAll
 
 pub has-added : (s : Sign) (set : ℕ) (t : Sign) → has (added s set) t ≡ (has set t || has (single s) t)
@@ -61,12 +61,12 @@ has-removed = Membership.has-removed
 pub setOf-below : (f : Sign → Bool) → setOf f < 8
 setOf-below = Membership.setOf-below
 
-pub union-below : (a b : ℕ) → union a b < 8
-union-below = Membership.union-below
+pub unite-below : (a b : ℕ) → unite a b < 8
+unite-below = Membership.unite-below
 
 pub added-below : (s : Sign) (set : ℕ) → added s set < 8
 unfolding added
-added-below s set = Membership.union-below set (single s)
+added-below s set = Membership.unite-below set (single s)
 
 pub removed-below : (s : Sign) (set : ℕ) → removed s set < 8
 unfolding removed
@@ -79,8 +79,8 @@ member-has = Membership.member-has
 pub has-member : (set : ℕ) (s : Sign) → T (has set s) → List·Memᴰ s (members set)
 has-member = Membership.has-member
 
-pub any-members : (p : Sign → Bool) (set : ℕ) → any p (members set) ≡ any (λ s. has set s && p s) signs
-any-members = Membership.any-members
+pub anyOf-members : (p : Sign → Bool) (set : ℕ) → anyOf p (members set) ≡ anyOf (λ s. has set s && p s) signs
+anyOf-members = Membership.anyOf-members
 
 -- ---- Operators
 

@@ -8,12 +8,12 @@ use native.Mathlib.Omega.{arith}
 use lib.Bits.{bitOr, or-mod, or-lt}
 use lib.Dec.{T, eqb, leb, ltb, leb→le, ltb→lt, eqb→eq, lit<}
 use mir.Facts.{and-yes, yes-and}
-use Rattle.signs.specs.Lists.{any, filter}
-use Rattle.signs.specs.Sign.{has, single, signs, setOf, members, union, unionAll, added, removed}
+use Rattle.signs.specs.Lists.{anyOf, passing}
+use Rattle.signs.specs.Sign.{has, single, signs, setOf, members, unite, unionAll, added, removed}
 use Rattle.signs.specs.declared.Sign.{Sign}
 use Rattle.signs.specs.declared.Sign.the-variants.{Minus, Zero, Plus}
 use Rattle.signs.proofs.Finite.{everySign, at-sign, everyBool, at-bool, everyBelow, at-below, at-sets, beq-eq}
-use Rattle.signs.proofs.Lists.{any-cong, any-mono, and-mono, any-filter, filter-keeps, filter-passes, or-assoc, or-false, or-left, or-right}
+use Rattle.signs.proofs.Lists.{anyOf-cong, anyOf-mono, and-mono, anyOf-passing, passing-keeps, passing-passes, or-assoc, or-false, or-left, or-right}
 
 -- the set with the signs that are said to be in it
 abbrev of : Bool → Bool → Bool → ℕ
@@ -71,41 +71,41 @@ has-remainder n Zero = let e : n % 8 / 2 % 2 ≡ n / 2 % 2 = omega arith in rw e
 has-remainder n Plus = let e : n % 8 / 4 % 2 ≡ n / 4 % 2 = omega arith in rw e
 
 pub members-remainder : (n : ℕ) → members (n % 8) ≡ members n
-unfolding members filter signs
+unfolding members passing signs
 members-remainder n = simp has-remainder
 
 pub has-empty : (s : Sign) → has 0 s ≡ false
 unfolding has single
 has-empty s = beq-eq (has 0 s) false (at-sign (λ s. Bool·beq (has 0 s) false) tt s)
 
-pub has-union : (a b : ℕ) (s : Sign) → has (union a b) s ≡ (has a s || has b s)
-unfolding union
-has-union a b s = has-setOf (λ s. has a s || has b s) s
+pub has-unite : (a b : ℕ) (s : Sign) → has (unite a b) s ≡ (has a s || has b s)
+unfolding unite
+has-unite a b s = has-setOf (λ s. has a s || has b s) s
 
-pub union-below : (a b : ℕ) → union a b < 8
-unfolding union
-union-below a b = setOf-below (λ s. has a s || has b s)
+pub unite-below : (a b : ℕ) → unite a b < 8
+unfolding unite
+unite-below a b = setOf-below (λ s. has a s || has b s)
 
-union-remainder : (a b : ℕ) → union (a % 8) (b % 8) ≡ union a b
-unfolding union setOf
-union-remainder a b = simp has-remainder
+unite-remainder : (a b : ℕ) → unite (a % 8) (b % 8) ≡ unite a b
+unfolding unite setOf
+unite-remainder a b = simp has-remainder
 
-pub has-unionAll : (l : List ℕ) (s : Sign) → has (unionAll l) s ≡ any (λ a. has a s) l
-unfolding unionAll any
+pub has-unionAll : (l : List ℕ) (s : Sign) → has (unionAll l) s ≡ anyOf (λ a. has a s) l
+unfolding unionAll anyOf
 has-unionAll [] s = has-empty s
-has-unionAll (a ∷ l) s = has-union a (unionAll l) s ∙ ap (λ (b : Bool). has a s || b) (has-unionAll l s)
+has-unionAll (a ∷ l) s = has-unite a (unionAll l) s ∙ ap (λ (b : Bool). has a s || b) (has-unionAll l s)
 
 pub unionAll-below : (l : List ℕ) → unionAll l < 8
 unfolding unionAll
 unionAll-below [] = omega arith
-unionAll-below (a ∷ l) = union-below a (unionAll l)
+unionAll-below (a ∷ l) = unite-below a (unionAll l)
 
 pub has-added : (s : Sign) (set : ℕ) (t : Sign) → has (added s set) t ≡ (has set t || has (single s) t)
 unfolding added
-has-added s set t = has-union set (single s) t
+has-added s set t = has-unite set (single s) t
 
 added-remainder : (s : Sign) (set : ℕ) → added s (set % 8) ≡ added s set
-unfolding added union setOf
+unfolding added unite setOf
 added-remainder s set = simp has-remainder
 
 removed-remainder : (s : Sign) (set : ℕ) → removed s (set % 8) ≡ removed s set
@@ -117,27 +117,27 @@ unfolding removed
 has-removed s set t = has-setOf (λ t. has set t && not (has (single s) t)) t
 
 -- the members of a set, as a test over the three signs
-pub any-members : (p : Sign → Bool) (set : ℕ) → any p (members set) ≡ any (λ s. has set s && p s) signs
+pub anyOf-members : (p : Sign → Bool) (set : ℕ) → anyOf p (members set) ≡ anyOf (λ s. has set s && p s) signs
 unfolding members
-any-members p set = any-filter p (has set) signs
+anyOf-members p set = anyOf-passing p (has set) signs
 
 -- the machine's `or` of two sets
-pub union-or : (a b : ℕ) → bitOr a b % 8 ≡ union a b
-unfolding union setOf has single
-union-or a b =
+pub unite-or : (a b : ℕ) → bitOr a b % 8 ≡ unite a b
+unfolding unite setOf has single
+unite-or a b =
     or-mod a b 3
-    ∙ sym (eqb→eq (union (a % 8) (b % 8)) (bitOr (a % 8) (b % 8)) (at-sets (λ a b. eqb (union a b) (bitOr a b)) tt a b))
-    ∙ union-remainder a b
+    ∙ sym (eqb→eq (unite (a % 8) (b % 8)) (bitOr (a % 8) (b % 8)) (at-sets (λ a b. eqb (unite a b) (bitOr a b)) tt a b))
+    ∙ unite-remainder a b
 
 pub has-or : (a b : ℕ) (s : Sign) → has (bitOr a b) s ≡ (has a s || has b s)
-has-or a b s = sym (has-remainder (bitOr a b) s) ∙ ap (λ n. has n s) (union-or a b) ∙ has-union a b s
+has-or a b s = sym (has-remainder (bitOr a b) s) ∙ ap (λ n. has n s) (unite-or a b) ∙ has-unite a b s
 
 pub or-below : (a b : ℕ) → a < 8 → b < 8 → bitOr a b < 8
 or-below a b = or-lt 3 a b
 
 -- the union over the three signs
-pub has-three : (f : Sign → ℕ) (s : Sign) → has (bitOr (bitOr (f Minus) (f Zero)) (f Plus)) s ≡ any (λ t. has (f t) s) signs
-unfolding any signs
+pub has-three : (f : Sign → ℕ) (s : Sign) → has (bitOr (bitOr (f Minus) (f Zero)) (f Plus)) s ≡ anyOf (λ t. has (f t) s) signs
+unfolding anyOf signs
 has-three f s = rw (has-or, has-or, or-assoc, or-false)
 
 -- a set that is there only where a test passes
@@ -151,7 +151,7 @@ cond-below false set h = omega arith
 
 -- a sign can be taken off where it was added
 off : (s : Sign) (set : ℕ) → (single s ≤ added s (set % 8)) × (added s (set % 8) - single s ≡ removed s (set % 8))
-unfolding added removed union setOf has single
+unfolding added removed unite setOf has single
 off s set = (leb→le (single s) (added s (set % 8)) (both .0), eqb→eq (added s (set % 8) - single s) (removed s (set % 8)) (both .1))
   where
     right : Sign → ℕ → Bool
@@ -191,31 +191,31 @@ every Plus = List·Memᴰ·tail (List·Memᴰ·tail (List·Memᴰ·head refl))
 
 pub member-has : (set : ℕ) (s : Sign) → List·Memᴰ s (members set) → T (has set s)
 unfolding members
-member-has set s m = filter-passes (has set) signs m
+member-has set s m = passing-passes (has set) signs m
 
 pub has-member : (set : ℕ) (s : Sign) → T (has set s) → List·Memᴰ s (members set)
 unfolding members
-has-member set s h = filter-keeps (has set) signs (every s) h
+has-member set s h = passing-keeps (has set) signs (every s) h
 
 -- a test that passes at a sign passes at some sign
-pub at-signs : (p : Sign → Bool) (s : Sign) → T (p s) → T (any p signs)
-unfolding any signs
+pub at-signs : (p : Sign → Bool) (s : Sign) → T (p s) → T (anyOf p signs)
+unfolding anyOf signs
 at-signs p Minus t = or-left (p Minus) _ t
 at-signs p Zero t = or-right (p Minus) _ (or-left (p Zero) _ t)
 at-signs p Plus t = or-right (p Minus) _ (or-right (p Zero) _ (or-left (p Plus) false t))
 
 -- whether a test passes at some pair of members of two sets
 abbrev pub somePair : (Sign → Sign → Bool) → ℕ → ℕ → Bool
-somePair p a b = any (λ l. has a l && any (λ r. has b r && p l r) signs) signs
+somePair p a b = anyOf (λ l. has a l && anyOf (λ r. has b r && p l r) signs) signs
 
-pub any-member-pairs : (p : Sign → Sign → Bool) (a b : ℕ) → any (λ l. any (p l) (members b)) (members a) ≡ somePair p a b
-any-member-pairs p a b =
-    any-cong (λ l. any (p l) (members b)) (λ l. any (λ r. has b r && p l r) signs) (λ l. any-members (p l) b) (members a)
-    ∙ any-members (λ l. any (λ r. has b r && p l r) signs) a
+pub anyOf-member-pairs : (p : Sign → Sign → Bool) (a b : ℕ) → anyOf (λ l. anyOf (p l) (members b)) (members a) ≡ somePair p a b
+anyOf-member-pairs p a b =
+    anyOf-cong (λ l. anyOf (p l) (members b)) (λ l. anyOf (λ r. has b r && p l r) signs) (λ l. anyOf-members (p l) b) (members a)
+    ∙ anyOf-members (λ l. anyOf (λ r. has b r && p l r) signs) a
 
 pub pair-entry : (p : Sign → Sign → Bool) (a b : ℕ) (l r : Sign) → T (has a l) → T (has b r) → T (p l r) → T (somePair p a b)
 pair-entry p a b l r ha hb h =
-    at-signs (λ l. has a l && any (λ r. has b r && p l r) signs) l
+    at-signs (λ l. has a l && anyOf (λ r. has b r && p l r) signs) l
     (yes-and (has a l) _ ha (at-signs (λ r. has b r && p l r) r (yes-and (has b r) _ hb h)))
 
 -- every sign of one set is one of the other
@@ -224,7 +224,7 @@ Within a b = (s : Sign) → T (has a s) → T (has b s)
 
 pub pair-monotone : (p : Sign → Sign → Bool) (a a′ b b′ : ℕ) → Within a a′ → Within b b′ → T (somePair p a b) → T (somePair p a′ b′)
 pair-monotone p a a′ b b′ ha hb =
-    any-mono (λ l. has a l && any (λ r. has b r && p l r) signs) (λ l. has a′ l && any (λ r. has b′ r && p l r) signs)
+    anyOf-mono (λ l. has a l && anyOf (λ r. has b r && p l r) signs) (λ l. has a′ l && anyOf (λ r. has b′ r && p l r) signs)
     (λ l. and-mono (has a l) _ (has a′ l) _ (ha l)
-    (any-mono (λ r. has b r && p l r) (λ r. has b′ r && p l r) (λ r. and-mono (has b r) _ (has b′ r) _ (hb r) (λ t. t)) signs))
+    (anyOf-mono (λ r. has b r && p l r) (λ r. has b′ r && p l r) (λ r. and-mono (has b r) _ (has b′ r) _ (hb r) (λ t. t)) signs))
     signs

@@ -5,15 +5,15 @@ use mathlib.Core.List.{map}
 use Prim.Native.Nat.{ℕ, _<_}
 use lib.Bits.{bitOr}
 use lib.Dec.{ltb, ltb→lt}
-use Rattle.signs.specs.Lists.{any, pairs}
+use Rattle.signs.specs.Lists.{anyOf, pairs}
 use Rattle.signs.specs.Grid.{grids, gridNumber, signNumber, grid, row, operate}
 use Rattle.signs.specs.Sign.{has, signs, members}
 use Rattle.signs.specs.declared.Operator.{Operator}
 use Rattle.signs.specs.declared.Sign.{Sign}
 use Rattle.signs.specs.declared.Sign.the-variants.{Minus, Zero, Plus}
 use Rattle.signs.proofs.Finite.{everySign, at-sign, at-operator}
-use Rattle.signs.proofs.Lists.{any-cong, any-map, any-pairs}
-use Rattle.signs.proofs.Membership.{same-set, has-unionAll, unionAll-below, or-below, any-members, any-member-pairs, somePair, has-three, has-cond, cond-below}
+use Rattle.signs.proofs.Lists.{anyOf-cong, anyOf-map, anyOf-pairs}
+use Rattle.signs.proofs.Membership.{same-set, has-unionAll, unionAll-below, or-below, anyOf-members, anyOf-member-pairs, somePair, has-three, has-cond, cond-below}
 
 pub grid-below : (o : Operator) (l r : Sign) → grid o l r < 8
 unfolding grid grids gridNumber signNumber
@@ -27,16 +27,16 @@ three-below : (f : Sign → ℕ) → ((s : Sign) → f s < 8) → bitOr (bitOr (
 three-below f h = or-below (bitOr (f Minus) (f Zero)) (f Plus) (or-below (f Minus) (f Zero) (h Minus) (h Zero)) (h Plus)
 
 module _ (o : Operator) where
-  pub has-row : (l : Sign) (b : ℕ) (s : Sign) → has (row o l b) s ≡ any (λ r. has b r && has (grid o l r) s) signs
+  pub has-row : (l : Sign) (b : ℕ) (s : Sign) → has (row o l b) s ≡ anyOf (λ r. has b r && has (grid o l r) s) signs
   unfolding row
-  has-row l b s = has-unionAll (map (grid o l) (members b)) s ∙ any-map (λ x. has x s) (grid o l) (members b) ∙ any-members (λ r. has (grid o l r) s) b
+  has-row l b s = has-unionAll (map (grid o l) (members b)) s ∙ anyOf-map (λ x. has x s) (grid o l) (members b) ∙ anyOf-members (λ r. has (grid o l r) s) b
 
   pub has-operate : (a b : ℕ) (s : Sign) → has (operate o a b) s ≡ somePair (λ l r. has (grid o l r) s) a b
   unfolding operate
   has-operate a b s =
       has-unionAll (pairs (grid o) (members a) (members b)) s
-      ∙ any-pairs (λ x. has x s) (grid o) (members a) (members b)
-      ∙ any-member-pairs (λ l r. has (grid o l r) s) a b
+      ∙ anyOf-pairs (λ x. has x s) (grid o) (members a) (members b)
+      ∙ anyOf-member-pairs (λ l r. has (grid o l r) s) a b
 
   -- as the code takes the unions
   pub row-by-entries : (l : Sign) (b : ℕ) → bitOr (bitOr (cond (has b Minus) (grid o l Minus) 0) (cond (has b Zero) (grid o l Zero) 0)) (cond (has b Plus) (grid o l Plus) 0) ≡ row o l b
@@ -44,7 +44,7 @@ module _ (o : Operator) where
   row-by-entries l b =
       same-set _ (row o l b) (three-below (λ r. cond (has b r) (grid o l r) 0) (λ r. cond-below (has b r) (grid o l r) (grid-below o l r))) (unionAll-below (map (grid o l) (members b)))
       (λ s. has-three (λ r. cond (has b r) (grid o l r) 0) s
-      ∙ any-cong (λ r. has (cond (has b r) (grid o l r) 0) s) (λ r. has b r && has (grid o l r) s) (λ r. has-cond (has b r) (grid o l r) s) signs
+      ∙ anyOf-cong (λ r. has (cond (has b r) (grid o l r) 0) s) (λ r. has b r && has (grid o l r) s) (λ r. has-cond (has b r) (grid o l r) s) signs
       ∙ sym (has-row l b s))
 
   pub operate-by-rows : (a b : ℕ) → bitOr (bitOr (cond (has a Minus) (row o Minus b) 0) (cond (has a Zero) (row o Zero b) 0)) (cond (has a Plus) (row o Plus b) 0) ≡ operate o a b
@@ -52,5 +52,5 @@ module _ (o : Operator) where
   operate-by-rows a b =
       same-set _ (operate o a b) (three-below (λ l. cond (has a l) (row o l b) 0) (λ l. cond-below (has a l) (row o l b) (unionAll-below (map (grid o l) (members b))))) (unionAll-below (pairs (grid o) (members a) (members b)))
       (λ s. has-three (λ l. cond (has a l) (row o l b) 0) s
-      ∙ any-cong (λ l. has (cond (has a l) (row o l b) 0) s) (λ l. has a l && any (λ r. has b r && has (grid o l r) s) signs) (λ l. has-cond (has a l) (row o l b) s ∙ ap (λ (t : Bool). has a l && t) (has-row l b s)) signs
+      ∙ anyOf-cong (λ l. has (cond (has a l) (row o l b) 0) s) (λ l. has a l && anyOf (λ r. has b r && has (grid o l r) s) signs) (λ l. has-cond (has a l) (row o l b) s ∙ ap (λ (t : Bool). has a l && t) (has-row l b s)) signs
       ∙ sym (has-operate a b s))

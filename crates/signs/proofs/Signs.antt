@@ -9,7 +9,7 @@ use lib.Dec.{leb, lit<}
 use lib.IntN.{ℤ, pos, negsuc}
 use lib.Signed.{ltZ}
 use Rattle.signs.specs.Sign.{single, signOf, has, above, first, lowestFrom}
-use Rattle.signs.specs.Lists.{filter}
+use Rattle.signs.specs.Lists.{passing}
 use Rattle.signs.specs.declared.Sign.{Sign}
 use Rattle.signs.specs.declared.Sign.the-variants.{Minus, Zero, Plus}
 use Rattle.signs.specs.declared.Lowest.the-variants.{At, Nothing}
@@ -44,12 +44,12 @@ unfolding first
 first-cond true x l l′ = refl
 first-cond false x l l′ = refl
 
-lowest-list : (set : ℕ) (x : Sign) (ss : List Sign) → first (filter (has set) (x ∷ ss)) ≡ cond (has set x) (At x) (first (filter (has set) ss))
-unfolding filter
-lowest-list set x ss = first-cond (has set x) x (filter (has set) ss) (filter (has set) ss)
+lowest-list : (set : ℕ) (x : Sign) (ss : List Sign) → first (passing (has set) (x ∷ ss)) ≡ cond (has set x) (At x) (first (passing (has set) ss))
+unfolding passing
+lowest-list set x ss = first-cond (has set x) x (passing (has set) ss) (passing (has set) ss)
 
 pub lowest : (set : ℕ) (s : Sign) → lowestFrom set s ≡ cond (leb (single s) 1 && has set Minus) (At Minus) (cond (leb (single s) 2 && has set Zero) (At Zero) (cond (has set Plus) (At Plus) Nothing))
-unfolding lowestFrom above single filter first
+unfolding lowestFrom above single passing first
 lowest set Minus = rw (lowest-list set Minus, lowest-list set Zero, lowest-list set Plus)
 lowest set Zero = rw (lowest-list set Zero, lowest-list set Plus)
 lowest set Plus = rw (lowest-list set Plus)

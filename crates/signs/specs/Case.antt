@@ -3,7 +3,7 @@ use Prim.Native.Nat.{ℕ}
 use mathlib.Core.Bool.{Bool, true, false, cond, _&&_}
 use mathlib.Core.List.{List, [], _∷_, map}
 use lib.IntN.{ℤ, pos, negℤ}
-use Rattle.signs.specs.Lists.{all}
+use Rattle.signs.specs.Lists.{allOf}
 use Rattle.signs.specs.Number.{equal}
 
 -- what the definitions give, and what document 01 states, each as a row of numbers
@@ -28,7 +28,7 @@ holds c = same (c .given) (c .stated)
 
 -- the test of a list of cases
 unfoldable pub allHold : List Case → Bool
-allHold = all holds
+allHold = allOf holds
 
 -- a row of naturals, and of one truth value: 1 where it is true
 abbrev pub row : List ℕ → List ℤ

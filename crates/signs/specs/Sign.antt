@@ -4,7 +4,7 @@ use mathlib.Core.Bool.{Bool, cond, not, _&&_, _||_}
 use mathlib.Core.List.{List, [], _∷_, foldr}
 use lib.Dec.{eqb}
 use lib.IntN.{ℤ, pos, negsuc}
-use Rattle.signs.specs.Lists.{filter}
+use Rattle.signs.specs.Lists.{passing}
 use Rattle.signs.specs.declared.Sign.{Sign}
 use Rattle.signs.specs.declared.Sign.the-variants.{Minus, Zero, Plus}
 use Rattle.signs.specs.declared.Lowest.{Lowest}
@@ -36,19 +36,19 @@ setOf f = cond (f Minus) 1 0 + cond (f Zero) 2 0 + cond (f Plus) 4 0
 
 -- the signs of a set, minus first
 unfoldable pub members : ℕ → List Sign
-members set = filter (has set) signs
+members set = passing (has set) signs
 
 -- the signs of either set
-unfoldable pub union : ℕ → ℕ → ℕ
-union a b = setOf (λ s. has a s || has b s)
+unfoldable pub unite : ℕ → ℕ → ℕ
+unite a b = setOf (λ s. has a s || has b s)
 
 -- the signs of any set of a list
 unfoldable pub unionAll : List ℕ → ℕ
-unionAll = foldr union 0
+unionAll = foldr unite 0
 
 -- a set with a sign added
 unfoldable pub added : Sign → ℕ → ℕ
-added s set = union set (single s)
+added s set = unite set (single s)
 
 -- a set without a sign
 unfoldable pub removed : Sign → ℕ → ℕ
@@ -67,4 +67,4 @@ first (s ∷ ss) = At s
 
 -- the lowest sign of a set at or above a given one
 unfoldable pub lowestFrom : ℕ → Sign → Lowest
-lowestFrom set s = first (filter (has set) (above s))
+lowestFrom set s = first (passing (has set) (above s))

@@ -1,9 +1,9 @@
 -- The truth answers of conditions on signs (document 01, "Signs").
 use Prim.Native.Nat.{ℕ}
 use mathlib.Core.Bool.{Bool, true, false, cond, not, _&&_, _||_}
-use mathlib.Core.List.{List, [], _∷_, _++_}
+use mathlib.Core.List.{List, [], _∷_, _++_, flatMap}
 use lib.IntN.{ℤ, pos, negℤ}
-use Rattle.signs.specs.Lists.{any, concatMap, pairs}
+use Rattle.signs.specs.Lists.{anyOf, pairs}
 use Rattle.signs.specs.Number.{compares}
 use Rattle.signs.specs.Sign.{members}
 use Rattle.signs.specs.declared.Comparison.{Comparison}
@@ -13,7 +13,7 @@ use Rattle.signs.specs.declared.Truths.{Truths}
 
 -- the set of the truth values in a list
 unfoldable pub truthsOf : List Bool → Truths
-truthsOf bs = record { holds = any (λ b. b) bs; fails = any not bs }
+truthsOf bs = record { holds = anyOf (λ b. b) bs; fails = anyOf not bs }
 
 -- whether a truth value is in a set
 unfoldable pub among : Bool → Truths → Bool
@@ -36,7 +36,7 @@ compareSigns c l r = truthsOf (pairs (compares c) (samples l) (samples r))
 
 -- "A comparison gives the truth answers that its pairs of signs can have."
 unfoldable pub compareSets : Comparison → ℕ → ℕ → Truths
-compareSets c a b = truthsOf (concatMap answers (pairs (compareSigns c) (members a) (members b)))
+compareSets c a b = truthsOf (flatMap answers (pairs (compareSigns c) (members a) (members b)))
 
 -- "True gives true"
 unfoldable pub certain : Truths

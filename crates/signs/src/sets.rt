@@ -33,8 +33,8 @@ pub fn has(set: u8, s: Sign) -> bool
 }
 
 // The signs of either set.
-pub fn union(a: u8, b: u8) -> u8
-    ensures { λ r. ⌜ r ≡ spec.union a b ⌝ }
+pub fn unite(a: u8, b: u8) -> u8
+    ensures { λ r. ⌜ r ≡ spec.unite a b ⌝ }
 {
     (a | b) % 8
 }
@@ -43,7 +43,7 @@ pub fn union(a: u8, b: u8) -> u8
 pub fn added(set: u8, s: Sign) -> u8
     ensures { λ r. ⌜ r ≡ spec.added s set ⌝ }
 {
-    union(set, single(s))
+    unite(set, single(s))
 }
 
 // A set without a sign: with the sign added, the sign's number can be taken off.

@@ -4,6 +4,7 @@ use borrow.Author.Needs.{needs}
 use mathlib.Core.Path.{sym, refl, ap, _∙_, _≡_}
 use native.Mathlib.Numerals.{add-one}
 use native.Mathlib.Omega.{arith}
+use Rattle.program.specs.FirstSuch.{firstOf}
 use Rattle.program.specs.Asking.{ask, askEach}
 use Rattle.program.specs.File.{nameCount, nameOffset, sizes, firstCell}
 use Rattle.program.specs.Questions.{nameValidity}
@@ -21,7 +22,7 @@ abbrev μ-loop : tie.MeasureT-loop
 μ-loop s names total₀ i₀ total i = names - i
 
 loop-holds : tie.Need-loop-holds Inv-loop μ-loop
-unfolding askEach
+unfolding askEach firstOf
 loop-holds c = (search needs, sym (first-cell-zero _), search needs, refl)
 
 size-at-requires : tie.Need-size-at-requires Inv-loop μ-loop

@@ -4,6 +4,7 @@ use borrow.Author.Needs.{needs}
 use mathlib.Core.Path.{sym, refl, ap, _∙_, _≡_}
 use native.Mathlib.Numerals.{add-one}
 use native.Mathlib.Omega.{arith}
+use Rattle.program.specs.FirstSuch.{firstOf}
 use Rattle.program.specs.Asking.{askEach}
 use Rattle.program.specs.File.{spanOf, entryCount}
 use Rattle.program.specs.Questions.{tableValidity, entryValidity}
@@ -25,7 +26,7 @@ span-of-requires : tie.Need-span-of-requires Inv-loop μ-loop
 span-of-requires c κs = search needs
 
 loop-holds : tie.Need-loop-holds Inv-loop μ-loop
-unfolding askEach
+unfolding askEach firstOf
 loop-holds c = (search needs, refl)
 
 check-entry-requires : tie.Need-check-entry-requires Inv-loop μ-loop

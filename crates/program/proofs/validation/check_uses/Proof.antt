@@ -4,6 +4,7 @@ use borrow.Author.Needs.{needs}
 use mathlib.Core.Path.{_≡_, sym, refl, ap, _∙_}
 use native.Mathlib.Numerals.{add-one}
 use native.Mathlib.Omega.{arith}
+use Rattle.program.specs.FirstSuch.{firstOf}
 use Rattle.program.specs.Asking.{askEach}
 use Rattle.program.specs.Questions.{uses, useValidity}
 use Rattle.program.specs.declared.Validity.the-variants.{Fit}
@@ -19,7 +20,7 @@ abbrev μ-loop : tie.MeasureT-loop
 μ-loop s l table count counts n₀ n = count - n
 
 loop-holds : tie.Need-loop-holds Inv-loop μ-loop
-unfolding askEach
+unfolding askEach firstOf
 loop-holds c = (search needs, refl)
 
 slot-requires : tie.Need-slot-requires Inv-loop μ-loop
