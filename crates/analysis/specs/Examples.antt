@@ -1,17 +1,20 @@
 -- The worked examples of document 01 on sheets, and all its worked examples as one list. `proofs/Examples` shows that each holds.
 use Prim.Native.Nat.{ℕ}
-use mathlib.Core.List.{List, [], _∷_, _++_, flatMap}
-use lib.IntN.{ℤ, pos}
+use mathlib.Core.List.{List, [], _∷_, _++_, flatten}
+use lib.IntN.{pos}
 use lib.ListN.{replicate}
 use Rattle.signs.specs.Case.{Case, _gives_, row}
 use Rattle.signs.specs.Examples.{cases as signCases}
 use Rattle.program.specs.Examples.{factorial, field, fileOf, entryOf, cases as programCases}
+use Rattle.program.specs.File.{sizes}
+use Rattle.program.specs.Graph.{perform}
 use Rattle.program.specs.Syntax.{number, store}
+use Rattle.semantics.specs.Action.{meaning}
 use Rattle.semantics.specs.Examples.{cases as semanticCases}
-use Rattle.analysis.specs.Results.{performedOn}
+use Rattle.analysis.specs.Results.{results}
 use Rattle.analysis.specs.Sheet.{printedRows}
 use Rattle.analysis.specs.Solver.{solved, solvedBuffer, solvedNumbers}
-use Rattle.analysis.specs.Splitter.{split}
+use Rattle.analysis.specs.Splitter.{split, splitNumbers}
 use Rattle.analysis.specs.Verdict.{verdict, offending, verdictNumbers}
 
 -- the sheet of the factorial lesson: node and signs of each record, as the sheet program lists them, in two parts
@@ -49,26 +52,27 @@ solutions =
     ∷ []
 
 -- the verdict on a candidate solution of the factorial lesson, then the offending record
-unfoldable pub judged : List ℕ → List ℕ → List ℕ
-judged initial solution =
+unfoldable pub verdictOn : List ℕ → List ℕ → List ℕ
+verdictOn initial solution =
     let v = verdict factorial initial solution in
-    verdictNumbers v ++ offending factorial initial solution v
+    verdictNumbers v ++ offending (sizes factorial) initial solution v
 
 -- the whole sheet is accepted, index clean; (P) "The sheet without record 7: 42, record 5, arrow 4"; a start record that it has not: 41; half a record: 16; a sign that is none, and a node that is none: 17
 unfoldable pub verdicts : List Case
 verdicts =
-    (row (judged factorialStart factorialSheet) gives row (0 ∷ []))
-    ∷ (row (judged factorialStart firstSeven) gives row (42 ∷ 5 ∷ 4 ∷ 0 ∷ 2 ∷ 2 ∷ 4 ∷ []))
-    ∷ (row (judged (4 ∷ 2 ∷ 1 ∷ 2 ∷ []) factorialSheet) gives row (41 ∷ 1 ∷ 1 ∷ 2 ∷ []))
-    ∷ (row (judged (4 ∷ []) factorialSheet) gives row (16 ∷ 0 ∷ []))
-    ∷ (row (judged (4 ∷ 3 ∷ []) factorialSheet) gives row (17 ∷ 1 ∷ 1 ∷ []))
-    ∷ (row (judged factorialStart (0 ∷ 0 ∷ 4 ∷ 2 ∷ 0 ∷ 5 ∷ 4 ∷ 2 ∷ [])) gives row (17 ∷ 2 ∷ 4 ∷ []))
+    (row (verdictOn factorialStart factorialSheet) gives row (0 ∷ []))
+    ∷ (row (verdictOn factorialStart firstSeven) gives row (42 ∷ 5 ∷ 4 ∷ 0 ∷ 2 ∷ 2 ∷ 4 ∷ []))
+    ∷ (row (verdictOn (4 ∷ 2 ∷ 1 ∷ 2 ∷ []) factorialSheet) gives row (41 ∷ 1 ∷ 1 ∷ 2 ∷ []))
+    ∷ (row (verdictOn (4 ∷ []) factorialSheet) gives row (16 ∷ 0 ∷ []))
+    ∷ (row (verdictOn (4 ∷ 3 ∷ []) factorialSheet) gives row (17 ∷ 1 ∷ 1 ∷ []))
+    ∷ (row (verdictOn factorialStart (0 ∷ 0 ∷ 4 ∷ 2 ∷ 0 ∷ 5 ∷ 4 ∷ 2 ∷ [])) gives row (17 ∷ 2 ∷ 4 ∷ []))
     ∷ []
 
 -- (P) "A store of sign zero at index zero, set 4: sets 6, then 2."
 unfoldable pub stores : List Case
 stores =
-    (row (flatMap (λ ρ. ρ) (performedOn (4 ∷ []) (store 0 0 (number 0 (pos 0)) (number 0 (pos 0))))) gives row (6 ∷ 2 ∷ []))
+    (row (flatten (results (4 ∷ []) (meaning (perform (store 0 0 (number 0 (pos 0)) (number 0 (pos 0)))))))
+    gives row (6 ∷ 2 ∷ []))
     ∷ []
 
 -- A[j] := 0, over j and an array A of size 3
@@ -88,12 +92,12 @@ marks =
 
 -- byte 14 of a sheet of the factorial lesson is column 2 of record 3
 unfoldable pub places : List Case
-places = (row (split factorial 14 .«record» ∷ split factorial 14 .column ∷ []) gives row (3 ∷ 2 ∷ [])) ∷ []
+places = (row (splitNumbers (split factorial 14)) gives row (0 ∷ 3 ∷ 2 ∷ [])) ∷ []
 
 -- the listing of the factorial lesson; and with 0 for a sign of its start list
 unfoldable pub listings : List Case
 listings =
-    (row (flatMap (λ r. r) (printedRows (factorial ++ field 5 factorialStart)))
+    (row (flatten (printedRows (factorial ++ field 5 factorialStart)))
     gives row
     ((5 ∷ 5 ∷ 8 ∷ [])
     ++ (0 ∷ 0 ∷ 4 ∷ 2 ∷ [])
@@ -104,7 +108,7 @@ listings =
     ++ (5 ∷ 2 ∷ 2 ∷ 4 ∷ [])
     ++ (6 ∷ 1 ∷ 1 ∷ 4 ∷ [])
     ++ (7 ∷ 1 ∷ 2 ∷ 4 ∷ [])))
-    ∷ (row (flatMap (λ r. r) (printedRows (factorial ++ field 5 (4 ∷ 0 ∷ [])))) gives row (17 ∷ 1 ∷ []))
+    ∷ (row (flatten (printedRows (factorial ++ field 5 (4 ∷ 0 ∷ [])))) gives row (17 ∷ 1 ∷ []))
     ∷ []
 
 unfoldable pub sheetCases : List Case

@@ -5,10 +5,11 @@ use mathlib.Core.List.{List, [], _∷_, _++_}
 use Rattle.signs.specs.Lists.{anyOf}
 use Rattle.signs.specs.Sign.{has}
 use Rattle.signs.specs.declared.Sign.the-variants.{Minus}
-use Rattle.program.specs.Graph.{Action, perform, test, leave, done}
-use Rattle.program.specs.Syntax.{Arith, number, variable, element, operator, Boolean, truth, comparison, conjunction, shortCircuit, negation, Command, skip, assign, store, sequence, conditional, iteration, guarded, choice}
+use Rattle.program.specs.Syntax.{Arith, number, variable, element, operator, Boolean, truth, comparison, conjunction, shortCircuit, negation}
+use Rattle.semantics.specs.Action.{Meaning, nothing, assigns, stores, condition}
 use Rattle.analysis.specs.Signs.{signsIn}
 
+-- those of an arithmetic expression, and of a boolean one
 unfoldable pub arithIndexes : List ℕ → Arith → List ℕ
 arithIndexes ρ (number k z) = []
 arithIndexes ρ (variable k x) = []
@@ -22,21 +23,13 @@ booleanIndexes ρ (conjunction k a b) = booleanIndexes ρ a ++ booleanIndexes ρ
 booleanIndexes ρ (shortCircuit k a b) = booleanIndexes ρ a ++ booleanIndexes ρ b
 booleanIndexes ρ (negation k a) = booleanIndexes ρ a
 
-unfoldable pub commandIndexes : List ℕ → Command → List ℕ
-commandIndexes ρ (skip k) = []
-commandIndexes ρ (assign k x a) = arithIndexes ρ a
-commandIndexes ρ (store k x i a) = signsIn ρ i ∷ (arithIndexes ρ i ++ arithIndexes ρ a)
-commandIndexes ρ (sequence k c d) = []
-commandIndexes ρ (conditional k c) = []
-commandIndexes ρ (iteration k c) = []
-commandIndexes ρ (guarded k b c) = []
-commandIndexes ρ (choice k c d) = []
-
-unfoldable pub indexSets : List ℕ → Action → List ℕ
-indexSets ρ (perform c) = commandIndexes ρ c
-indexSets ρ (test b) = booleanIndexes ρ b
-indexSets ρ (leave c) = booleanIndexes ρ (done c)
+-- those of an action, by its meaning
+unfoldable pub indexSets : List ℕ → Meaning → List ℕ
+indexSets ρ nothing = []
+indexSets ρ (assigns x a) = arithIndexes ρ a
+indexSets ρ (stores x i a) = signsIn ρ i ∷ (arithIndexes ρ i ++ arithIndexes ρ a)
+indexSets ρ (condition b) = booleanIndexes ρ b
 
 -- whether an action holds an index expression "whose set has minus"
-unfoldable pub mayBeNegative : List ℕ → Action → Bool
+unfoldable pub mayBeNegative : List ℕ → Meaning → Bool
 mayBeNegative ρ x = anyOf (λ set. has set Minus) (indexSets ρ x)

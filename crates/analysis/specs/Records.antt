@@ -1,23 +1,26 @@
--- Lists of records (document 01: start list and sign sheet), and questions 16 and 17.
+-- Lists of records (document 01: start list and sign sheet), membership, and questions 16 and 17. The names have the sizes ns.
 use Prim.Native.Nat.{ℕ, _+_, _*_, _/_, _%_}
 use mathlib.Core.Bool.{Bool, true, false, _&&_}
 use mathlib.Core.List.{List, [], _∷_, _++_}
 use lib.Dec.{eqb, leb, ltb}
-use lib.ListN.{length, take, drop}
+use lib.ListN.{length, getD, take, drop}
 use Rattle.signs.specs.Lists.{anyOf, tabulate}
 use Rattle.program.specs.Asking.{ask, askPlain, thenAsk, askEach}
-use Rattle.program.specs.File.{byteAt, wordAt, nameCount, sizeAt}
-use Rattle.program.specs.Graph.{nodeCount, wordBytes}
-use Rattle.program.specs.Questions.{validity}
+use Rattle.program.specs.File.{byteAt, wordAt}
+use Rattle.program.specs.Graph.{Graph, wordBytes}
+use Rattle.program.specs.declared.Refusal.{Refusal}
 use Rattle.program.specs.declared.Validity.{Validity}
 use Rattle.analysis.specs.Abstraction.{wellFormed}
+use Rattle.analysis.specs.declared.Records.{Records}
+use Rattle.analysis.specs.declared.Records.the-variants.{Initial, Solution}
+use Rattle.analysis.specs.declared.WrongByte.{WrongByte}
 
 -- "A start list is such records; a sheet puts a two-byte node of the graph before each": the bytes of a record of each
 unfoldable pub initialWidth : List ℕ → ℕ
-initialWidth s = nameCount s
+initialWidth ns = length ns
 
 unfoldable pub recordWidth : List ℕ → ℕ
-recordWidth s = 2 + nameCount s
+recordWidth ns = 2 + length ns
 
 -- the number of records of a width in a list, and record k
 unfoldable pub recordCount : ℕ → List ℕ → ℕ
@@ -29,52 +32,75 @@ recordAt width bytes k = take width (drop (width * k) bytes)
 unfoldable pub recordsOf : ℕ → List ℕ → List (List ℕ)
 recordsOf width bytes = tabulate (recordCount width bytes) (recordAt width bytes)
 
--- an abstract memory at a node, as a record of a solution; and the node and the abstract memory of such a record
+-- an abstract memory at a node, as a record of a solution; and the node and the signs of such a record, as many bytes as there are names
 unfoldable pub recordFor : ℕ → List ℕ → List ℕ
 recordFor node ρ = wordBytes node ++ ρ
 
 unfoldable pub nodeOf : List ℕ → ℕ
 nodeOf r = wordAt r 0
 
-unfoldable pub memoryOf : List ℕ → List ℕ
-memoryOf r = drop 2 r
+unfoldable pub memoryOf : List ℕ → List ℕ → List ℕ
+memoryOf ns r = take (length ns) (drop 2 r)
 
--- whether two records are the same, and whether a list has a record
-unfoldable pub sameBytes : List ℕ → List ℕ → Bool
-sameBytes [] [] = true
-sameBytes [] (y ∷ ys) = false
-sameBytes (x ∷ xs) [] = false
-sameBytes (x ∷ xs) (y ∷ ys) = eqb x y && sameBytes xs ys
+-- whether two abstract memories are the same
+unfoldable pub sameSigns : List ℕ → List ℕ → Bool
+sameSigns [] [] = true
+sameSigns [] (y ∷ ys) = false
+sameSigns (x ∷ xs) [] = false
+sameSigns (x ∷ xs) (y ∷ ys) = eqb x y && sameSigns xs ys
 
-unfoldable pub listed : List (List ℕ) → List ℕ → Bool
-listed rs r = anyOf (sameBytes r) rs
+-- whether a record "gives that node and exactly those signs"
+unfoldable pub gives : List ℕ → ℕ → List ℕ → List ℕ → Bool
+gives ns node ρ r = eqb (nodeOf r) node && sameSigns (memoryOf ns r) ρ
 
--- "Are start list and sheet each whole records, at most 4,096? 16"
+-- membership: "if one of its records gives that node and exactly those signs"; of records, and of a solution's bytes
+unfoldable pub listed : List ℕ → List (List ℕ) → ℕ → List ℕ → Bool
+listed ns rs node ρ = anyOf (gives ns node ρ) rs
+
+unfoldable pub hasAt : List ℕ → List ℕ → ℕ → List ℕ → Bool
+hasAt ns solution node ρ = listed ns (recordsOf (recordWidth ns) solution) node ρ
+
+-- whether a start list has an abstract memory
+unfoldable pub hasInitial : List ℕ → List ℕ → List ℕ → Bool
+hasInitial ns initial ρ = anyOf (λ r. sameSigns r ρ) (recordsOf (initialWidth ns) initial)
+
+-- "Are start list and sheet each whole records, at most 4,096? 16": of one list, of a start list alone, and of both
 unfoldable pub wholeRecords : ℕ → List ℕ → Bool
 wholeRecords width bytes = eqb (length bytes % width) 0 && leb (recordCount width bytes) 4096
 
+unfoldable pub initialWhole : List ℕ → List ℕ → Validity
+initialWhole ns initial = askPlain (wholeRecords (initialWidth ns) initial) 16
+
+unfoldable pub bothWhole : List ℕ → List ℕ → List ℕ → Validity
+bothWhole ns initial solution =
+    askPlain (wholeRecords (initialWidth ns) initial && wholeRecords (recordWidth ns) solution) 16
+
 -- "Is every record well formed, start list first? 17, with the list and the place in it of the first wrong byte": of the abstract memory at a place of a list
 unfoldable pub memoryFormed : List ℕ → List ℕ → ℕ → Validity
-memoryFormed s bytes at =
-    askEach (nameCount s) (λ i. ask (wellFormed (sizeAt s i) (byteAt bytes (at + i))) 17 (at + i))
+memoryFormed ns bytes at =
+    askEach (length ns) (λ i. ask (wellFormed (getD ns i 0) (byteAt bytes (at + i))) 17 (at + i))
 
 -- every record of a start list
 unfoldable pub initialFormed : List ℕ → List ℕ → Validity
-initialFormed s bytes =
-    askEach (recordCount (initialWidth s) bytes) (λ k. memoryFormed s bytes (initialWidth s * k))
+initialFormed ns bytes =
+    askEach (recordCount (initialWidth ns) bytes) (λ k. memoryFormed ns bytes (initialWidth ns * k))
 
 -- every record of a solution: "for a wrong node its first byte"
-unfoldable pub solutionFormed : List ℕ → List ℕ → Validity
-solutionFormed s bytes =
-    askEach (recordCount (recordWidth s) bytes)
+unfoldable pub solutionFormed : List ℕ → Graph → List ℕ → Validity
+solutionFormed ns g bytes =
+    askEach (recordCount (recordWidth ns) bytes)
     (λ k.
-    thenAsk (ask (ltb (wordAt bytes (recordWidth s * k)) (nodeCount s)) 17 (recordWidth s * k))
-    (memoryFormed s bytes (recordWidth s * k + 2)))
+    let at = recordWidth ns * k in
+    thenAsk (ask (ltb (wordAt bytes at) (g .fresh)) 17 at) (memoryFormed ns bytes (at + 2)))
 
--- questions 1 to 11, then 16, where a start list alone is handed in, and where a solution is too
-unfoldable pub initialValidity : List ℕ → List ℕ → Validity
-initialValidity s initial = thenAsk (validity s) (askPlain (wholeRecords (initialWidth s) initial) 16)
+-- the wrong byte of a list that such a question is answered with
+unfoldable pub wrongByte : Records → Refusal → WrongByte
+wrongByte list x = record { list = list; offset = x .offset }
 
-unfoldable pub listsValidity : List ℕ → List ℕ → List ℕ → Validity
-listsValidity s initial solution =
-    thenAsk (initialValidity s initial) (askPlain (wholeRecords (recordWidth s) solution) 16)
+-- 17 in document 01's numbers: the number, the list (1 for the start list, 2 for the sheet) and the place
+unfoldable pub listNumber : Records → ℕ
+listNumber Initial = 1
+listNumber Solution = 2
+
+unfoldable pub wrongByteNumbers : WrongByte → List ℕ
+wrongByteNumbers w = 17 ∷ listNumber (w .list) ∷ w .offset ∷ []

@@ -1,104 +1,112 @@
--- The verdict on a candidate solution (document 01, "Signs": "Verdict"; book, Definition 4.29).
+-- The verdict on a candidate solution, for a graph g whose names have the sizes ns (document 01, "Signs": "Verdict"; book, Definition 4.29).
 use Prim.Native.Nat.{ℕ}
-use mathlib.Core.Bool.{Bool, not, _&&_}
-use mathlib.Core.List.{List, [], _∷_, _++_, map, flatMap}
-use lib.ListN.{getD}
-use Rattle.signs.specs.Lists.{anyOf, passing, indices}
-use Rattle.program.specs.Graph.{edgeCount}
+use mathlib.Core.Bool.{Bool, true, false, not, _&&_}
+use mathlib.Core.List.{List, [], _∷_}
+use lib.ListN.{length}
+use Rattle.signs.specs.Lists.{anyOf}
+use Rattle.program.specs.File.{sizes}
+use Rattle.program.specs.FirstSuch.{firstOf, firstSuch}
+use Rattle.program.specs.Graph.{Graph, graph}
+use Rattle.program.specs.Questions.{validity}
+use Rattle.program.specs.declared.First.{First}
+use Rattle.program.specs.declared.First.the-variants.{At, Nothing}
 use Rattle.program.specs.declared.Validity.{Validity}
 use Rattle.program.specs.declared.Validity.the-variants.{Fit, Refused}
+use Rattle.semantics.specs.Action.{meaning}
 use Rattle.semantics.specs.Step.{edgeAt, leaves}
 use Rattle.analysis.specs.Index.{mayBeNegative}
-use Rattle.analysis.specs.Records.{initialWidth, recordWidth, recordCount, recordAt, recordsOf, recordFor, nodeOf, memoryOf, listed, initialFormed, solutionFormed, listsValidity}
+use Rattle.analysis.specs.Records.{initialWidth, recordWidth, recordCount, recordAt, nodeOf, memoryOf, hasAt, bothWhole, initialFormed, solutionFormed, wrongByte, wrongByteNumbers}
 use Rattle.analysis.specs.Results.{results}
 use Rattle.analysis.specs.declared.Mark.{Mark}
 use Rattle.analysis.specs.declared.Mark.the-variants.{Clean, Unclean}
 use Rattle.analysis.specs.declared.Records.{Records}
 use Rattle.analysis.specs.declared.Records.the-variants.{Initial, Solution}
+use Rattle.analysis.specs.declared.Spot.{Spot}
+use Rattle.analysis.specs.declared.Spot.the-variants.{At as Here, Nowhere}
 use Rattle.analysis.specs.declared.Verdict.{Verdict}
 use Rattle.analysis.specs.declared.Verdict.the-variants.{Refused as Refuses, Malformed, InitialMissing, ResultMissing, Accepted}
 
--- whether a solution has an abstract memory at a node: "if one of its records gives that node and exactly those signs"
-unfoldable pub hasAt : List ℕ → List ℕ → ℕ → List ℕ → Bool
-hasAt s solution node ρ = listed (recordsOf (recordWidth s) solution) (recordFor node ρ)
+-- "41, a start record missing at node 0 (first such)"
+unfoldable pub missingInitial : List ℕ → List ℕ → List ℕ → First
+missingInitial ns initial solution =
+    firstSuch (recordCount (initialWidth ns) initial)
+    (λ k. not (hasAt ns solution 0 (recordAt (initialWidth ns) initial k)))
 
--- the start records that are missing at node 0, by number: "41, a start record missing at node 0 (first such)"
-unfoldable pub missingInitial : List ℕ → List ℕ → List ℕ → List ℕ
-missingInitial s initial solution =
-    passing
-    (λ k. not (hasAt s solution 0 (recordAt (initialWidth s) initial k)))
-    (indices (recordCount (initialWidth s) initial))
+-- a spot: the first edge that was found for record k, or none
+unfoldable pub isHere : Spot → Bool
+isHere (Here k e) = true
+isHere Nowhere = false
 
--- a record of a solution and an edge out of its node
-pub record Spot : Type 0 where
-  pub record-number : ℕ
-  pub edge-number : ℕ
+unfoldable pub spotAt : ℕ → First → Spot
+spotAt k (At e) = Here k e
+spotAt k Nothing = Nowhere
 
--- the records and edges out of their nodes that a test picks: "lowest record, then lowest arrow"
-unfoldable pub spots : List ℕ → List ℕ → (List ℕ → ℕ → Bool) → List Spot
-spots s solution picks =
-    flatMap
+-- "lowest record, then lowest arrow": the first record, and the first edge leaving its node, that a test of the abstract memory and the edge picks
+unfoldable pub firstSpot : List ℕ → Graph → List ℕ → (List ℕ → ℕ → Bool) → Spot
+firstSpot ns g solution picks =
+    firstOf isHere Nowhere (recordCount (recordWidth ns) solution)
     (λ k.
-    let r = recordAt (recordWidth s) solution k in
-    map (λ e. record { record-number = k; edge-number = e })
-    (passing (λ e. leaves s e (nodeOf r) && picks r e) (indices (edgeCount s))))
-    (indices (recordCount (recordWidth s) solution))
+    let r = recordAt (recordWidth ns) solution k in
+    spotAt k (firstSuch (length (g .edges)) (λ e. leaves g e (nodeOf r) && picks (memoryOf ns r) e)))
 
--- "42, a result missing at the arrow's target (lowest record, then lowest arrow)"
-unfoldable pub missingResults : List ℕ → List ℕ → List Spot
-missingResults s solution =
-    spots s solution
-    (λ r e. anyOf (λ ρ. not (hasAt s solution (edgeAt s e .target) ρ)) (results (memoryOf r) (edgeAt s e .action)))
+-- "42, a result missing at the arrow's target"
+unfoldable pub missingResult : List ℕ → Graph → List ℕ → Spot
+missingResult ns g solution =
+    firstSpot ns g solution
+    (λ ρ e. anyOf (λ σ. not (hasAt ns solution (edgeAt g e .target) σ)) (results ρ (meaning (edgeAt g e .action))))
 
--- "index clean if at no record does an arrow leaving its node hold an index expression … whose set has minus"
-unfoldable pub negativeIndexes : List ℕ → List ℕ → List Spot
-negativeIndexes s solution = spots s solution (λ r e. mayBeNegative (memoryOf r) (edgeAt s e .action))
+-- "index clean if at no record does an arrow leaving its node hold an index expression … whose set has minus; else the lowest record, then its lowest such arrow, are named"
+unfoldable pub markOf : Spot → Mark
+markOf Nowhere = Clean
+markOf (Here k e) = Unclean k e
 
--- "else the lowest record, then its lowest such arrow, are named"
-unfoldable pub markOf : List Spot → Mark
-markOf [] = Clean
-markOf (x ∷ xs) = Unclean (x .record-number) (x .edge-number)
+unfoldable pub indexMark : List ℕ → Graph → List ℕ → Mark
+indexMark ns g solution = markOf (firstSpot ns g solution (λ ρ e. mayBeNegative ρ (meaning (edgeAt g e .action))))
 
 -- the verdict by what is missing: 41, else 42, "else accepted"
-unfoldable pub verdictOn : List ℕ → List Spot → Mark → Verdict
-verdictOn (k ∷ ks) xs mark = InitialMissing k
-verdictOn [] (x ∷ xs) mark = ResultMissing (x .record-number) (x .edge-number)
-verdictOn [] [] mark = Accepted mark
+unfoldable pub verdictBy : First → Spot → Mark → Verdict
+verdictBy (At k) spot mark = InitialMissing k
+verdictBy Nothing (Here k e) mark = ResultMissing k e
+verdictBy Nothing Nowhere mark = Accepted mark
 
--- a verdict where no record of a list is malformed
-unfoldable pub unlessMalformed : Records → Validity → Verdict → Verdict
-unlessMalformed list Fit v = v
-unlessMalformed list (Refused x) v = Malformed list (x .offset)
-
+-- a verdict where no question is refused, and where no record of a list is malformed
 unfoldable pub unlessRefused : Validity → Verdict → Verdict
 unlessRefused Fit v = v
 unlessRefused (Refused x) v = Refuses x
 
--- the verdict: questions 1 to 11, 16, 17 of the start list and then of the solution, 41, 42
+unfoldable pub unlessMalformed : Records → Validity → Verdict → Verdict
+unlessMalformed list Fit v = v
+unlessMalformed list (Refused x) v = Malformed (wrongByte list x)
+
+-- 16, 17 of the start list and then of the solution, 41, 42
+unfoldable pub judged : List ℕ → Graph → List ℕ → List ℕ → Verdict
+judged ns g initial solution =
+    unlessRefused (bothWhole ns initial solution)
+    (unlessMalformed Initial (initialFormed ns initial)
+    (unlessMalformed Solution (solutionFormed ns g solution)
+    (verdictBy (missingInitial ns initial solution) (missingResult ns g solution) (indexMark ns g solution))))
+
+-- the verdict for a program file, of which questions 1 to 11 are asked first
 unfoldable pub verdict : List ℕ → List ℕ → List ℕ → Verdict
-verdict s initial solution =
-    unlessRefused (listsValidity s initial solution)
-    (unlessMalformed Initial (initialFormed s initial)
-    (unlessMalformed Solution (solutionFormed s solution)
-    (verdictOn (missingInitial s initial solution) (missingResults s solution) (markOf (negativeIndexes s solution)))))
+verdict s initial solution = unlessRefused (validity s) (judged (sizes s) (graph s) initial solution)
 
 -- "With 41 or 42 comes the offending record itself, as a part of whichever of the two lists it lies in; otherwise that part is empty."
 unfoldable pub offending : List ℕ → List ℕ → List ℕ → Verdict → List ℕ
-offending s initial solution (Refuses x) = []
-offending s initial solution (Malformed list offset) = []
-offending s initial solution (InitialMissing k) = recordAt (initialWidth s) initial k
-offending s initial solution (ResultMissing k e) = recordAt (recordWidth s) solution k
-offending s initial solution (Accepted mark) = []
+offending ns initial solution (Refuses x) = []
+offending ns initial solution (Malformed w) = []
+offending ns initial solution (InitialMissing k) = recordAt (initialWidth ns) initial k
+offending ns initial solution (ResultMissing k e) = recordAt (recordWidth ns) solution k
+offending ns initial solution (Accepted mark) = []
 
--- a verdict in document 01's numbers: the question's number and place; 17, the list (1 for the start list, 2 for the sheet) and the place; 41 and the record; 42, the record and the edge; or 0, and the record and edge of an index mark that is not clean
-unfoldable pub listNumber : Records → ℕ
-listNumber Initial = 1
-listNumber Solution = 2
+-- an index mark in numbers: nothing where it is clean, else the record and the edge
+unfoldable pub markNumbers : Mark → List ℕ
+markNumbers Clean = []
+markNumbers (Unclean k e) = k ∷ e ∷ []
 
+-- a verdict in document 01's numbers: the question's number and place; 17's; 41 and the record; 42, the record and the edge; or 0 and the index mark's
 unfoldable pub verdictNumbers : Verdict → List ℕ
 verdictNumbers (Refuses x) = x .number ∷ x .offset ∷ []
-verdictNumbers (Malformed list offset) = 17 ∷ listNumber list ∷ offset ∷ []
+verdictNumbers (Malformed w) = wrongByteNumbers w
 verdictNumbers (InitialMissing k) = 41 ∷ k ∷ []
 verdictNumbers (ResultMissing k e) = 42 ∷ k ∷ e ∷ []
-verdictNumbers (Accepted Clean) = 0 ∷ []
-verdictNumbers (Accepted (Unclean k e)) = 0 ∷ k ∷ e ∷ []
+verdictNumbers (Accepted mark) = 0 ∷ markNumbers mark

@@ -9,6 +9,18 @@ pub enum Records {
     Solution,
 }
 
+// Question 17's answer: the list, and the place in it of its first wrong byte.
+pub struct WrongByte {
+    pub list: Records,
+    pub offset: usize,
+}
+
+// The first record of a solution and edge out of its node that a test picks, or that there is none.
+pub enum Spot {
+    At { record: u16, edge: u16 },
+    Nowhere,
+}
+
 // The index mark of an accepted solution: clean, or the first record and edge with an index that may be negative.
 pub enum Mark {
     Clean,
@@ -18,7 +30,7 @@ pub enum Mark {
 // What judging a candidate solution answers.
 pub enum Verdict {
     Refused(Refusal),
-    Malformed { list: Records, offset: usize },
+    Malformed(WrongByte),
     InitialMissing { record: u16 },
     ResultMissing { record: u16, edge: u16 },
     Accepted(Mark),
@@ -29,7 +41,7 @@ pub enum Solving {
     Finished,
     Full,
     Refused(Refusal),
-    Malformed { offset: usize },
+    Malformed(WrongByte),
 }
 
 // The reply of the solver: its answer, and how many records it wrote.

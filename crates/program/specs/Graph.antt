@@ -29,6 +29,10 @@ pub record Part : Type 0 where
   pub edges : List Edge
   pub fresh : ℕ
 
+-- a graph: its edges, and the number of its nodes, which is the next fresh one
+abbrev pub Graph : Type 0
+Graph = Part
+
 -- the action of a guard's edge
 unfoldable pub guardAction : Boolean → Action
 guardAction b = test b
@@ -66,7 +70,7 @@ done (conditional k c) = truth k
 done (iteration k c) = truth k
 
 -- "Node 0 is the start, node 1 the end": the graph of a program file
-unfoldable pub graph : List ℕ → Part
+unfoldable pub graph : List ℕ → Graph
 graph s = part (script s) 0 1 2
 
 unfoldable pub edges : List ℕ → List Edge

@@ -1,58 +1,78 @@
--- What an action does to a memory (document 01, "The step"; book, Definition 2.17 and Exercise 2.20).
+-- What an action means, and what it does to a memory (document 01, "The step"; book, Definition 2.17 and Exercise 2.20).
 use Prim.Native.Nat.{ℕ}
 use mathlib.Core.Bool.{Bool, true, false}
-use mathlib.Core.List.{List}
+use mathlib.Core.List.{List, [], _∷_}
 use lib.ListN.{set}
-use lib.IntN.{ℤ}
+use lib.IntN.{ℤ, pos}
 use Rattle.signs.specs.declared.Reason.the-variants.{ConditionFalse}
-use Rattle.signs.specs.declared.Value.{Value}
-use Rattle.signs.specs.declared.Value.the-variants.{Number, Undefined}
 use Rattle.program.specs.File.{firstCell}
 use Rattle.program.specs.Graph.{Action, perform, test, leave, done}
-use Rattle.program.specs.Syntax.{Command, skip, assign, store, sequence, conditional, iteration, guarded, choice}
-use Rattle.semantics.specs.Expression.{Place, at, nowhere, placeOf, value, truthIn}
+use Rattle.program.specs.Syntax.{Arith, Boolean, Command, skip, assign, store, sequence, conditional, iteration, guarded, choice}
+use Rattle.semantics.specs.Expression.{fault, Place, at, nowhere, placeOf, value, truthIn, faultNumber}
 use Rattle.semantics.specs.declared.Effect.{Effect}
 use Rattle.semantics.specs.declared.Effect.the-variants.{Undefined as Fails, Unchanged, Stored}
+use Rattle.semantics.specs.declared.Evaluation.{Evaluation}
+use Rattle.semantics.specs.declared.Evaluation.the-variants.{Number, Undefined}
 use Rattle.semantics.specs.declared.Truth.{Truth}
 use Rattle.semantics.specs.declared.Truth.the-variants.{Known, Undefined as Unknown}
+
+-- what an action means: nothing, x := a, A[i] := a, or that a condition holds
+pub data Meaning : Type 0 where
+  nothing : Meaning
+  assigns : ℕ → Arith → Meaning
+  stores : ℕ → Arith → Arith → Meaning
+  condition : Boolean → Meaning
+
+-- skip, an assignment or a store; no other command is performed by an edge, and none means anything here
+unfoldable pub performing : Command → Meaning
+performing (skip k) = nothing
+performing (assign k x a) = assigns x a
+performing (store k x i a) = stores x i a
+performing (sequence k c d) = nothing
+performing (conditional k c) = nothing
+performing (iteration k c) = nothing
+performing (guarded k b c) = nothing
+performing (choice k c d) = nothing
+
+-- "Action kind 1 is the command entry itself, 2 a boolean entry, 3 the exit of the do whose operand is that command entry."
+unfoldable pub meaning : Action → Meaning
+meaning (perform c) = performing c
+meaning (test b) = condition b
+meaning (leave c) = condition (done c)
 
 -- a condition: "31 condition false"
 unfoldable pub pass : Truth → Effect
 pass (Known true) = Unchanged
-pass (Known false) = Fails ConditionFalse
-pass (Unknown r) = Fails r
+pass (Known false) = Fails (fault ConditionFalse)
+pass (Unknown f) = Fails f
 
 -- a store to a place: "A store works out its index, tests 34 and 35, then its value."
-unfoldable pub storeTo : Place → Value → Effect
+unfoldable pub storeTo : Place → Evaluation → Effect
 storeTo (at c) (Number z) = Stored c z
-storeTo (at c) (Undefined r) = Fails r
-storeTo (nowhere r) v = Fails r
+storeTo (at c) (Undefined f) = Fails f
+storeTo (nowhere f) v = Fails f
 
--- skip, an assignment or a store; any other command is no action and does nothing
-unfoldable pub performed : List ℕ → List ℤ → Command → Effect
-performed ns m (skip k) = Unchanged
-performed ns m (assign k x a) = storeTo (at (firstCell ns x)) (value ns m a)
-performed ns m (store k x i a) = storeTo (placeOf ns x (value ns m i)) (value ns m a)
-performed ns m (sequence k c d) = Unchanged
-performed ns m (conditional k c) = Unchanged
-performed ns m (iteration k c) = Unchanged
-performed ns m (guarded k b c) = Unchanged
-performed ns m (choice k c d) = Unchanged
-
--- the effect of an action
-unfoldable pub effect : List ℕ → List ℤ → Action → Effect
-effect ns m (perform c) = performed ns m c
-effect ns m (test b) = pass (truthIn ns m b)
-effect ns m (leave c) = pass (truthIn ns m (done c))
+-- the effect of an action in a memory, by its meaning
+unfoldable pub effect : List ℕ → List ℤ → Meaning → Effect
+effect ns m nothing = Unchanged
+effect ns m (assigns x a) = storeTo (at (firstCell ns x)) (value ns m a)
+effect ns m (stores x i a) = storeTo (placeOf ns x (value ns m i)) (value ns m a)
+effect ns m (condition b) = pass (truthIn ns m b)
 
 -- the memory after an effect: "An action is undefined, the memory and the run stay"
 unfoldable pub after : List ℤ → Effect → List ℤ
-after m (Fails r) = m
+after m (Fails f) = m
 after m Unchanged = m
 after m (Stored c z) = set m c z
 
 -- whether an effect is defined
 unfoldable pub isDefined : Effect → Bool
-isDefined (Fails r) = false
+isDefined (Fails f) = false
 isDefined Unchanged = true
 isDefined (Stored c z) = true
+
+-- an effect in document 01's numbers: the reason; 0; or 0, the cell and its new value
+unfoldable pub effectNumbers : Effect → List ℤ
+effectNumbers (Fails f) = pos (faultNumber f) ∷ []
+effectNumbers Unchanged = pos 0 ∷ []
+effectNumbers (Stored c z) = pos 0 ∷ pos c ∷ z ∷ []

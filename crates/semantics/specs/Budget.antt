@@ -1,26 +1,27 @@
--- The budgeted run (document 01, "The step").
-use Prim.Native.Nat.{ℕ, zero, suc, _+_}
-use mathlib.Core.Bool.{Bool, true, false, cond, _&&_}
+-- The budgeted run over a graph g whose names have the sizes ns (document 01, "The step").
+use Prim.Native.Nat.{ℕ, zero, suc}
+use mathlib.Core.Bool.{cond, _&&_}
 use mathlib.Core.List.{List, [], _∷_, _++_}
 use lib.Dec.{eqb}
+use lib.ListN.{length}
 use lib.IntN.{ℤ}
-use Rattle.signs.specs.Lists.{passing, indices}
-use Rattle.program.specs.Graph.{edgeCount}
+use Rattle.program.specs.File.{sizes}
+use Rattle.program.specs.FirstSuch.{firstSuch}
+use Rattle.program.specs.Graph.{Graph, graph}
+use Rattle.program.specs.Questions.{validity}
+use Rattle.program.specs.declared.First.{First}
+use Rattle.program.specs.declared.First.the-variants.{At, Nothing}
 use Rattle.program.specs.declared.Validity.{Validity}
 use Rattle.program.specs.declared.Validity.the-variants.{Fit, Refused}
-use Rattle.semantics.specs.Action.{after, isDefined}
-use Rattle.semantics.specs.Step.{Configuration, fresh, memoryValidity, leaves, edgeEffect, taken}
+use Rattle.semantics.specs.Action.{isDefined}
+use Rattle.semantics.specs.Step.{Configuration, begun, memoryValidity, leaves, edgeEffect, along}
 use Rattle.semantics.specs.declared.Ended.{Ended}
 use Rattle.semantics.specs.declared.Ending.{Ending}
 use Rattle.semantics.specs.declared.Ending.the-variants.{Arrived, Spent, Stuck, Refused as Refuses}
 
--- the defined edges out of a node, in order
-unfoldable pub definedEdges : List ℕ → ℕ → List ℤ → List ℕ
-definedEdges s node m = passing (λ e. leaves s e node && isDefined (edgeEffect s m e)) (indices (edgeCount s))
-
--- the configuration along edge e
-unfoldable pub along : List ℕ → ℕ → Configuration → Configuration
-along s e c = record { run = taken s e (c .run); memory = after (c .memory) (edgeEffect s (c .memory) e) }
+-- "the lowest-numbered defined arrow" out of a node
+unfoldable pub lowestDefined : List ℕ → Graph → ℕ → List ℤ → First
+lowestDefined ns g node m = firstSuch (length (g .edges)) (λ e. leaves g e node && isDefined (edgeEffect ns g m e))
 
 -- where a run ends, and how
 pub record Result : Type 0 where
@@ -30,33 +31,34 @@ pub record Result : Type 0 where
 abbrev pub ends : Ending → Configuration → Result
 ends x c = record { ending = x; final = c }
 
--- what is done with the first of a list, or else
-unfoldable pub withFirst : {A : Type 0} → List ℕ → (ℕ → A) → A → A
-withFirst [] f other = other
-withFirst (e ∷ es) f other = f e
+-- a run goes on along an edge, or is stuck where there is none
+unfoldable pub goesOn : (ℕ → Result) → Configuration → First → Result
+goesOn further c (At e) = further e
+goesOn further c Nothing = ends Stuck c
 
 -- "takes the lowest-numbered defined arrow each time. It answers 0 at node 1, else 1 if the budget is used up, else 2 if no arrow is defined, in that order of asking"
-unfoldable pub runFrom : ℕ → List ℕ → Configuration → Result
-runFrom zero s c = cond (eqb (c .run .node) 1) (ends Arrived c) (ends Spent c)
-runFrom (suc budget) s c =
+unfoldable pub runFrom : ℕ → List ℕ → Graph → Configuration → Result
+runFrom zero ns g c = cond (eqb (c .run .node) 1) (ends Arrived c) (ends Spent c)
+runFrom (suc budget) ns g c =
     cond (eqb (c .run .node) 1)
     (ends Arrived c)
-    (withFirst (definedEdges s (c .run .node) (c .memory)) (λ e. runFrom budget s (along s e c)) (ends Stuck c))
+    (goesOn (λ e. runFrom budget ns g (along ns g c e)) c (lowestDefined ns g (c .run .node) (c .memory)))
 
--- a run from node 0, over a memory: "other counts and nodes come back as zero"
-unfoldable pub resultBy : List ℕ → ℕ → List ℤ → Validity → Result
-resultBy s budget m Fit = runFrom budget s (record { run = fresh; memory = m })
-resultBy s budget m (Refused x) = ends (Refuses x) (record { run = fresh; memory = m })
+-- where a question is refused, the run is at node 0 with no edge taken: "other counts and nodes come back as zero"
+unfoldable pub endsUnlessRefused : Validity → List ℤ → Result → Result
+endsUnlessRefused Fit m r = r
+endsUnlessRefused (Refused x) m r = ends (Refuses x) (begun m)
 
-unfoldable pub budgeted : List ℕ → ℕ → List ℤ → Result
-budgeted s budget m = resultBy s budget m (memoryValidity s m)
+-- "A run from node 0 with a budget", over a memory of which question 12 is asked
+unfoldable pub budgeted : List ℕ → Graph → ℕ → List ℤ → Result
+budgeted ns g budget m = endsUnlessRefused (memoryValidity ns m) m (runFrom budget ns g (begun m))
 
--- the reply "with node and count", and the memory afterwards
+-- the same of a program file, of which questions 1 to 11 are asked first; the reply "with node and count"
+unfoldable pub programBudgeted : List ℕ → ℕ → List ℤ → Result
+programBudgeted s budget m = endsUnlessRefused (validity s) m (budgeted (sizes s) (graph s) budget m)
+
 unfoldable pub budgetReply : List ℕ → ℕ → List ℤ → Ended
-budgetReply s budget m = record { run = budgeted s budget m .final .run; ending = budgeted s budget m .ending }
-
-unfoldable pub budgetMemory : List ℕ → ℕ → List ℤ → List ℤ
-budgetMemory s budget m = budgeted s budget m .final .memory
+budgetReply s budget m = let r = programBudgeted s budget m in record { run = r .final .run; ending = r .ending }
 
 -- an answer in document 01's numbers: 0, 1 or 2, or the question's number and place
 unfoldable pub endingNumbers : Ending → List ℕ

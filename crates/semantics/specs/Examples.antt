@@ -1,25 +1,18 @@
 -- The worked examples of document 01 on values, steps and runs. `proofs/Examples` shows that each holds.
 use Prim.Native.Nat.{ℕ}
-use mathlib.Core.Bool.{Bool, true, false, cond}
-use mathlib.Core.List.{List, [], _∷_, _++_, map, flatMap}
+use mathlib.Core.List.{List, [], _∷_, _++_, flatMap}
 use lib.IntN.{ℤ, pos}
 use Rattle.signs.specs.Case.{Case, _gives_, row}
-use Rattle.signs.specs.Number.{reasonNumber, valueNumbers}
 use Rattle.signs.specs.declared.Comparison.the-variants.{Greater}
 use Rattle.signs.specs.declared.Operator.the-variants.{Add, Sub}
 use Rattle.program.specs.Examples.{factorial, twoGuards, fileOf, entryOf}
+use Rattle.program.specs.File.{sizes}
+use Rattle.program.specs.Graph.{graph}
 use Rattle.program.specs.Syntax.{Arith, number, variable, element, operator, Boolean, comparison, conjunction, shortCircuit}
-use Rattle.semantics.specs.Budget.{budgetReply, budgetMemory, endedNumbers}
-use Rattle.semantics.specs.Expression.{value, truthIn}
+use Rattle.semantics.specs.Budget.{programBudgeted, budgetReply, endedNumbers}
+use Rattle.semantics.specs.Expression.{value, truthIn, evaluationNumbers, truthNumbers}
 use Rattle.semantics.specs.Replay.{replay, outcomes}
-use Rattle.semantics.specs.Step.{Configuration, fresh, outcomeNumbers}
-use Rattle.semantics.specs.declared.Truth.{Truth}
-use Rattle.semantics.specs.declared.Truth.the-variants.{Known, Undefined}
-
--- a truth value in document 01's numbers: 0 and 1 for true or 0 for false, or the reason
-unfoldable pub truthNumbers : Truth → List ℕ
-truthNumbers (Known b) = 0 ∷ cond b 1 0 ∷ []
-truthNumbers (Undefined r) = reasonNumber r ∷ []
+use Rattle.semantics.specs.Step.{begun, outcomeNumbers, stepReply, steppedNumbers}
 
 -- x + A[i] and A[j − 1], A[j]; entries play no part in a value
 unfoldable pub sumOfElement : Arith
@@ -37,8 +30,8 @@ outOfOrder =
 -- (P) "x + A[i], x 12, i 2, A 2 3 7 5: 19", and with i 4: 35; (P) "(j > 0) ∧ (A[j−1] > A[j]), j 0, A 2 3 7: 34; with && false"
 unfoldable pub expressions : List Case
 expressions =
-    (valueNumbers (value (0 ∷ 0 ∷ 4 ∷ []) (row (12 ∷ 2 ∷ 2 ∷ 3 ∷ 7 ∷ 5 ∷ [])) sumOfElement) gives row (0 ∷ 19 ∷ []))
-    ∷ (valueNumbers (value (0 ∷ 0 ∷ 4 ∷ []) (row (12 ∷ 4 ∷ 2 ∷ 3 ∷ 7 ∷ 5 ∷ [])) sumOfElement) gives row (35 ∷ []))
+    (evaluationNumbers (value (0 ∷ 0 ∷ 4 ∷ []) (row (12 ∷ 2 ∷ 2 ∷ 3 ∷ 7 ∷ 5 ∷ [])) sumOfElement) gives row (0 ∷ 19 ∷ []))
+    ∷ (evaluationNumbers (value (0 ∷ 0 ∷ 4 ∷ []) (row (12 ∷ 4 ∷ 2 ∷ 3 ∷ 7 ∷ 5 ∷ [])) sumOfElement) gives row (35 ∷ []))
     ∷ (row (truthNumbers (truthIn (0 ∷ 3 ∷ []) (row (0 ∷ 2 ∷ 3 ∷ 7 ∷ [])) (conjunction 0 jPositive outOfOrder)))
     gives row (34 ∷ []))
     ∷ (row (truthNumbers (truthIn (0 ∷ 3 ∷ []) (row (0 ∷ 2 ∷ 3 ∷ 7 ∷ [])) (shortCircuit 0 jPositive outOfOrder)))
@@ -56,7 +49,7 @@ positiveOnly =
 
 -- the reply of a budgeted run, then the memory
 unfoldable pub ran : List ℕ → ℕ → List ℤ → List ℤ
-ran s budget m = row (endedNumbers (budgetReply s budget m)) ++ budgetMemory s budget m
+ran s budget m = row (endedNumbers (budgetReply s budget m)) ++ programBudgeted s budget m .final .memory
 
 -- (P) "Its run from x 3, y 0, budget 11: answer 0, node 1, 11 arrows, x 0, y 6", and with budget 10; "if x > 0 → skip fi, x 0, budget 1: answer 2, count 0"; two cells for one: 12
 unfoldable pub runs : List Case
@@ -73,19 +66,21 @@ runs =
 -- run and memory after a list of calls from the fresh run, as numbers
 unfoldable pub afterCalls : List ℕ → List ℕ → List ℤ → List ℤ
 afterCalls s es m =
-    let c = replay s es (record { run = fresh; memory = m }) in
+    let c = replay (sizes s) (graph s) (begun m) es in
     row (c .run .node ∷ c .run .count ∷ []) ++ c .memory
 
--- what the calls of the factorial lesson answer
-unfoldable pub answers : List ℕ → List ℤ → List ℕ
-answers es m = flatMap outcomeNumbers (outcomes factorial es (record { run = fresh; memory = m }))
+-- what the calls answer
+unfoldable pub callAnswers : List ℕ → List ℕ → List ℤ → List ℕ
+callAnswers s es m = flatMap outcomeNumbers (outcomes (sizes s) (graph s) (begun m) es)
 
--- calls along edges 1, 0, 1 and 4 of the factorial lesson: refused, taken, taken, refused; and 0, 4 from x 1: taken, undefined
+-- calls along edges 1, 0, 1 and 4 of the factorial lesson: refused, taken, taken, refused; and 0, 4 from x 1: taken, undefined; one call, of the lesson and of an empty file
 unfoldable pub calls : List Case
 calls =
     (afterCalls factorial (1 ∷ 0 ∷ 1 ∷ 4 ∷ []) (row (3 ∷ 0 ∷ [])) gives row (3 ∷ 2 ∷ 3 ∷ 1 ∷ []))
-    ∷ (row (answers (1 ∷ 0 ∷ 1 ∷ 4 ∷ []) (row (3 ∷ 0 ∷ []))) gives row (15 ∷ 0 ∷ 0 ∷ 0 ∷ 15 ∷ 0 ∷ []))
-    ∷ (row (answers (0 ∷ 4 ∷ []) (row (1 ∷ 0 ∷ []))) gives row (0 ∷ 31 ∷ []))
+    ∷ (row (callAnswers factorial (1 ∷ 0 ∷ 1 ∷ 4 ∷ []) (row (3 ∷ 0 ∷ []))) gives row (15 ∷ 0 ∷ 0 ∷ 0 ∷ 15 ∷ 0 ∷ []))
+    ∷ (row (callAnswers factorial (0 ∷ 4 ∷ []) (row (1 ∷ 0 ∷ []))) gives row (0 ∷ 31 ∷ []))
+    ∷ (row (steppedNumbers (stepReply factorial (begun (row (3 ∷ 0 ∷ []))) 0)) gives row (0 ∷ 2 ∷ 1 ∷ []))
+    ∷ (row (steppedNumbers (stepReply [] (begun (row (3 ∷ 0 ∷ []))) 0)) gives row (1 ∷ 0 ∷ 0 ∷ 0 ∷ []))
     ∷ []
 
 unfoldable pub cases : List Case

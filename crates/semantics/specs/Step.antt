@@ -1,19 +1,19 @@
--- The step of a run (document 01, "The step" and questions 12, 14 and 15).
+-- The step of a run over a graph g whose names have the sizes ns (document 01, "The step" and questions 12, 14 and 15; book, Definitions 1.10, 1.11 and 2.17).
 use Prim.Native.Nat.{ℕ, _+_, min}
 use mathlib.Core.Bool.{Bool, _&&_}
-use mathlib.Core.List.{List, [], _∷_}
+use mathlib.Core.List.{List, [], _∷_, _++_}
 use lib.Dec.{eqb, ltb}
 use lib.ListN.{length, getD}
 use lib.IntN.{ℤ}
-use Rattle.signs.specs.Number.{reasonNumber}
-use Rattle.program.specs.Asking.{askPlain, thenAsk, inTurn}
+use Rattle.program.specs.Asking.{askPlain, inTurn}
 use Rattle.program.specs.File.{sizes, cellCount}
-use Rattle.program.specs.Graph.{Edge, edge, perform, edges, edgeCount, nodeCount}
+use Rattle.program.specs.Graph.{Graph, Edge, edge, perform, graph}
 use Rattle.program.specs.Questions.{validity}
 use Rattle.program.specs.Syntax.{skip}
 use Rattle.program.specs.declared.Validity.{Validity}
 use Rattle.program.specs.declared.Validity.the-variants.{Fit, Refused}
-use Rattle.semantics.specs.Action.{effect, after}
+use Rattle.semantics.specs.Action.{meaning, effect, after}
+use Rattle.semantics.specs.Expression.{faultNumber}
 use Rattle.semantics.specs.declared.Effect.{Effect}
 use Rattle.semantics.specs.declared.Effect.the-variants.{Undefined as Fails, Unchanged, Stored}
 use Rattle.semantics.specs.declared.Outcome.{Outcome}
@@ -21,72 +21,88 @@ use Rattle.semantics.specs.declared.Outcome.the-variants.{Taken, Undefin
 use Rattle.semantics.specs.declared.Run.{Run}
 use Rattle.semantics.specs.declared.Stepped.{Stepped}
 
--- "A fresh run is at node 0 with no arrow taken."
-unfoldable pub fresh : Run
-fresh = record { node = 0; count = 0 }
-
 -- a run with its memory (book: a configuration)
 pub record Configuration : Type 0 where
   pub run : Run
   pub memory : List ℤ
 
--- "Has the memory as many cells as the script? 12", after questions 1 to 11
-unfoldable pub memoryValidity : List ℕ → List ℤ → Validity
-memoryValidity s m = thenAsk (validity s) (askPlain (eqb (length m) (cellCount (sizes s))) 12)
+-- "A fresh run is at node 0 with no arrow taken."
+unfoldable pub fresh : Run
+fresh = record { node = 0; count = 0 }
 
--- edge number e of a program; past the last, a skip at node 0
-unfoldable pub edgeAt : List ℕ → ℕ → Edge
-edgeAt s e = getD (edges s) e (edge 0 (perform (skip 0)) 0)
+-- a fresh run over a memory
+abbrev pub begun : List ℤ → Configuration
+begun m = record { run = fresh; memory = m }
+
+-- edge number e of a graph; past the last, a skip at node 0
+unfoldable pub edgeAt : Graph → ℕ → Edge
+edgeAt g e = getD (g .edges) e (edge 0 (perform (skip 0)) 0)
 
 -- "Does the arrow exist and leave the node?"
-unfoldable pub leaves : List ℕ → ℕ → ℕ → Bool
-leaves s e node = ltb e (edgeCount s) && eqb (edgeAt s e .source) node
-
--- "Is the node in the graph? 14. Does the arrow exist and leave the node? 15."
-unfoldable pub stepValidity : List ℕ → ℕ → Configuration → Validity
-stepValidity s e c =
-    inTurn
-    (memoryValidity s (c .memory)
-    ∷ askPlain (ltb (c .run .node) (nodeCount s)) 14
-    ∷ askPlain (leaves s e (c .run .node)) 15
-    ∷ [])
+unfoldable pub leaves : Graph → ℕ → ℕ → Bool
+leaves g e node = ltb e (length (g .edges)) && eqb (edgeAt g e .source) node
 
 -- the effect of an edge's action in a memory
-unfoldable pub edgeEffect : List ℕ → List ℤ → ℕ → Effect
-edgeEffect s m e = effect (sizes s) m (edgeAt s e .action)
+unfoldable pub edgeEffect : List ℕ → Graph → List ℤ → ℕ → Effect
+edgeEffect ns g m e = effect ns m (meaning (edgeAt g e .action))
 
--- the run that takes an edge: "past 65,535 arrows, the count stays at 65,535"
-unfoldable pub taken : List ℕ → ℕ → Run → Run
-taken s e r = record { node = edgeAt s e .target; count = min (r .count + 1) 65535 }
+-- "Has the memory as many cells as the script? 12"
+unfoldable pub memoryValidity : List ℕ → List ℤ → Validity
+memoryValidity ns m = askPlain (eqb (length m) (cellCount ns)) 12
 
--- the reply of a step that is not refused, by the effect of its edge
-unfoldable pub steppedBy : List ℕ → ℕ → Run → Effect → Stepped
-steppedBy s e r (Fails why) = record { run = r; outcome = Stays why }
-steppedBy s e r Unchanged = record { run = taken s e r; outcome = Taken }
-steppedBy s e r (Stored c z) = record { run = taken s e r; outcome = Taken }
+-- the questions of a step, asked of a node and a memory: 12, "Is the node in the graph? 14. Does the arrow exist and leave the node? 15."
+unfoldable pub stepValidity : List ℕ → Graph → ℕ → List ℤ → ℕ → Validity
+stepValidity ns g node m e =
+    inTurn (memoryValidity ns m ∷ askPlain (ltb node (g .fresh)) 14 ∷ askPlain (leaves g e node) 15 ∷ [])
 
--- the reply of a step along edge e
-unfoldable pub replyBy : List ℕ → ℕ → Configuration → Validity → Stepped
-replyBy s e c Fit = steppedBy s e (c .run) (edgeEffect s (c .memory) e)
-replyBy s e c (Refused x) = record { run = c .run; outcome = Refuses x }
+-- the answer of a step, by the effect of its edge; and where a question may be refused first
+unfoldable pub outcomeBy : Effect → Outcome
+outcomeBy (Fails f) = Stays f
+outcomeBy Unchanged = Taken
+outcomeBy (Stored c z) = Taken
 
-unfoldable pub stepReply : List ℕ → ℕ → Configuration → Stepped
-stepReply s e c = replyBy s e c (stepValidity s e c)
+unfoldable pub unlessRefused : Validity → Outcome → Outcome
+unlessRefused Fit o = o
+unlessRefused (Refused x) o = Refuses x
 
--- the memory after that step
-unfoldable pub memoryBy : List ℕ → ℕ → Configuration → Validity → List ℤ
-memoryBy s e c Fit = after (c .memory) (edgeEffect s (c .memory) e)
-memoryBy s e c (Refused x) = c .memory
+-- the answer of a step along edge e
+unfoldable pub outcome : List ℕ → Graph → Configuration → ℕ → Outcome
+outcome ns g c e =
+    unlessRefused (stepValidity ns g (c .run .node) (c .memory) e) (outcomeBy (edgeEffect ns g (c .memory) e))
 
-unfoldable pub stepMemory : List ℕ → ℕ → Configuration → List ℤ
-stepMemory s e c = memoryBy s e c (stepValidity s e c)
+-- the configuration along edge e: "past 65,535 arrows, the count stays at 65,535"
+unfoldable pub along : List ℕ → Graph → Configuration → ℕ → Configuration
+along ns g c e =
+    record {
+      run = record { node = edgeAt g e .target; count = min (c .run .count + 1) 65535 };
+      memory = after (c .memory) (edgeEffect ns g (c .memory) e);
+    }
 
--- run and memory after that step
-unfoldable pub step : List ℕ → ℕ → Configuration → Configuration
-step s e c = record { run = stepReply s e c .run; memory = stepMemory s e c }
+-- "One that is undefined or refused leaves run and memory as they were, any other takes its arrow": the configuration after an answer
+unfoldable pub next : List ℕ → Graph → Configuration → ℕ → Outcome → Configuration
+next ns g c e Taken = along ns g c e
+next ns g c e (Stays f) = c
+next ns g c e (Refuses x) = c
+
+unfoldable pub step : List ℕ → Graph → Configuration → ℕ → Configuration
+step ns g c e = next ns g c e (outcome ns g c e)
+
+-- the same of a program file, of which questions 1 to 11 are asked first: the answer, the configuration afterwards, and the reply
+unfoldable pub programOutcome : List ℕ → Configuration → ℕ → Outcome
+programOutcome s c e = unlessRefused (validity s) (outcome (sizes s) (graph s) c e)
+
+unfoldable pub programStep : List ℕ → Configuration → ℕ → Configuration
+programStep s c e = next (sizes s) (graph s) c e (programOutcome s c e)
+
+unfoldable pub stepReply : List ℕ → Configuration → ℕ → Stepped
+stepReply s c e = record { run = programStep s c e .run; outcome = programOutcome s c e }
 
 -- an answer in document 01's numbers: 0, the reason, or the question's number and place
 unfoldable pub outcomeNumbers : Outcome → List ℕ
 outcomeNumbers Taken = 0 ∷ []
-outcomeNumbers (Stays r) = reasonNumber r ∷ []
+outcomeNumbers (Stays f) = faultNumber f ∷ []
 outcomeNumbers (Refuses x) = x .number ∷ x .offset ∷ []
+
+-- a reply in document 01's numbers: the answer's, then node and count
+unfoldable pub steppedNumbers : Stepped → List ℕ
+steppedNumbers r = outcomeNumbers (r .outcome) ++ (r .run .node ∷ r .run .count ∷ [])

@@ -3,15 +3,26 @@
 use program::Refusal;
 use signs::Reason;
 
-// What a boolean expression gives.
+// Why an expression, a condition or an action is undefined.
+pub struct Fault {
+    pub reason: Reason,
+}
+
+// What an arithmetic expression gives in a memory.
+pub enum Evaluation {
+    Number(i32),
+    Undefined(Fault),
+}
+
+// What a boolean expression gives in a memory.
 pub enum Truth {
     Known(bool),
-    Undefined(Reason),
+    Undefined(Fault),
 }
 
 // What an action does to a memory: it is undefined, stores nothing, or stores a value to one cell.
 pub enum Effect {
-    Undefined(Reason),
+    Undefined(Fault),
     Unchanged,
     Stored { cell: usize, value: i32 },
 }
@@ -25,7 +36,7 @@ pub struct Run {
 // What a call of the step answers.
 pub enum Outcome {
     Taken,
-    Undefined(Reason),
+    Undefined(Fault),
     Refused(Refusal),
 }
 
