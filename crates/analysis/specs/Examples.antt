@@ -57,7 +57,8 @@ verdictOn initial solution =
     let v = verdict factorial initial solution in
     verdictNumbers v ++ offending (sizes factorial) initial solution v
 
--- the whole sheet is accepted, index clean; (P) "The sheet without record 7: 42, record 5, arrow 4"; a start record that it has not: 41; half a record: 16; a sign that is none, and a node that is none: 17
+-- the whole sheet is accepted, index clean; (P) "The sheet without record 7: 42, record 5, arrow 4"; a start record that it has not: 41; half a
+-- record: 16; a sign that is none, and a node that is none: 17
 unfoldable pub verdicts : List Case
 verdicts =
     (row (verdictOn factorialStart factorialSheet) gives row (0 ∷ []))

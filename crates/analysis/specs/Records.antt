@@ -75,7 +75,8 @@ unfoldable pub bothWhole : List ℕ → List ℕ → List ℕ → Validity
 bothWhole ns initial solution =
     askPlain (wholeRecords (initialWidth ns) initial && wholeRecords (recordWidth ns) solution) 16
 
--- "Is every record well formed, start list first? 17, with the list and the place in it of the first wrong byte": of the abstract memory at a place of a list
+-- "Is every record well formed, start list first? 17, with the list and the place in it of the first wrong byte": of the abstract memory at a
+-- place of a list
 unfoldable pub memoryFormed : List ℕ → List ℕ → ℕ → Validity
 memoryFormed ns bytes at =
     askEach (length ns) (λ i. ask (wellFormed (getD ns i 0) (byteAt bytes (at + i))) 17 (at + i))

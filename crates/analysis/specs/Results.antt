@@ -1,4 +1,5 @@
--- The results of an action from an abstract memory ρ, in order (document 01, "Signs": "An arrow's results from a record"; book, the clauses of section 4.3).
+-- The results of an action from an abstract memory ρ, in order (document 01, "Signs": "An arrow's results from a record"; book, the clauses of
+-- section 4.3).
 use Prim.Native.Nat.{ℕ}
 use mathlib.Core.Bool.{cond}
 use mathlib.Core.List.{List, [], _∷_, map, flatMap}
@@ -12,7 +13,8 @@ use Rattle.analysis.specs.Signs.{mayIndex, signsIn, truthsIn}
 unfoldable pub assignedSets : ℕ → List ℕ
 assignedSets values = map single (members values)
 
--- the sets that an array can have after a store of sign s: "the array's set with s added, then for each sign t of the old set, minus first, the old set without t and with s added"
+-- the sets that an array can have after a store of sign s: "the array's set with s added, then for each sign t of the old set, minus first, the
+-- old set without t and with s added"
 unfoldable pub setsWith : ℕ → Sign → List ℕ
 setsWith old s = added s old ∷ map (λ t. added s (removed t old)) (members old)
 
@@ -20,7 +22,8 @@ setsWith old s = added s old ∷ map (λ t. added s (removed t old)) (members ol
 unfoldable pub storedSets : ℕ → ℕ → List ℕ
 storedSets old values = flatMap (setsWith old) (members values)
 
--- "a condition that may be true gives the record; skip the record; an assignment one record per possible sign, minus first; a store, if its index may be zero or plus, for each value sign s …"
+-- "a condition that may be true gives the record; skip the record; an assignment one record per possible sign, minus first; a store, if its index
+-- may be zero or plus, for each value sign s …"
 unfoldable pub results : List ℕ → Meaning → List (List ℕ)
 results ρ nothing = ρ ∷ []
 results ρ (assigns x a) = map (set ρ x) (assignedSets (signsIn ρ a))

@@ -20,14 +20,16 @@ found input =
     let s = programPart input in
     solution (sizes s) (graph s) (initialPart input) (roomOf (sizes s) 65536)
 
--- "It prints counts, then number, node and signs of each record, then the index line": nothing for "index clean", else the numbers of "index record K arrow E"
+-- "It prints counts, then number, node and signs of each record, then the index line": nothing for "index clean", else the numbers of "index
+-- record K arrow E"
 unfoldable pub listing : List ℕ → List (List ℕ) → List (List ℕ)
 listing s rs =
     ((graph s .fresh ∷ length (graph s .edges) ∷ length rs ∷ [])
     ∷ tabulate (length rs) (λ k. k ∷ nodeOf (getD rs k []) ∷ memoryOf (sizes s) (getD rs k [])))
     ++ (markNumbers (indexMark (sizes s) (graph s) (flatten rs)) ∷ [])
 
--- whether a listing is printed: after 1 to 11, 17, whose "place counts from the start list's first byte", and 18 (16 cannot be refused here: the fifth field is whole records, at most 512)
+-- whether a listing is printed: after 1 to 11, 17, whose "place counts from the start list's first byte", and 18 (16 cannot be refused here: the
+-- fifth field is whole records, at most 512)
 unfoldable pub printValidity : List ℕ → Found → Validity
 printValidity input f =
     inTurn

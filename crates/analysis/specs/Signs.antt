@@ -14,7 +14,8 @@ use Rattle.program.specs.Syntax.{Arith, number, variable, element, operator, Bo
 unfoldable pub mayIndex : ℕ → Bool
 mayIndex set = has set Zero || has set Plus
 
--- the sign set of an expression: "A number has its own sign, a variable its recorded one. An element has its array's set if the index set has zero or plus, else the empty set."
+-- the sign set of an expression: "A number has its own sign, a variable its recorded one. An element has its array's set if the index set has zero
+-- or plus, else the empty set."
 unfoldable pub signsIn : List ℕ → Arith → ℕ
 signsIn ρ (number k z) = single (signOf z)
 signsIn ρ (variable k x) = getD ρ x 0

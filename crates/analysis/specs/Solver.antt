@@ -26,7 +26,8 @@ pub record Found : Type 0 where
   pub records : List (List ℕ)
   pub full : Bool
 
--- an abstract memory found at a node: "appending what isn't listed yet"; "Is there room for the solver's next record? 18", after which nothing more is appended
+-- an abstract memory found at a node: "appending what isn't listed yet"; "Is there room for the solver's next record? 18", after which nothing
+-- more is appended
 unfoldable pub offer : List ℕ → ℕ → ℕ → Found → List ℕ → Found
 offer ns room node f ρ =
     cond (f .full) f

@@ -50,7 +50,8 @@ noEdgeMeets ns g c =
     (λ e. not (leaves g e (c .run .node) && meetsInEffect (edgeEffect ns g (c .memory) e)))
     (indices (length (g .edges)))
 
--- what holds of a memory, a list of step calls and a budget: after the calls the solution has the memory's record at the node reached, and so it has after the budgeted run. Where the mark is clean, no call of the list meets a negative index, and no edge out of a node reached does
+-- what holds of a memory, a list of step calls and a budget: after the calls the solution has the memory's record at the node reached, and so it
+-- has after the budgeted run. Where the mark is clean, no call of the list meets a negative index, and no edge out of a node reached does
 pub record Kept (ns : List ℕ) (g : Graph) (solution : List ℕ) (mark : Mark) (m : List ℤ) (calls : List ℕ) (budget : ℕ) : Type 0 where
   pub reached : T (hasConfiguration ns solution (replay ns g (begun m) calls))
   pub run-reached : T (hasConfiguration ns solution (budgeted ns g budget m .final))

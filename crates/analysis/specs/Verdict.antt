@@ -55,7 +55,8 @@ missingResult ns g solution =
     firstSpot ns g solution
     (λ ρ e. anyOf (λ σ. not (hasAt ns solution (edgeAt g e .target) σ)) (results ρ (meaning (edgeAt g e .action))))
 
--- "index clean if at no record does an arrow leaving its node hold an index expression … whose set has minus; else the lowest record, then its lowest such arrow, are named"
+-- "index clean if at no record does an arrow leaving its node hold an index expression … whose set has minus; else the lowest record, then its
+-- lowest such arrow, are named"
 unfoldable pub markOf : Spot → Mark
 markOf Nowhere = Clean
 markOf (Here k e) = Unclean k e
@@ -103,7 +104,8 @@ unfoldable pub markNumbers : Mark → List ℕ
 markNumbers Clean = []
 markNumbers (Unclean k e) = k ∷ e ∷ []
 
--- a verdict in document 01's numbers: the question's number and place; 17's; 41 and the record; 42, the record and the edge; or 0 and the index mark's
+-- a verdict in document 01's numbers: the question's number and place; 17's; 41 and the record; 42, the record and the edge; or 0 and the index
+-- mark's
 unfoldable pub verdictNumbers : Verdict → List ℕ
 verdictNumbers (Refuses x) = x .number ∷ x .offset ∷ []
 verdictNumbers (Malformed w) = wrongByteNumbers w

@@ -36,7 +36,8 @@ unfoldable pub goesOn : (ℕ → Result) → Configuration → First → Result
 goesOn further c (At e) = further e
 goesOn further c Nothing = ends Stuck c
 
--- "takes the lowest-numbered defined arrow each time. It answers 0 at node 1, else 1 if the budget is used up, else 2 if no arrow is defined, in that order of asking"
+-- "takes the lowest-numbered defined arrow each time. It answers 0 at node 1, else 1 if the budget is used up, else 2 if no arrow is defined, in
+-- that order of asking"
 unfoldable pub runFrom : ℕ → List ℕ → Graph → Configuration → Result
 runFrom zero ns g c = cond (eqb (c .run .node) 1) (ends Arrived c) (ends Spent c)
 runFrom (suc budget) ns g c =

@@ -51,7 +51,8 @@ positiveOnly =
 unfoldable pub ran : List ℕ → ℕ → List ℤ → List ℤ
 ran s budget m = row (endedNumbers (budgetReply s budget m)) ++ programBudgeted s budget m .final .memory
 
--- (P) "Its run from x 3, y 0, budget 11: answer 0, node 1, 11 arrows, x 0, y 6", and with budget 10; "if x > 0 → skip fi, x 0, budget 1: answer 2, count 0"; two cells for one: 12
+-- (P) "Its run from x 3, y 0, budget 11: answer 0, node 1, 11 arrows, x 0, y 6", and with budget 10; "if x > 0 → skip fi, x 0, budget 1: answer 2,
+-- count 0"; two cells for one: 12
 unfoldable pub runs : List Case
 runs =
     (ran factorial 11 (row (3 ∷ 0 ∷ [])) gives row (0 ∷ 1 ∷ 11 ∷ 0 ∷ 6 ∷ []))
@@ -73,7 +74,8 @@ afterCalls s es m =
 unfoldable pub callAnswers : List ℕ → List ℕ → List ℤ → List ℕ
 callAnswers s es m = flatMap outcomeNumbers (outcomes (sizes s) (graph s) (begun m) es)
 
--- calls along edges 1, 0, 1 and 4 of the factorial lesson: refused, taken, taken, refused; and 0, 4 from x 1: taken, undefined; one call, of the lesson and of an empty file
+-- calls along edges 1, 0, 1 and 4 of the factorial lesson: refused, taken, taken, refused; and 0, 4 from x 1: taken, undefined; one call, of the
+-- lesson and of an empty file
 unfoldable pub calls : List Case
 calls =
     (afterCalls factorial (1 ∷ 0 ∷ 1 ∷ 4 ∷ []) (row (3 ∷ 0 ∷ [])) gives row (3 ∷ 2 ∷ 3 ∷ 1 ∷ []))

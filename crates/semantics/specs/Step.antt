@@ -1,4 +1,5 @@
--- The step of a run over a graph g whose names have the sizes ns (document 01, "The step" and questions 12, 14 and 15; book, Definitions 1.10, 1.11 and 2.17).
+-- The step of a run over a graph g whose names have the sizes ns (document 01, "The step" and questions 12, 14 and 15; book, Definitions 1.10,
+-- 1.11 and 2.17).
 use Prim.Native.Nat.{ℕ, _+_, min}
 use mathlib.Core.Bool.{Bool, _&&_}
 use mathlib.Core.List.{List, [], _∷_, _++_}
