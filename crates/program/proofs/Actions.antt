@@ -8,44 +8,54 @@ use lib.ListN.{getD}
 use Rattle.program.specs.File.{sizes, entryCount}
 use Rattle.program.specs.Graph.{perform, leave, Edge, edge, guardAction, part, graph, edges, edgeCount, actionKind, actionEntry, actionTable, actionOf}
 use Rattle.program.specs.Questions.{validity}
-use Rattle.program.specs.Sorted.{actionSorted}
+use Rattle.program.specs.Sorted.{actionNamed, actionPoints}
 use Rattle.program.specs.Syntax.{Command}
 use Rattle.program.specs.Tree.{booleanAt}
 use Rattle.program.specs.declared.Table.the-variants.{Boolean as Booleans}
 use Rattle.program.specs.declared.Validity.the-variants.{Fit}
+use Rattle.program.proofs.Expressions.{boolean-sorted}
 use Rattle.program.proofs.Lists.{Each, none, more, each-append, each-at}
 use Rattle.program.proofs.Made.{Made, makeSkip, makeAssign, makeStore, makeSequence, makeConditional, makeIteration, makeGuarded, makeChoice}
-use Rattle.program.proofs.Sorting.{made-at, made-entry, made-guarded, made-sorted, boolean-sorted, script-made}
+use Rattle.program.proofs.Sorting.{made-at, made-entry, made-guarded, made-named, made-points, done-named, script-made}
 use Rattle.program.proofs.Tests.{both, passed}
 use Rattle.program.proofs.Trees.{boolean-entry}
 
 -- what holds of the action of an edge
 pub record Faithful (s : List ℕ) (e : Edge) : Type 0 where
   pub same : e .action ≡ actionOf s (actionKind (e .action)) (actionEntry (e .action))
-  pub sorted : T (actionSorted (sizes s) (e .action))
+  pub named : T (actionNamed (sizes s) (e .action))
+  pub points : T (actionPoints (e .action))
   pub exists : actionEntry (e .action) < entryCount s (actionTable (actionKind (e .action)))
 
 module _ (s : List ℕ) (fit : validity s ≡ Fit) where
   -- of a command, a guard and an exit
   performed : {a b n : ℕ} {c : Command} {g : Bool} → Made s g n c → Faithful s (edge a (perform c) b)
-  unfolding actionKind actionEntry actionTable actionOf actionSorted
+  unfolding actionKind actionEntry actionTable actionOf actionNamed actionPoints
   performed m =
       record {
         same = rw (made-entry m) (ap perform (made-at m .tree));
-        sorted = passed (made-sorted s fit m);
+        named = passed (made-named s fit m);
+        points = passed (made-points s fit m);
         exists = rw (made-entry m) (made-at m .exists);
       }
 
   tested : {a b : ℕ} (n : ℕ) → n < entryCount s Booleans → Faithful s (edge a (guardAction (booleanAt s n)) b)
-  unfolding guardAction actionKind actionEntry actionTable actionOf actionSorted
-  tested n h = record { same = rw (boolean-entry s n); sorted = boolean-sorted s fit n h; exists = rw (boolean-entry s n) h }
+  unfolding guardAction actionKind actionEntry actionTable actionOf actionNamed actionPoints
+  tested n h =
+      record {
+        same = rw (boolean-entry s n);
+        named = passed (boolean-sorted s fit n h .named);
+        points = passed (boolean-sorted s fit n h .points);
+        exists = rw (boolean-entry s n) h;
+      }
 
   left : {a b n : ℕ} {c : Command} → Made s true n c → Faithful s (edge a (leave c) b)
-  unfolding actionKind actionEntry actionTable actionOf actionSorted
+  unfolding actionKind actionEntry actionTable actionOf actionNamed actionPoints
   left m =
       record {
         same = rw (made-entry m) (ap leave (made-at m .tree));
-        sorted = passed (both (made-guarded m) (made-sorted s fit m));
+        named = passed (done-named (sizes s) _ (made-named s fit m));
+        points = passed (both (made-guarded m) (made-points s fit m));
         exists = rw (made-entry m) (made-at m .exists);
       }
 

@@ -7,7 +7,7 @@ use Rattle.program.specs.Asking.{ask, thenAsk, isRefused, askEach}
 use Rattle.program.specs.declared.Refusal.{Refusal}
 use Rattle.program.specs.declared.Validity.{Validity}
 use Rattle.program.specs.declared.Validity.the-variants.{Fit, Refused}
-use Rattle.program.proofs.FirstSuch.{first-nothing, first-at, first-more}
+use Rattle.program.proofs.FirstSuch.{first-same, first-nothing, first-at, first-more}
 
 -- a refusal is not fit
 pub refused-unfit {ℓ} : {A : Type ℓ} (x : Refusal) → Refused x ≡ Fit → A
@@ -69,3 +69,8 @@ each-stops n q k v r h e p i t = p ∙ sym (first-at isRefused Fit refl fit-only
 pub each-goes-on : (q : ℕ → Validity) (k : ℕ) (v : Validity) (r : Bool) → askEach k q ≡ Fit → v ≡ q k → r ≡ isRefused v → r ≡ false → askEach (suc k) q ≡ Fit
 unfolding askEach isRefused
 each-goes-on q k v r e p i f = first-more isRefused Fit refl fit-only q k e (sym p ∙ not-refused v r i f)
+
+-- it depends on what is asked below n alone
+pub each-same : (n : ℕ) (p q : ℕ → Validity) → ((k : ℕ) → k < n → p k ≡ q k) → askEach n p ≡ askEach n q
+unfolding askEach
+each-same = first-same isRefused Fit

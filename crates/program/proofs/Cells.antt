@@ -1,55 +1,74 @@
--- Laws of the cells of names.
+-- Laws of the sizes of names and of their cells.
 use mathlib.Core.Path.{_≡_, refl, sym, _∙_, ap}
-use mathlib.Core.List.{List, [], _∷_, _++_, map, sum}
+use mathlib.Core.List.{List, [], _∷_, _++_, sum}
 use Prim.Native.Nat.{ℕ, zero, suc, _+_, _≤_, _<_, min}
 use native.Mathlib.Decide.{ℕ-discrete, decLe}
+use native.Mathlib.Nat.{le-refl}
 use native.Mathlib.Omega.{arith}
-use lib.ListN.{take}
-use lib.Seq.{take-append-le, take-all}
-use Rattle.signs.specs.Lists.{tabulate}
+use lib.ListN.{length, getD, take}
+use borrow.Author.Tests.{ne-eqb}
+use lib.Seq.{take-suc, take-all}
 use Rattle.program.specs.File.{nameCount, sizeAt, sizes, cellsOf, cellCount, firstCell}
-use Rattle.program.proofs.Lists.{length-tabulate}
+use Rattle.program.proofs.Lists.{length-tabulate, getD-tabulate}
 
--- the first of what a function gives
-take-tabulate : {A : Type 0} (n i : ℕ) (f : ℕ → A) → i ≤ n → take i (tabulate n f) ≡ tabulate i f
-unfolding tabulate
-take-tabulate zero zero f h = refl
-take-tabulate zero (suc i) f h = absurd (omega arith)
-take-tabulate (suc n) i f h =
-    elim (ℕ-discrete i (suc n)) [
-      | yes p ↦ ap (λ (k : ℕ). take k (tabulate n f ++ (f n ∷ []))) p ∙ take-all (suc n) (tabulate n f ++ (f n ∷ [])) (omega (arith, length-tabulate (suc n) f)) ∙ ap (λ (k : ℕ). tabulate k f) (sym p)
-      | no q ↦ take-append-le i (tabulate n f) (f n ∷ []) (omega (arith, length-tabulate n f)) ∙ take-tabulate n i f (omega arith)
-    ]
+-- a size has a cell at least
+pub some-cell : (size : ℕ) → 1 ≤ cellsOf size
+unfolding cellsOf
+some-cell zero = omega arith
+some-cell (suc n) = rw (ne-eqb (suc n) 0 (omega arith)) (omega arith)
 
 cells-snoc : (ns : List ℕ) (x : ℕ) → cellCount (ns ++ (x ∷ [])) ≡ cellCount ns + cellsOf x
 unfolding cellCount sum
 cells-snoc [] x = omega arith
 cells-snoc (n ∷ ns) x = omega (arith, cells-snoc ns x)
 
--- before a name that is there stand the cells of those before it
-pub first-cell : (s : List ℕ) (i : ℕ) → i ≤ nameCount s → firstCell (sizes s) i ≡ cellCount (tabulate i (sizeAt s))
-unfolding firstCell sizes
-first-cell s i h = ap cellCount (take-tabulate (nameCount s) i (sizeAt s) h)
+module _ (ns : List ℕ) where
+  -- before the first name there is no cell, before the next a name's own cells more, and past the last name all
+  pub first-cell-zero : firstCell ns 0 ≡ 0
+  unfolding firstCell cellCount sum
+  first-cell-zero = refl
 
-pub first-cell-zero : (s : List ℕ) → firstCell (sizes s) 0 ≡ 0
-unfolding tabulate cellCount sum
-first-cell-zero s = first-cell s 0 (omega arith)
+  pub first-cell-next : (i : ℕ) → i < length ns → firstCell ns (suc i) ≡ firstCell ns i + cellsOf (getD ns i 0)
+  unfolding firstCell
+  first-cell-next i h = rw (take-suc ns i 0) (cells-snoc (take i ns) (getD ns i 0))
 
--- one name more
-pub first-cell-suc : (s : List ℕ) (i : ℕ) → i < nameCount s → firstCell (sizes s) (suc i) ≡ firstCell (sizes s) i + cellsOf (sizeAt s i)
-unfolding tabulate
-first-cell-suc s i h =
-    first-cell s (suc i) h ∙ cells-snoc (tabulate i (sizeAt s)) (sizeAt s i) ∙ ap (λ (n : ℕ). n + cellsOf (sizeAt s i)) (sym (first-cell s i (omega arith)))
+  pub first-cell-end : (i : ℕ) → length ns ≤ i → firstCell ns i ≡ cellCount ns
+  unfolding firstCell
+  first-cell-end i h = ap cellCount (take-all i ns h)
 
--- past the last name, all cells
-pub first-cell-past : (s : List ℕ) (i : ℕ) → nameCount s ≤ i → firstCell (sizes s) i ≡ cellCount (sizes s)
-unfolding firstCell sizes
-first-cell-past s i h =
-    ap cellCount (take-all i (tabulate (nameCount s) (sizeAt s)) (omega (arith, length-tabulate (nameCount s) (sizeAt s))))
+  -- the cells of a name lie before those of a later one, and inside the memory
+  pub cells-apart : (x y : ℕ) → x < y → y ≤ length ns → firstCell ns x + cellsOf (getD ns x 0) ≤ firstCell ns y
+  cells-apart x zero h l = absurd (omega arith)
+  cells-apart x (suc y) h l =
+      let next = first-cell-next y l in
+      elim (ℕ-discrete x y) [
+        | yes p ↦ rw p (omega arith)
+        | no q ↦ omega (arith, cells-apart x y (omega arith) (omega arith))
+      ]
 
-pub first-cell-min : (s : List ℕ) (i : ℕ) → firstCell (sizes s) (min (nameCount s) i) ≡ firstCell (sizes s) i
-first-cell-min s i =
-    elim (decLe i (nameCount s)) [
-      | yes h ↦ ap (firstCell (sizes s)) (omega arith)
-      | no h ↦ first-cell-past s (min (nameCount s) i) (omega arith) ∙ sym (first-cell-past s i (omega arith))
-    ]
+  pub cells-inside : (x : ℕ) → x < length ns → firstCell ns x + cellsOf (getD ns x 0) ≤ cellCount ns
+  cells-inside x h = omega (arith, cells-apart x (length ns) h (le-refl _), first-cell-end (length ns) (le-refl _))
+
+-- a file's sizes: as many as there are names, each at its name
+module _ (s : List ℕ) where
+  pub sizes-length : length (sizes s) ≡ nameCount s
+  unfolding sizes
+  sizes-length = length-tabulate (nameCount s) (sizeAt s)
+
+  pub size-at : (i : ℕ) → i < nameCount s → getD (sizes s) i 0 ≡ sizeAt s i
+  unfolding sizes
+  size-at i h = getD-tabulate (nameCount s) (sizeAt s) i 0 h
+
+  -- the first cells of its names
+  pub first-cell-suc : (i : ℕ) → i < nameCount s → firstCell (sizes s) (suc i) ≡ firstCell (sizes s) i + cellsOf (sizeAt s i)
+  first-cell-suc i h = first-cell-next (sizes s) i (omega (arith, sizes-length)) ∙ ap (λ (n : ℕ). firstCell (sizes s) i + cellsOf n) (size-at i h)
+
+  pub first-cell-past : (i : ℕ) → nameCount s ≤ i → firstCell (sizes s) i ≡ cellCount (sizes s)
+  first-cell-past i h = first-cell-end (sizes s) i (omega (arith, sizes-length))
+
+  pub first-cell-min : (i : ℕ) → firstCell (sizes s) (min (nameCount s) i) ≡ firstCell (sizes s) i
+  first-cell-min i =
+      elim (decLe i (nameCount s)) [
+        | yes h ↦ ap (firstCell (sizes s)) (omega arith)
+        | no h ↦ first-cell-past (min (nameCount s) i) (omega arith) ∙ sym (first-cell-past i (omega arith))
+      ]

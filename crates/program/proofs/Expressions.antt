@@ -1,6 +1,6 @@
--- The expressions of a well-formed program are well sorted.
+-- The expressions of a well-formed program are well sorted: their names and references are as questions 8 and 9 ask.
 use mathlib.Core.Path.{_≡_, refl}
-use mathlib.Core.Bool.{true, _&&_, and-assoc}
+use mathlib.Core.Bool.{true, _&&_}
 use mathlib.Core.List.{List}
 use Prim.Native.Nat.{ℕ, _<_}
 use native.Mathlib.Omega.{arith}
@@ -9,8 +9,8 @@ use borrow.Author.Tests.{lt-ltb}
 use Rattle.program.specs.File.{sizes, entryCount}
 use Rattle.program.specs.Kind.{kinds, shape, tableOf}
 use Rattle.program.specs.Questions.{sameTable, limit, validity}
-use Rattle.program.specs.Sorted.{arithSorted, booleanSorted}
-use Rattle.program.specs.Syntax.{arithEntry, booleanEntry}
+use Rattle.program.specs.Sorted.{arithNamed, booleanNamed, arithPoints, booleanPoints}
+use Rattle.program.specs.Syntax.{Arith, arithEntry, Boolean, booleanEntry}
 use Rattle.program.specs.Tree.{arithBelow, arithNode, arithTrees, arithAt, booleanBelow, booleanNode, booleanTrees, booleanAt}
 use Rattle.program.specs.declared.Sort.the-variants.{Expression, Condition}
 use Rattle.program.specs.declared.Table.the-variants.{Arithmetic, Boolean as Booleans}
@@ -20,60 +20,77 @@ use Rattle.program.proofs.Operands.{Reference, Operands, operands-fit}
 use Rattle.program.proofs.Tests.{both}
 use Rattle.program.proofs.Trees.{arith-below, arith-entry, boolean-below, boolean-entry}
 
+-- names that are there and of the right sort, and references that point as they must
+pub record ArithSorted (ns : List ℕ) (a : Arith) : Type 0 where
+  pub named : arithNamed ns a ≡ true
+  pub points : arithPoints a ≡ true
+
+pub record BooleanSorted (ns : List ℕ) (b : Boolean) : Type 0 where
+  pub named : booleanNamed ns b ≡ true
+  pub points : booleanPoints b ≡ true
+
 -- arithmetic entry n, where the entries below are well sorted
-module _ (s : List ℕ) (n : ℕ) (below : (m : ℕ) → m < n → arithSorted (sizes s) (arithAt s m) ≡ true) where
-  arith-part : (x : ℕ) → Reference s Arithmetic n Expression x
-      → (ltb (arithEntry (arithBelow (arithTrees s n) x)) n && arithSorted (sizes s) (arithBelow (arithTrees s n) x)) ≡ true
+module _ (s : List ℕ) (n : ℕ) (below : (m : ℕ) → m < n → ArithSorted (sizes s) (arithAt s m)) where
+  arith-names : {x : ℕ} → Reference s Arithmetic n Expression x → arithNamed (sizes s) (arithBelow (arithTrees s n) x) ≡ true
   unfolding limit sameTable tableOf
-  arith-part x h = rw (arith-below s n x (h .lower), arith-entry s x) (both (lt-ltb _ _ (h .lower)) (below x (h .lower)))
+  arith-names {x} h = rw (arith-below s n x (h .lower)) (below x (h .lower) .named)
+
+  arith-lower : {x : ℕ} → Reference s Arithmetic n Expression x
+      → (ltb (arithEntry (arithBelow (arithTrees s n) x)) n && arithPoints (arithBelow (arithTrees s n) x)) ≡ true
+  unfolding limit sameTable tableOf
+  arith-lower {x} h = rw (arith-below s n x (h .lower), arith-entry s x) (both (lt-ltb _ _ (h .lower)) (below x (h .lower) .points))
 
   arith-node : (k p q r : ℕ) → Operands s Arithmetic n (shape Arithmetic k) (record { kind = k; p = p; q = q; r = r })
-      → arithSorted (sizes s) (arithNode (arithTrees s n) n (record { kind = k; p = p; q = q; r = r })) ≡ true
-  unfolding shape kinds arithNode arithSorted
+      → ArithSorted (sizes s) (arithNode (arithTrees s n) n (record { kind = k; p = p; q = q; r = r }))
+  unfolding shape kinds arithNode arithNamed arithPoints
   arith-node =
       by-kind _
-      (λ p q r h. refl)
-      (λ p q r h. h .0)
-      (λ p q r h. rw and-assoc (both (h .0) (arith-part q (h .1))))
-      (λ p q r h. both (arith-part p (h .0)) (arith-part q (h .1)))
-      (λ p q r h. both (arith-part p (h .0)) (arith-part q (h .1)))
-      (λ p q r h. both (arith-part p (h .0)) (arith-part q (h .1)))
-      (λ p q r h. both (arith-part p (h .0)) (arith-part q (h .1)))
-      (λ p q r h. both (arith-part p (h .0)) (arith-part q (h .1)))
+      (λ p q r h. record { named = refl; points = refl })
+      (λ p q r h. record { named = h .0; points = refl })
+      (λ p q r h. record { named = both (h .0) (arith-names (h .1)); points = arith-lower (h .1) })
+      (λ p q r h. record { named = both (arith-names (h .0)) (arith-names (h .1)); points = both (arith-lower (h .0)) (arith-lower (h .1)) })
+      (λ p q r h. record { named = both (arith-names (h .0)) (arith-names (h .1)); points = both (arith-lower (h .0)) (arith-lower (h .1)) })
+      (λ p q r h. record { named = both (arith-names (h .0)) (arith-names (h .1)); points = both (arith-lower (h .0)) (arith-lower (h .1)) })
+      (λ p q r h. record { named = both (arith-names (h .0)) (arith-names (h .1)); points = both (arith-lower (h .0)) (arith-lower (h .1)) })
+      (λ p q r h. record { named = both (arith-names (h .0)) (arith-names (h .1)); points = both (arith-lower (h .0)) (arith-lower (h .1)) })
       (λ k p q r h. absurd h)
 
-pub arith-true : (s : List ℕ) → validity s ≡ Fit → (n : ℕ) → n < entryCount s Arithmetic → arithSorted (sizes s) (arithAt s n) ≡ true
+pub arith-sorted : (s : List ℕ) → validity s ≡ Fit → (n : ℕ) → n < entryCount s Arithmetic → ArithSorted (sizes s) (arithAt s n)
 unfolding arithAt
-arith-true s fit =
+arith-sorted s fit =
     from-below _ (λ n below h. arith-node s n (λ m l. below m l (omega arith)) _ _ _ _ (operands-fit s fit Arithmetic n h))
 
 -- boolean entry n, where the arithmetic entries and the boolean ones below are well sorted
-module _ (s : List ℕ) (fit : validity s ≡ Fit) (n : ℕ) (below : (m : ℕ) → m < n → booleanSorted (sizes s) (booleanAt s m) ≡ true) where
-  boolean-part : (x : ℕ) → Reference s Booleans n Condition x
-      → (ltb (booleanEntry (booleanBelow (booleanTrees s n) x)) n && booleanSorted (sizes s) (booleanBelow (booleanTrees s n) x)) ≡ true
+module _ (s : List ℕ) (fit : validity s ≡ Fit) (n : ℕ) (below : (m : ℕ) → m < n → BooleanSorted (sizes s) (booleanAt s m)) where
+  boolean-names : {x : ℕ} → Reference s Booleans n Condition x → booleanNamed (sizes s) (booleanBelow (booleanTrees s n) x) ≡ true
   unfolding limit sameTable tableOf
-  boolean-part x h = rw (boolean-below s n x (h .lower), boolean-entry s x) (both (lt-ltb _ _ (h .lower)) (below x (h .lower)))
+  boolean-names {x} h = rw (boolean-below s n x (h .lower)) (below x (h .lower) .named)
 
-  side : (x : ℕ) → Reference s Booleans n Expression x → arithSorted (sizes s) (arithAt s x) ≡ true
+  boolean-lower : {x : ℕ} → Reference s Booleans n Condition x
+      → (ltb (booleanEntry (booleanBelow (booleanTrees s n) x)) n && booleanPoints (booleanBelow (booleanTrees s n) x)) ≡ true
   unfolding limit sameTable tableOf
-  side x h = arith-true s fit x (h .lower)
+  boolean-lower {x} h = rw (boolean-below s n x (h .lower), boolean-entry s x) (both (lt-ltb _ _ (h .lower)) (below x (h .lower) .points))
+
+  side : {x : ℕ} → Reference s Booleans n Expression x → ArithSorted (sizes s) (arithAt s x)
+  unfolding limit sameTable tableOf
+  side {x} h = arith-sorted s fit x (h .lower)
 
   boolean-node : (k p q r : ℕ) → Operands s Booleans n (shape Booleans k) (record { kind = k; p = p; q = q; r = r })
-      → booleanSorted (sizes s) (booleanNode s (booleanTrees s n) n (record { kind = k; p = p; q = q; r = r })) ≡ true
-  unfolding shape kinds booleanNode booleanSorted
+      → BooleanSorted (sizes s) (booleanNode s (booleanTrees s n) n (record { kind = k; p = p; q = q; r = r }))
+  unfolding shape kinds booleanNode booleanNamed booleanPoints
   boolean-node =
       by-kind _
-      (λ p q r h. refl)
-      (λ p q r h. both (side p (h .0)) (side q (h .1)))
-      (λ p q r h. both (side p (h .0)) (side q (h .1)))
-      (λ p q r h. both (side p (h .0)) (side q (h .1)))
-      (λ p q r h. both (boolean-part p (h .0)) (boolean-part q (h .1)))
-      (λ p q r h. both (boolean-part p (h .0)) (boolean-part q (h .1)))
-      (λ p q r h. boolean-part p (h .0))
+      (λ p q r h. record { named = refl; points = refl })
+      (λ p q r h. record { named = both (side (h .0) .named) (side (h .1) .named); points = both (side (h .0) .points) (side (h .1) .points) })
+      (λ p q r h. record { named = both (side (h .0) .named) (side (h .1) .named); points = both (side (h .0) .points) (side (h .1) .points) })
+      (λ p q r h. record { named = both (side (h .0) .named) (side (h .1) .named); points = both (side (h .0) .points) (side (h .1) .points) })
+      (λ p q r h. record { named = both (boolean-names (h .0)) (boolean-names (h .1)); points = both (boolean-lower (h .0)) (boolean-lower (h .1)) })
+      (λ p q r h. record { named = both (boolean-names (h .0)) (boolean-names (h .1)); points = both (boolean-lower (h .0)) (boolean-lower (h .1)) })
+      (λ p q r h. record { named = boolean-names (h .0); points = boolean-lower (h .0) })
       (λ p q r h. absurd h)
       (λ k p q r h. absurd h)
 
-pub boolean-true : (s : List ℕ) → validity s ≡ Fit → (n : ℕ) → n < entryCount s Booleans → booleanSorted (sizes s) (booleanAt s n) ≡ true
+pub boolean-sorted : (s : List ℕ) → validity s ≡ Fit → (n : ℕ) → n < entryCount s Booleans → BooleanSorted (sizes s) (booleanAt s n)
 unfolding booleanAt
-boolean-true s fit =
+boolean-sorted s fit =
     from-below _ (λ n below h. boolean-node s fit n (λ m l. below m l (omega arith)) _ _ _ _ (operands-fit s fit Booleans n h))

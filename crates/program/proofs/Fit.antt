@@ -2,21 +2,24 @@
 use mathlib.Core.Path.{_≡_, refl}
 use mathlib.Core.Bool.{true}
 use mathlib.Core.List.{List, [], _∷_}
-use Prim.Native.Nat.{ℕ, zero, suc, _/_, _%_, _≤_, _<_}
+use Prim.Native.Nat.{ℕ, zero, suc, _-_, _/_, _%_, _≤_, _<_}
+use native.Mathlib.Decide.{decLt}
 use native.Mathlib.Omega.{arith}
 use lib.Dec.{leb, eqb}
-use lib.ListN.{getD}
+use lib.ListN.{getD, take, List·getD-eq-default}
+use lib.Seq.{take-all}
 use borrow.Author.Tests.{leb-true, eqb-true}
 use Rattle.program.specs.Asking.{inTurn}
-use Rattle.program.specs.File.{Field, programFields, contentLength, fieldStart, spanAt, layoutOf, spanOf, nameCount, entryCount, entry}
+use Rattle.program.specs.File.{Field, programFields, contentLength, fieldStart, spanAt, layoutOf, spanOf, nameCount, sizeAt, sizes, entryCount, entry, cellCount}
 use Rattle.program.specs.Kind.{isCommand}
-use Rattle.program.specs.Questions.{wholeEntries, headValidity, headsValidity, entryValidity, tableValidity, uses, useValidity, lastCommand, lastValidity, usesValidity, contentValidity, validity}
+use Rattle.program.specs.Questions.{wholeEntries, headValidity, headsValidity, nameValidity, entryValidity, tableValidity, uses, useValidity, lastCommand, lastValidity, usesValidity, contentValidity, validity}
 use Rattle.program.specs.declared.Table.{Table}
 use Rattle.program.specs.declared.Table.the-variants.{Arithmetic, Boolean, Commands}
 use Rattle.program.specs.declared.Validity.{Validity}
 use Rattle.program.specs.declared.Validity.the-variants.{Fit}
 use Rattle.program.proofs.Asking.{ask-fit, then-first, then-second, each-fit}
-use Rattle.program.proofs.Tests.{three}
+use Rattle.program.proofs.Cells.{sizes-length, size-at}
+use Rattle.program.proofs.Tests.{two, three}
 
 -- questions in turn, all answered yes: yes to each
 pub turn-fit : (xs : List Validity) (k : ℕ) → inTurn xs ≡ Fit → getD xs k Fit ≡ Fit
@@ -78,6 +81,25 @@ module _ (s : List ℕ) (fit : validity s ≡ Fit) where
   pub one-last : entryCount s Commands ≡ suc (lastCommand s)
   unfolding lastCommand
   one-last = omega (arith, counts .some-command)
+
+  -- question 6, of each name, and of all
+  name-fit : (i : ℕ) → i < nameCount s → (sizeAt s i ≤ 64) × (cellCount (take (suc i) (sizes s)) ≤ 512)
+  unfolding contentValidity nameValidity
+  name-fit i h =
+      let known = two (leb (sizeAt s i) 64) (leb (cellCount (take (suc i) (sizes s))) 512) (ask-fit _ 6 _ (each-fit _ _ (turn-fit _ 0 content-fit) i h)) in
+      (leb-true _ _ (known .0), leb-true _ _ (known .1))
+
+  pub small-sizes : (i : ℕ) → getD (sizes s) i 0 ≤ 64
+  small-sizes i =
+      elim (decLt i (nameCount s)) [
+        | yes h ↦ rw (size-at s i h) (name-fit i h .0)
+        | no h ↦ rw (List·getD-eq-default (sizes s) 0 {n = i} (omega (arith, sizes-length s))) (omega arith)
+      ]
+
+  pub few-cells : cellCount (sizes s) ≤ 512
+  few-cells =
+      let last = nameCount s - 1 in
+      rw (take-all (suc last) (sizes s) (omega (arith, sizes-length s))) at (name-fit last (omega (arith, counts .some-name)) .1)
 
   -- questions 7 to 9, of each entry
   pub entry-fit : (t : Table) (n : ℕ) → n < entryCount s t → entryValidity s t n ≡ Fit

@@ -1,6 +1,6 @@
 -- Induction from below, and the kinds one by one.
-use Prim.Native.Nat.{ℕ, zero, suc, _<_}
-use native.Mathlib.Nat.{not-suc-le-zero}
+use Prim.Native.Nat.{ℕ, zero, suc, _≤_, _<_}
+use native.Mathlib.Nat.{le-of-suc-le-suc, not-suc-le-zero}
 use native.Mathlib.Omega.{arith}
 
 -- what follows from the numbers below holds everywhere
@@ -22,3 +22,15 @@ by-kind P a b c d e f g h other (suc (suc (suc (suc (suc zero))))) = f
 by-kind P a b c d e f g h other (suc (suc (suc (suc (suc (suc zero)))))) = g
 by-kind P a b c d e f g h other (suc (suc (suc (suc (suc (suc (suc zero))))))) = h
 by-kind P a b c d e f g h other (suc (suc (suc (suc (suc (suc (suc (suc k)))))))) = other k
+
+-- the kinds from 7 and from 8 on
+pub from-seven : (P : ℕ → Type 0) → ((k : ℕ) → P (suc (suc (suc (suc (suc (suc (suc k)))))))) → (k : ℕ) → 7 ≤ k → P k
+from-seven P f =
+    by-kind (λ (k : ℕ). 7 ≤ k → P k)
+    (λ h. absurd (omega arith)) (λ h. absurd (omega arith)) (λ h. absurd (omega arith)) (λ h. absurd (omega arith))
+    (λ h. absurd (omega arith)) (λ h. absurd (omega arith)) (λ h. absurd (omega arith)) (λ h. f 0)
+    (λ k h. f (suc k))
+
+pub from-eight : (P : ℕ → Type 0) → ((k : ℕ) → P (suc (suc (suc (suc (suc (suc (suc (suc k))))))))) → (k : ℕ) → 8 ≤ k → P k
+from-eight P f zero h = absurd (omega arith)
+from-eight P f (suc k) h = from-seven (λ (n : ℕ). P (suc n)) f k (le-of-suc-le-suc h)

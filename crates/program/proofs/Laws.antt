@@ -1,29 +1,219 @@
 -- The theorems on programs and their graphs for the crates above, on one page. Their proofs are in the modules that they cite.
 use mathlib.Core.Path.{_≡_}
-use mathlib.Core.Bool.{false}
+use mathlib.Core.Bool.{Bool, true, false}
 use mathlib.Core.List.{List}
-use Prim.Native.Nat.{ℕ, _≤_, _<_}
+use Prim.Native.Nat.{ℕ, suc, _+_, _≤_, _<_}
 use lib.Dec.{T}
-use lib.ListN.{getD}
+use lib.IntN.{pos}
+use lib.ListN.{length, getD}
+use Rattle.program.specs.Asking.{ask, thenAsk, isRefused, inTurn, askEach}
 use Rattle.program.specs.Drawing.{over, edgeRead, edgeNumbers}
-use Rattle.program.specs.File.{sizes, entryCount}
+use Rattle.program.specs.File.{nameCount, sizeAt, sizes, entryCount, entry, cellsOf, cellCount, firstCell}
+use Rattle.program.specs.FirstSuch.{firstOf, firstSuch}
 use Rattle.program.specs.Graph.{Edge, edges, edgeCount, nodeCount, graphBytes}
+use Rattle.program.specs.Kind.{isGuarded}
 use Rattle.program.specs.Questions.{validity}
-use Rattle.program.specs.Sorted.{arithSorted, booleanSorted, isGuardedTree, commandSorted}
-use Rattle.program.specs.Tree.{arithAt, booleanAt, commandAt, script}
+use Rattle.program.specs.Sorted.{arithNamed, booleanNamed, commandNamed, arithPoints, booleanPoints, isGuardedTree, commandPoints}
+use Rattle.program.specs.Syntax.{number, arithEntry, truth, booleanEntry, skip, commandEntry}
+use Rattle.program.specs.Tree.{arithBelow, booleanBelow, commandBelow, arithNode, arithTrees, arithAt, booleanNode, booleanTrees, booleanAt, commandNode, commandTrees, commandAt, script}
+use Rattle.program.specs.declared.First.the-variants.{At, Nothing}
 use Rattle.program.specs.declared.Table.the-variants.{Arithmetic, Boolean, Commands}
+use Rattle.program.specs.declared.Validity.{Validity}
 use Rattle.program.specs.declared.Validity.the-variants.{Fit}
 use Rattle.program.proofs.Actions
 use Rattle.program.proofs.Actions.{Faithful}
+use Rattle.program.proofs.Asking
+use Rattle.program.proofs.Cells
 use Rattle.program.proofs.Counts
 use Rattle.program.proofs.EdgeReading
+use Rattle.program.proofs.Expressions
+use Rattle.program.proofs.FirstSuch
+use Rattle.program.proofs.FirstSuch.{Foremost, FirstPassing}
 use Rattle.program.proofs.Fit as Fitness
 use Rattle.program.proofs.Fit.{Counts as Allowed}
+use Rattle.program.proofs.Made.{made}
 use Rattle.program.proofs.Nodes
 use Rattle.program.proofs.Nodes.{Inside}
 use Rattle.program.proofs.Sorting
+use Rattle.program.proofs.Tests.{passed}
+use Rattle.program.proofs.Trees
 
--- ---- Of every file: each edge leaves and enters a node of the graph, and none leaves node 1 (book, Proposition 2.12)
+-- ---- Names and their cells, for any list of sizes
+
+-- a size has a cell at least
+pub some-cell : (size : ℕ) → 1 ≤ cellsOf size
+some-cell = Cells.some-cell
+
+-- before the first name there is no cell, before the next a name's own cells more, and past the last name all
+pub first-cell-zero : (ns : List ℕ) → firstCell ns 0 ≡ 0
+first-cell-zero = Cells.first-cell-zero
+
+pub first-cell-next : (ns : List ℕ) (i : ℕ) → i < length ns → firstCell ns (suc i) ≡ firstCell ns i + cellsOf (getD ns i 0)
+first-cell-next = Cells.first-cell-next
+
+pub first-cell-end : (ns : List ℕ) (i : ℕ) → length ns ≤ i → firstCell ns i ≡ cellCount ns
+first-cell-end = Cells.first-cell-end
+
+-- the cells of a name lie before those of a later one, and inside the memory
+pub cells-apart : (ns : List ℕ) (x y : ℕ) → x < y → y ≤ length ns → firstCell ns x + cellsOf (getD ns x 0) ≤ firstCell ns y
+cells-apart = Cells.cells-apart
+
+pub cells-inside : (ns : List ℕ) (x : ℕ) → x < length ns → firstCell ns x + cellsOf (getD ns x 0) ≤ cellCount ns
+cells-inside = Cells.cells-inside
+
+-- a file's sizes: as many as there are names, each at its name
+pub sizes-length : (s : List ℕ) → length (sizes s) ≡ nameCount s
+sizes-length = Cells.sizes-length
+
+pub size-at : (s : List ℕ) (i : ℕ) → i < nameCount s → getD (sizes s) i 0 ≡ sizeAt s i
+size-at = Cells.size-at
+
+-- ---- Trees at entries, of every file
+
+module _ (s : List ℕ) where
+  -- the tree at entry n is its node over the trees of the entries below
+  pub arith-at : (n : ℕ) → arithAt s n ≡ arithNode (arithTrees s n) n (entry s Arithmetic n)
+  arith-at = Trees.arith-at s
+
+  pub boolean-at : (n : ℕ) → booleanAt s n ≡ booleanNode s (booleanTrees s n) n (entry s Boolean n)
+  boolean-at = Trees.boolean-at s
+
+  pub command-at : (n : ℕ) → commandAt s n ≡ commandNode s (commandTrees s n) n (entry s Commands n)
+  command-at = Trees.command-at s
+
+  -- an unknown kind makes a leaf
+  pub arith-unknown : (n : ℕ) → 8 ≤ entry s Arithmetic n .kind → arithAt s n ≡ number n (pos 0)
+  arith-unknown = Trees.arith-unknown s
+
+  pub boolean-unknown : (n : ℕ) → 7 ≤ entry s Boolean n .kind → booleanAt s n ≡ truth n
+  boolean-unknown = Trees.boolean-unknown s
+
+  pub command-unknown : (n : ℕ) → 8 ≤ entry s Commands n .kind → commandAt s n ≡ skip n
+  command-unknown = Trees.command-unknown s
+
+  -- a reference to an entry below leads to the tree at that entry, and any other to a leaf
+  pub arith-below : (n r : ℕ) → r < n → arithBelow (arithTrees s n) r ≡ arithAt s r
+  arith-below = Trees.arith-below s
+
+  pub arith-past : (n r : ℕ) → n ≤ r → arithBelow (arithTrees s n) r ≡ number r (pos 0)
+  arith-past = Trees.arith-past s
+
+  pub boolean-below : (n r : ℕ) → r < n → booleanBelow (booleanTrees s n) r ≡ booleanAt s r
+  boolean-below = Trees.boolean-below s
+
+  pub boolean-past : (n r : ℕ) → n ≤ r → booleanBelow (booleanTrees s n) r ≡ truth r
+  boolean-past = Trees.boolean-past s
+
+  pub command-below : (n r : ℕ) → r < n → commandBelow (commandTrees s n) r ≡ commandAt s r
+  command-below = Trees.command-below s
+
+  pub command-past : (n r : ℕ) → n ≤ r → commandBelow (commandTrees s n) r ≡ skip r
+  command-past = Trees.command-past s
+
+  -- the tree at entry n has the number n
+  pub arith-entry : (n : ℕ) → arithEntry (arithAt s n) ≡ n
+  arith-entry = Trees.arith-entry s
+
+  pub boolean-entry : (n : ℕ) → booleanEntry (booleanAt s n) ≡ n
+  boolean-entry = Trees.boolean-entry s
+
+  pub command-entry : (n : ℕ) → commandEntry (commandAt s n) ≡ n
+  command-entry = Trees.command-entry s
+
+-- ---- First such
+
+-- the first answer depends on the answers below n alone
+pub first-same : {A : Type 0} (settles : A → Bool) (nothing : A) (n : ℕ) (f g : ℕ → A) → ((k : ℕ) → k < n → f k ≡ g k) → firstOf settles nothing n f ≡ firstOf settles nothing n g
+first-same = FirstSuch.first-same
+
+-- where `nothing` is the one answer that settles nothing
+module _ {A : Type 0} (settles : A → Bool) (nothing : A) (unsettled : settles nothing ≡ false) (only : (x : A) → settles x ≡ false → x ≡ nothing) where
+  -- nothing, where there is nothing at each below n, and only there
+  pub all-nothing : (n : ℕ) (f : ℕ → A) → ((k : ℕ) → k < n → f k ≡ nothing) → firstOf settles nothing n f ≡ nothing
+  all-nothing = FirstSuch.all-nothing settles nothing unsettled only
+
+  pub first-nothing : (n : ℕ) (f : ℕ → A) → firstOf settles nothing n f ≡ nothing → (k : ℕ) → k < n → f k ≡ nothing
+  first-nothing = FirstSuch.first-nothing settles nothing unsettled only
+
+  -- the answer at k, where that settles the matter and nothing before it does; and where the first settles it, there is such a k
+  pub first-where : (n : ℕ) (f : ℕ → A) (k : ℕ) → k < n → ((j : ℕ) → j < k → f j ≡ nothing) → settles (f k) ≡ true → firstOf settles nothing n f ≡ f k
+  first-where = FirstSuch.first-where settles nothing unsettled only
+
+  pub first-found : (n : ℕ) (f : ℕ → A) → settles (firstOf settles nothing n f) ≡ true → Foremost settles nothing n f
+  first-found = FirstSuch.first-found settles nothing unsettled only
+
+  -- how code finds it in a loop: nothing up to k, and k settles it or not
+  pub first-at : (n : ℕ) (f : ℕ → A) (k : ℕ) → k < n → firstOf settles nothing k f ≡ nothing → settles (f k) ≡ true → firstOf settles nothing n f ≡ f k
+  first-at = FirstSuch.first-at settles nothing unsettled only
+
+  pub first-more : (f : ℕ → A) (k : ℕ) → firstOf settles nothing k f ≡ nothing → f k ≡ nothing → firstOf settles nothing (suc k) f ≡ nothing
+  first-more = FirstSuch.first-more settles nothing unsettled only
+
+-- the first that passes a test: it depends on the tests below n alone
+pub such-same : (n : ℕ) (test other : ℕ → Bool) → ((k : ℕ) → k < n → test k ≡ other k) → firstSuch n test ≡ firstSuch n other
+such-same = FirstSuch.such-same
+
+-- nothing, where none below n passes, and only there
+pub none-such : (n : ℕ) (test : ℕ → Bool) → ((k : ℕ) → k < n → test k ≡ false) → firstSuch n test ≡ Nothing
+none-such = FirstSuch.none-such
+
+pub such-none : (n : ℕ) (test : ℕ → Bool) → firstSuch n test ≡ Nothing → (k : ℕ) → k < n → test k ≡ false
+such-none = FirstSuch.such-none
+
+-- k, where k passes and none before it does, and only there
+pub first-such : (n : ℕ) (test : ℕ → Bool) (k : ℕ) → FirstPassing n test k → firstSuch n test ≡ At k
+first-such = FirstSuch.first-such
+
+pub such-first : (n : ℕ) (test : ℕ → Bool) (k : ℕ) → firstSuch n test ≡ At k → FirstPassing n test k
+such-first = FirstSuch.such-first
+
+-- how code finds it in a loop
+pub such-stops : (n : ℕ) (test : ℕ → Bool) (k : ℕ) → k < n → firstSuch k test ≡ Nothing → test k ≡ true → firstSuch n test ≡ At k
+such-stops = FirstSuch.such-stops
+
+pub such-goes-on : (test : ℕ → Bool) (k : ℕ) → firstSuch k test ≡ Nothing → test k ≡ false → firstSuch (suc k) test ≡ Nothing
+such-goes-on = FirstSuch.such-goes-on
+
+-- ---- Asking
+
+-- asked and fit: yes, to the first questions, to the later ones, and to each of a list and of a loop
+pub ask-fit : (yes? : Bool) (n at : ℕ) → ask yes? n at ≡ Fit → yes? ≡ true
+ask-fit = Asking.ask-fit
+
+pub then-first : (a b : Validity) → thenAsk a b ≡ Fit → a ≡ Fit
+then-first = Asking.then-first
+
+pub then-second : (a b : Validity) → thenAsk a b ≡ Fit → b ≡ Fit
+then-second = Asking.then-second
+
+pub turn-fit : (xs : List Validity) (k : ℕ) → inTurn xs ≡ Fit → getD xs k Fit ≡ Fit
+turn-fit = Fitness.turn-fit
+
+pub each-fit : (n : ℕ) (q : ℕ → Validity) → askEach n q ≡ Fit → (k : ℕ) → k < n → q k ≡ Fit
+each-fit = Asking.each-fit
+
+-- what is asked in a loop depends on the questions below n alone
+pub each-same : (n : ℕ) (p q : ℕ → Validity) → ((k : ℕ) → k < n → p k ≡ q k) → askEach n p ≡ askEach n q
+each-same = Asking.each-same
+
+-- how code asks: an answer v to the first questions is returned where it is a refusal, and the next asked where it is not
+pub not-refused : (v : Validity) (r : Bool) → r ≡ isRefused v → r ≡ false → v ≡ Fit
+not-refused = Asking.not-refused
+
+pub stops : (a b v : Validity) (r : Bool) → v ≡ a → r ≡ isRefused v → r ≡ true → v ≡ thenAsk a b
+stops = Asking.stops
+
+pub goes-on : (a b v w : Validity) (r : Bool) → v ≡ a → r ≡ isRefused v → r ≡ false → w ≡ b → w ≡ thenAsk a b
+goes-on = Asking.goes-on
+
+-- how code asks in a loop
+pub each-stops : (n : ℕ) (q : ℕ → Validity) (k : ℕ) (v : Validity) (r : Bool) → k < n → askEach k q ≡ Fit → v ≡ q k → r ≡ isRefused v → r ≡ true → v ≡ askEach n q
+each-stops = Asking.each-stops
+
+pub each-goes-on : (q : ℕ → Validity) (k : ℕ) (v : Validity) (r : Bool) → askEach k q ≡ Fit → v ≡ q k → r ≡ isRefused v → r ≡ false → askEach (suc k) q ≡ Fit
+each-goes-on = Asking.each-goes-on
+
+-- ---- The graph, of every file: each edge leaves and enters a node of the graph, and none leaves node 1 (book, Proposition 2.12)
 
 pub two-nodes : (s : List ℕ) → 2 ≤ nodeCount s
 two-nodes = Nodes.two-nodes
@@ -34,9 +224,16 @@ edge-inside = Nodes.edge-inside
 -- ---- Of a well-formed file: "A script is well formed if it passes questions 1 to 11"
 
 module _ (s : List ℕ) (fit : validity s ≡ Fit) where
-  -- the fields have as many entries as are allowed
+  -- the fields have as many entries as are allowed, so there is a name at least
   pub counts : Allowed s
   counts = Fitness.counts s fit
+
+  -- "is the size 0 to 64 and the cell total so far at most 512?"
+  pub small-sizes : (i : ℕ) → getD (sizes s) i 0 ≤ 64
+  small-sizes = Fitness.small-sizes s fit
+
+  pub few-cells : cellCount (sizes s) ≤ 512
+  few-cells = Fitness.few-cells s fit
 
   -- "There are at most 129 nodes and 255 arrows."
   pub few-nodes : nodeCount s ≤ 129
@@ -45,23 +242,40 @@ module _ (s : List ℕ) (fit : validity s ≡ Fit) where
   pub few-edges : edgeCount s ≤ 255
   few-edges = Counts.few-edges s fit
 
-  -- every name is there and of the right sort, every reference lower and of the sort its rule needs
-  pub arith-sorted : (n : ℕ) → n < entryCount s Arithmetic → T (arithSorted (sizes s) (arithAt s n))
-  arith-sorted = Sorting.arith-sorted s fit
+  -- "is a named name there and of the right sort?": every name, of each expression and command and of the script
+  pub arith-named : (n : ℕ) → n < entryCount s Arithmetic → T (arithNamed (sizes s) (arithAt s n))
+  arith-named n h = passed (Expressions.arith-sorted s fit n h .named)
 
-  pub boolean-sorted : (n : ℕ) → n < entryCount s Boolean → T (booleanSorted (sizes s) (booleanAt s n))
-  boolean-sorted = Sorting.boolean-sorted s fit
+  pub boolean-named : (n : ℕ) → n < entryCount s Boolean → T (booleanNamed (sizes s) (booleanAt s n))
+  boolean-named n h = passed (Expressions.boolean-sorted s fit n h .named)
 
-  pub command-sorted : (n : ℕ) → n < entryCount s Commands → T (commandSorted (sizes s) (commandAt s n))
-  command-sorted = Sorting.command-sorted s fit
+  pub command-named : (n : ℕ) → n < entryCount s Commands → T (commandNamed (sizes s) (commandAt s n))
+  command-named n h = passed (Sorting.made-named s fit (made s fit n h))
 
-  pub script-sorted : T (commandSorted (sizes s) (script s))
-  script-sorted = Sorting.script-sorted s fit
+  pub script-named : T (commandNamed (sizes s) (script s))
+  script-named = passed (Sorting.made-named s fit (Sorting.script-made s fit))
+
+  -- "Do all references point as above?": every reference is lower, and of the sort its rule needs
+  pub arith-points : (n : ℕ) → n < entryCount s Arithmetic → T (arithPoints (arithAt s n))
+  arith-points n h = passed (Expressions.arith-sorted s fit n h .points)
+
+  pub boolean-points : (n : ℕ) → n < entryCount s Boolean → T (booleanPoints (booleanAt s n))
+  boolean-points n h = passed (Expressions.boolean-sorted s fit n h .points)
+
+  pub command-points : (n : ℕ) → n < entryCount s Commands → T (commandPoints (commandAt s n))
+  command-points n h = passed (Sorting.made-points s fit (made s fit n h))
+
+  pub script-points : T (commandPoints (script s))
+  script-points = passed (Sorting.made-points s fit (Sorting.script-made s fit))
+
+  -- a tree is a guarded command where its entry's kind is one's, and the script is a command
+  pub command-guarded : (n : ℕ) → n < entryCount s Commands → isGuardedTree (commandAt s n) ≡ isGuarded (entry s Commands n .kind)
+  command-guarded = Sorting.command-guarded s fit
 
   pub script-command : isGuardedTree (script s) ≡ false
   script-command = Sorting.script-command s fit
 
-  -- an edge's action is that of its kind and entry, is well sorted, and its entry exists
+  -- an edge's action is that of its kind and entry, its names and references are as above, an exit's names those of its condition, and its entry exists
   pub edge-faithful : (k : ℕ) (d : Edge) → k < edgeCount s → Faithful s (getD (edges s) k d)
   edge-faithful = Actions.edge-faithful s fit
 

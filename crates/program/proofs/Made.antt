@@ -8,13 +8,13 @@ use borrow.Author.Tests.{leb-true, lt-leb}
 use Rattle.program.specs.File.{sizes, entryCount, entry}
 use Rattle.program.specs.Kind.{kinds, shape, tableOf, isCommand, isGuarded}
 use Rattle.program.specs.Questions.{sameTable, limit, ofSort, validity}
-use Rattle.program.specs.Sorted.{isVariable, isArray, arithSorted}
+use Rattle.program.specs.Sorted.{isVariable, isArray}
 use Rattle.program.specs.Syntax.{Arith, Command, skip, assign, store, sequence, conditional, iteration, guarded, choice}
 use Rattle.program.specs.Tree.{arithAt, booleanAt, commandBelow, commandNode, commandTrees, commandAt}
 use Rattle.program.specs.declared.Sort.the-variants.{Expression, Command as Commanding, Guarded}
 use Rattle.program.specs.declared.Table.the-variants.{Boolean as Booleans, Commands}
 use Rattle.program.specs.declared.Validity.the-variants.{Fit}
-use Rattle.program.proofs.Expressions.{arith-true}
+use Rattle.program.proofs.Expressions.{ArithSorted, arith-sorted}
 use Rattle.program.proofs.Induction.{from-below, by-kind}
 use Rattle.program.proofs.Operands.{Reference, Operands, operands-fit}
 use Rattle.program.proofs.Trees.{command-below}
@@ -27,8 +27,8 @@ pub record AtEntry (s : List ℕ) (n : ℕ) (c : Command) : Type 0 where
 -- how the trees of a well-formed program's commands are made: whether it is a guarded command, the entry and the tree
 pub data Made (s : List ℕ) : Bool → ℕ → Command → Type 0 where
   makeSkip : {n : ℕ} → AtEntry s n (skip n) → Made s false n (skip n)
-  makeAssign : {n x : ℕ} {a : Arith} → AtEntry s n (assign n x a) → isVariable (sizes s) x ≡ true → arithSorted (sizes s) a ≡ true → Made s false n (assign n x a)
-  makeStore : {n x : ℕ} {i a : Arith} → AtEntry s n (store n x i a) → isArray (sizes s) x ≡ true → arithSorted (sizes s) i ≡ true → arithSorted (sizes s) a ≡ true → Made s false n (store n x i a)
+  makeAssign : {n x : ℕ} {a : Arith} → AtEntry s n (assign n x a) → isVariable (sizes s) x ≡ true → ArithSorted (sizes s) a → Made s false n (assign n x a)
+  makeStore : {n x : ℕ} {i a : Arith} → AtEntry s n (store n x i a) → isArray (sizes s) x ≡ true → ArithSorted (sizes s) i → ArithSorted (sizes s) a → Made s false n (store n x i a)
   makeSequence : {n p q : ℕ} {c d : Command} → AtEntry s n (sequence n c d) → p < n → q < n → Made s false p c → Made s false q d → Made s false n (sequence n c d)
   makeConditional : {n p : ℕ} {c : Command} → AtEntry s n (conditional n c) → p < n → Made s true p c → Made s false n (conditional n c)
   makeIteration : {n p : ℕ} {c : Command} → AtEntry s n (iteration n c) → p < n → Made s true p c → Made s false n (iteration n c)
@@ -54,9 +54,9 @@ module _ (s : List ℕ) (fit : validity s ≡ Fit) (n : ℕ) (exists : n < entry
   unfolding limit sameTable tableOf ofSort
   guarded-part x h = rw (command-below s n x (h .lower)) (rw (h .sorted) at (below x (h .lower)))
 
-  side : (x : ℕ) → Reference s Commands n Expression x → arithSorted (sizes s) (arithAt s x) ≡ true
+  side : (x : ℕ) → Reference s Commands n Expression x → ArithSorted (sizes s) (arithAt s x)
   unfolding limit sameTable tableOf
-  side x h = arith-true s fit x (h .lower)
+  side x h = arith-sorted s fit x (h .lower)
 
   command-node : (k p q r : ℕ) → Operands s Commands n (shape Commands k) (record { kind = k; p = p; q = q; r = r })
       → commandNode s (commandTrees s n) n (record { kind = k; p = p; q = q; r = r }) ≡ commandAt s n

@@ -1,10 +1,9 @@
 -- What questions 7 to 9 say of an entry's operands, by their roles.
-use mathlib.Core.Path.{_≡_, refl}
+use mathlib.Core.Path.{_≡_}
 use mathlib.Core.Bool.{true, false, false≢true}
 use mathlib.Core.List.{List}
 use Prim.Native.Nat.{ℕ, _<_}
 use lib.Dec.{ltb, eqb}
-use lib.ListN.{length, getD}
 use borrow.Author.Tests.{ltb-true}
 use Rattle.program.specs.File.{nameCount, sizeAt, sizes, entryCount, entry}
 use Rattle.program.specs.Kind.{shape, tableOf}
@@ -19,18 +18,9 @@ use Rattle.program.specs.declared.Sort.{Sort}
 use Rattle.program.specs.declared.Table.{Table}
 use Rattle.program.specs.declared.Validity.the-variants.{Fit}
 use Rattle.program.proofs.Asking.{ask-fit}
+use Rattle.program.proofs.Cells.{sizes-length, size-at}
 use Rattle.program.proofs.Fit.{turn-fit, entry-fit}
-use Rattle.program.proofs.Lists.{length-tabulate, getD-tabulate}
 use Rattle.program.proofs.Tests.{two, three}
-
--- the list of the sizes has a size per name
-pub sizes-length : (s : List ℕ) → length (sizes s) ≡ nameCount s
-unfolding sizes
-sizes-length s = length-tabulate (nameCount s) (sizeAt s)
-
-pub size-at : (s : List ℕ) (i : ℕ) → i < nameCount s → getD (sizes s) i 0 ≡ sizeAt s i
-unfolding sizes
-size-at s i h = getD-tabulate (nameCount s) (sizeAt s) i 0 h
 
 -- a reference to a lower entry, or to one of an earlier table, that is of its sort
 pub record Reference (s : List ℕ) (t : Table) (n : ℕ) (sort : Sort) (x : ℕ) : Type 0 where

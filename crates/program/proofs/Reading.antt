@@ -1,7 +1,7 @@
 -- What stands past the end of a file reads as zero; and the counts in a layout.
 use mathlib.Core.Path.{_≡_, refl, ap}
 use mathlib.Core.List.{List}
-use Prim.Native.Nat.{ℕ, suc, _+_, _*_, _≤_}
+use Prim.Native.Nat.{ℕ, suc, _+_, _≤_}
 use native.Mathlib.Omega.{arith}
 use lib.ListN.{length, List·getD-eq-default}
 use Rattle.program.specs.File.{byteAt, wordAt, contentLength, nextField, fieldStart, entryAt, layoutOf, spanOf, nameCount, entryCount}

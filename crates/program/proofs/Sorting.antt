@@ -1,23 +1,24 @@
--- The trees of a well-formed program are well sorted: every name is there and of the right sort, every reference lower and of the sort its rule needs.
+-- The command trees of a well-formed program are well sorted: every name is there and of the right sort, every reference lower and of the sort its rule needs.
 use mathlib.Core.Path.{_≡_, refl, _∙_, ap}
 use mathlib.Core.Bool.{Bool, true, false, not}
 use mathlib.Core.List.{List}
 use Prim.Native.Nat.{ℕ, _<_}
 use native.Mathlib.Omega.{arith}
-use lib.Dec.{T, ltb}
+use lib.Dec.{ltb}
 use borrow.Author.Tests.{lt-ltb}
 use Rattle.program.specs.File.{sizes, entryCount, entry}
+use Rattle.program.specs.Graph.{done}
 use Rattle.program.specs.Kind.{isGuarded}
 use Rattle.program.specs.Questions.{lastCommand, validity}
-use Rattle.program.specs.Sorted.{arithSorted, booleanSorted, isGuardedTree, commandSorted}
-use Rattle.program.specs.Syntax.{Command, commandEntry}
-use Rattle.program.specs.Tree.{arithAt, booleanAt, commandAt, script}
-use Rattle.program.specs.declared.Table.the-variants.{Arithmetic, Boolean as Booleans, Commands}
+use Rattle.program.specs.Sorted.{commandNamed, booleanNamed, isGuardedTree, commandPoints}
+use Rattle.program.specs.Syntax.{Command, skip, assign, store, sequence, conditional, iteration, guarded, choice, commandEntry}
+use Rattle.program.specs.Tree.{commandAt, script}
+use Rattle.program.specs.declared.Table.the-variants.{Commands}
 use Rattle.program.specs.declared.Validity.the-variants.{Fit}
-use Rattle.program.proofs.Expressions.{arith-true, boolean-true}
+use Rattle.program.proofs.Expressions.{boolean-sorted}
 use Rattle.program.proofs.Fit.{one-last, last-fit}
 use Rattle.program.proofs.Made.{AtEntry, Made, makeSkip, makeAssign, makeStore, makeSequence, makeConditional, makeIteration, makeGuarded, makeChoice, not-guarded, made}
-use Rattle.program.proofs.Tests.{both, passed}
+use Rattle.program.proofs.Tests.{two, both}
 use Rattle.program.proofs.Trees.{command-entry}
 
 -- a tree that is made is the tree at its entry, with that entry's number, and is guarded or not as its kind says
@@ -49,32 +50,46 @@ made-guarded (makeChoice e l m c d) = refl
 lower : {s : List ℕ} {g : Bool} {n p : ℕ} {c : Command} → Made s g p c → p < n → ltb (commandEntry c) n ≡ true
 lower m h = rw (made-entry m) (lt-ltb _ _ h)
 
--- and it is well sorted
+-- the names of an exit's condition are names of its guards
+pub done-named : (ns : List ℕ) (c : Command) → commandNamed ns c ≡ true → booleanNamed ns (done c) ≡ true
+unfolding commandNamed booleanNamed done
+done-named ns (guarded n b c) h = two (booleanNamed ns b) (commandNamed ns c) h .0
+done-named ns (choice n c d) h = let parts = two (commandNamed ns c) (commandNamed ns d) h in both (done-named ns c (parts .0)) (done-named ns d (parts .1))
+done-named ns (skip n) h = refl
+done-named ns (assign n x a) h = refl
+done-named ns (store n x i a) h = refl
+done-named ns (sequence n c d) h = refl
+done-named ns (conditional n c) h = refl
+done-named ns (iteration n c) h = refl
+
+-- its names are there and of the right sort, and its references point as they must
 module _ (s : List ℕ) (fit : validity s ≡ Fit) where
-  pub made-sorted : {g : Bool} {n : ℕ} {c : Command} → Made s g n c → commandSorted (sizes s) c ≡ true
-  unfolding commandSorted
-  made-sorted (makeSkip e) = refl
-  made-sorted (makeAssign e x a) = both x a
-  made-sorted (makeStore e x i a) = both x (both i a)
-  made-sorted (makeSequence e l m c d) =
+  pub made-named : {g : Bool} {n : ℕ} {c : Command} → Made s g n c → commandNamed (sizes s) c ≡ true
+  unfolding commandNamed
+  made-named (makeSkip e) = refl
+  made-named (makeAssign e x a) = both x (a .named)
+  made-named (makeStore e x i a) = both x (both (i .named) (a .named))
+  made-named (makeSequence e l m c d) = both (made-named c) (made-named d)
+  made-named (makeConditional e l c) = made-named c
+  made-named (makeIteration e l c) = made-named c
+  made-named (makeGuarded e b l c) = both (boolean-sorted s fit _ b .named) (made-named c)
+  made-named (makeChoice e l m c d) = both (made-named c) (made-named d)
+
+  pub made-points : {g : Bool} {n : ℕ} {c : Command} → Made s g n c → commandPoints c ≡ true
+  unfolding commandPoints
+  made-points (makeSkip e) = refl
+  made-points (makeAssign e x a) = a .points
+  made-points (makeStore e x i a) = both (i .points) (a .points)
+  made-points (makeSequence e l m c d) =
       both
-      (both (both (lower c l) (ap not (made-guarded c))) (made-sorted c))
-      (both (both (lower d m) (ap not (made-guarded d))) (made-sorted d))
-  made-sorted (makeConditional e l c) = both (both (lower c l) (made-guarded c)) (made-sorted c)
-  made-sorted (makeIteration e l c) = both (both (lower c l) (made-guarded c)) (made-sorted c)
-  made-sorted (makeGuarded e b l c) =
-      both (boolean-true s fit _ b) (both (both (lower c l) (ap not (made-guarded c))) (made-sorted c))
-  made-sorted (makeChoice e l m c d) =
-      both (both (both (lower c l) (made-guarded c)) (made-sorted c)) (both (both (lower d m) (made-guarded d)) (made-sorted d))
-
-  pub arith-sorted : (n : ℕ) → n < entryCount s Arithmetic → T (arithSorted (sizes s) (arithAt s n))
-  arith-sorted n h = passed (arith-true s fit n h)
-
-  pub boolean-sorted : (n : ℕ) → n < entryCount s Booleans → T (booleanSorted (sizes s) (booleanAt s n))
-  boolean-sorted n h = passed (boolean-true s fit n h)
-
-  pub command-sorted : (n : ℕ) → n < entryCount s Commands → T (commandSorted (sizes s) (commandAt s n))
-  command-sorted n h = passed (made-sorted (made s fit n h))
+      (both (both (lower c l) (ap not (made-guarded c))) (made-points c))
+      (both (both (lower d m) (ap not (made-guarded d))) (made-points d))
+  made-points (makeConditional e l c) = both (both (lower c l) (made-guarded c)) (made-points c)
+  made-points (makeIteration e l c) = both (both (lower c l) (made-guarded c)) (made-points c)
+  made-points (makeGuarded e b l c) =
+      both (boolean-sorted s fit _ b .points) (both (both (lower c l) (ap not (made-guarded c))) (made-points c))
+  made-points (makeChoice e l m c d) =
+      both (both (both (lower c l) (made-guarded c)) (made-points c)) (both (both (lower d m) (made-guarded d)) (made-points d))
 
   pub command-guarded : (n : ℕ) → n < entryCount s Commands → isGuardedTree (commandAt s n) ≡ isGuarded (entry s Commands n .kind)
   command-guarded n h = made-guarded (made s fit n h)
@@ -86,9 +101,6 @@ module _ (s : List ℕ) (fit : validity s ≡ Fit) where
   pub script-made : Made s false (lastCommand s) (script s)
   unfolding script
   script-made = rw (not-guarded _ (last-fit s fit)) at (made s fit _ script-exists)
-
-  pub script-sorted : T (commandSorted (sizes s) (script s))
-  script-sorted = passed (made-sorted script-made)
 
   -- "Is the last one a command?"
   pub script-command : isGuardedTree (script s) ≡ false

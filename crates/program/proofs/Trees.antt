@@ -1,4 +1,4 @@
--- Laws of trees: the trees of the entries below are those at these entries, and a tree has the number of its entry.
+-- Laws of trees: how the tree at an entry is made of those at the entries below, and that it has the number of its entry.
 use mathlib.Core.Path.{_≡_, refl}
 use mathlib.Core.List.{List}
 use Prim.Native.Nat.{ℕ, _≤_, _<_}
@@ -8,6 +8,7 @@ use Rattle.program.specs.File.{entry}
 use Rattle.program.specs.declared.Table.the-variants.{Arithmetic, Boolean as Booleans, Commands}
 use Rattle.program.specs.Syntax.{number, truth, skip, arithEntry, booleanEntry, commandEntry}
 use Rattle.program.specs.Tree.{arithBelow, booleanBelow, commandBelow, arithNode, arithTrees, arithAt, booleanNode, booleanTrees, booleanAt, commandNode, commandTrees, commandAt}
+use Rattle.program.proofs.Induction.{from-seven, from-eight}
 use Rattle.program.proofs.Lists.{grown-at, grown-past, getD-same}
 
 module _ (s : List ℕ) where
@@ -36,6 +37,38 @@ module _ (s : List ℕ) where
   pub command-past : (n r : ℕ) → n ≤ r → commandBelow (commandTrees s n) r ≡ skip r
   unfolding commandBelow commandTrees commandAt
   command-past n r h = grown-past (commandTrees s) (commandAt s) refl (λ k. refl) n r _ h
+
+  -- the tree at entry n is its node over the trees of the entries below
+  pub arith-at : (n : ℕ) → arithAt s n ≡ arithNode (arithTrees s n) n (entry s Arithmetic n)
+  unfolding arithAt
+  arith-at n = refl
+
+  pub boolean-at : (n : ℕ) → booleanAt s n ≡ booleanNode s (booleanTrees s n) n (entry s Booleans n)
+  unfolding booleanAt
+  boolean-at n = refl
+
+  pub command-at : (n : ℕ) → commandAt s n ≡ commandNode s (commandTrees s n) n (entry s Commands n)
+  unfolding commandAt
+  command-at n = refl
+
+  -- an unknown kind makes a leaf
+  pub arith-unknown : (n : ℕ) → 8 ≤ entry s Arithmetic n .kind → arithAt s n ≡ number n (pos 0)
+  unfolding arithAt arithNode
+  arith-unknown n h =
+      let e = entry s Arithmetic n in
+      from-eight (λ (k : ℕ). arithNode (arithTrees s n) n (record { kind = k; p = e .p; q = e .q; r = e .r }) ≡ number n (pos 0)) (λ k. refl) (e .kind) h
+
+  pub boolean-unknown : (n : ℕ) → 7 ≤ entry s Booleans n .kind → booleanAt s n ≡ truth n
+  unfolding booleanAt booleanNode
+  boolean-unknown n h =
+      let e = entry s Booleans n in
+      from-seven (λ (k : ℕ). booleanNode s (booleanTrees s n) n (record { kind = k; p = e .p; q = e .q; r = e .r }) ≡ truth n) (λ k. refl) (e .kind) h
+
+  pub command-unknown : (n : ℕ) → 8 ≤ entry s Commands n .kind → commandAt s n ≡ skip n
+  unfolding commandAt commandNode
+  command-unknown n h =
+      let e = entry s Commands n in
+      from-eight (λ (k : ℕ). commandNode s (commandTrees s n) n (record { kind = k; p = e .p; q = e .q; r = e .r }) ≡ skip n) (λ k. refl) (e .kind) h
 
   -- the tree at entry n has the number n
   pub arith-entry : (n : ℕ) → arithEntry (arithAt s n) ≡ n

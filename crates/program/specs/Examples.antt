@@ -2,7 +2,6 @@
 use Prim.Native.Nat.{ℕ}
 use mathlib.Core.List.{List, [], _∷_, _++_, flatMap}
 use lib.ListN.{length, replicate}
-use lib.IntN.{ℤ, pos}
 use Rattle.signs.specs.Case.{Case, _gives_, row}
 use Rattle.program.specs.Asking.{validityNumbers}
 use Rattle.program.specs.Drawing.{drawn, drawnBuffer, drawnNumbers}

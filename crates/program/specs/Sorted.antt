@@ -1,38 +1,67 @@
--- Well-sorted trees, over names of the sizes ns: what questions 8 and 9 see to.
+-- What questions 8 and 9 say of trees: names that are there and of the right sort, and references that point as they must. The condition of an exit has the first and not the second: its entries are those of commands.
 use Prim.Native.Nat.{ℕ}
 use mathlib.Core.Bool.{Bool, true, false, not, _&&_}
 use mathlib.Core.List.{List}
 use lib.Dec.{eqb, ltb}
 use lib.ListN.{length, getD}
-use Rattle.program.specs.Graph.{Action, perform, test, leave}
+use Rattle.program.specs.Graph.{Action, perform, test, leave, done}
 use Rattle.program.specs.Syntax.{Arith, number, variable, element, operator, arithEntry, Boolean, truth, comparison, conjunction, shortCircuit, negation, booleanEntry, Command, skip, assign, store, sequence, conditional, iteration, guarded, choice, commandEntry}
 
--- a name that is there, of a variable and of an array
+-- "0 is a variable, 1 to 64 an array of that size": a name that is there, of a variable and of an array, where the names have the sizes ns
 unfoldable pub isVariable : List ℕ → ℕ → Bool
 isVariable ns x = ltb x (length ns) && eqb (getD ns x 0) 0
 
 unfoldable pub isArray : List ℕ → ℕ → Bool
 isArray ns x = ltb x (length ns) && ltb 0 (getD ns x 0)
 
--- "is a named name there and of the right sort?", and every reference lower, throughout an arithmetic expression
-unfoldable pub arithSorted : List ℕ → Arith → Bool
-arithSorted ns (number n z) = true
-arithSorted ns (variable n x) = isVariable ns x
-arithSorted ns (element n x i) = isArray ns x && ltb (arithEntry i) n && arithSorted ns i
-arithSorted ns (operator n o a b) =
-    (ltb (arithEntry a) n && arithSorted ns a) && (ltb (arithEntry b) n && arithSorted ns b)
+-- "is a named name there and of the right sort?": every name of an arithmetic expression
+unfoldable pub arithNamed : List ℕ → Arith → Bool
+arithNamed ns (number n z) = true
+arithNamed ns (variable n x) = isVariable ns x
+arithNamed ns (element n x i) = isArray ns x && arithNamed ns i
+arithNamed ns (operator n o a b) = arithNamed ns a && arithNamed ns b
 
--- the same of a boolean one
-unfoldable pub booleanSorted : List ℕ → Boolean → Bool
-booleanSorted ns (truth n) = true
-booleanSorted ns (comparison n c a b) = arithSorted ns a && arithSorted ns b
-booleanSorted ns (conjunction n a b) =
-    (ltb (booleanEntry a) n && booleanSorted ns a) && (ltb (booleanEntry b) n && booleanSorted ns b)
-booleanSorted ns (shortCircuit n a b) =
-    (ltb (booleanEntry a) n && booleanSorted ns a) && (ltb (booleanEntry b) n && booleanSorted ns b)
-booleanSorted ns (negation n a) = ltb (booleanEntry a) n && booleanSorted ns a
+-- of a boolean one
+unfoldable pub booleanNamed : List ℕ → Boolean → Bool
+booleanNamed ns (truth n) = true
+booleanNamed ns (comparison n c a b) = arithNamed ns a && arithNamed ns b
+booleanNamed ns (conjunction n a b) = booleanNamed ns a && booleanNamed ns b
+booleanNamed ns (shortCircuit n a b) = booleanNamed ns a && booleanNamed ns b
+booleanNamed ns (negation n a) = booleanNamed ns a
 
--- whether a tree is a guarded command, b → C or GC [] GC, and not a command
+-- of a command or guarded command
+unfoldable pub commandNamed : List ℕ → Command → Bool
+commandNamed ns (skip n) = true
+commandNamed ns (assign n x a) = isVariable ns x && arithNamed ns a
+commandNamed ns (store n x i a) = isArray ns x && (arithNamed ns i && arithNamed ns a)
+commandNamed ns (sequence n c d) = commandNamed ns c && commandNamed ns d
+commandNamed ns (conditional n c) = commandNamed ns c
+commandNamed ns (iteration n c) = commandNamed ns c
+commandNamed ns (guarded n b c) = booleanNamed ns b && commandNamed ns c
+commandNamed ns (choice n c d) = commandNamed ns c && commandNamed ns d
+
+-- and of an action: an exit's names are those of its condition
+unfoldable pub actionNamed : List ℕ → Action → Bool
+actionNamed ns (perform c) = commandNamed ns c
+actionNamed ns (test b) = booleanNamed ns b
+actionNamed ns (leave c) = booleanNamed ns (done c)
+
+-- "A reference inside one table goes to a lower entry": every reference of an arithmetic expression
+unfoldable pub arithPoints : Arith → Bool
+arithPoints (number n z) = true
+arithPoints (variable n x) = true
+arithPoints (element n x i) = ltb (arithEntry i) n && arithPoints i
+arithPoints (operator n o a b) = (ltb (arithEntry a) n && arithPoints a) && (ltb (arithEntry b) n && arithPoints b)
+
+-- of a boolean one
+unfoldable pub booleanPoints : Boolean → Bool
+booleanPoints (truth n) = true
+booleanPoints (comparison n c a b) = arithPoints a && arithPoints b
+booleanPoints (conjunction n a b) = (ltb (booleanEntry a) n && booleanPoints a) && (ltb (booleanEntry b) n && booleanPoints b)
+booleanPoints (shortCircuit n a b) = (ltb (booleanEntry a) n && booleanPoints a) && (ltb (booleanEntry b) n && booleanPoints b)
+booleanPoints (negation n a) = ltb (booleanEntry a) n && booleanPoints a
+
+-- "Kinds 0 to 5 of tag 4 are commands, 6 and 7 guarded commands": whether a tree is a guarded command, b → C or GC [] GC
 unfoldable pub isGuardedTree : Command → Bool
 isGuardedTree (skip n) = false
 isGuardedTree (assign n x a) = false
@@ -43,26 +72,26 @@ isGuardedTree (iteration n c) = false
 isGuardedTree (guarded n b c) = true
 isGuardedTree (choice n c d) = true
 
--- a part of a command at entry n: lower, and a command or a guarded command as its rule needs
+-- "each operand names the sort its rule needs": a part of a command at entry n is lower, and a command or a guarded command
 abbrev pub asCommand : ℕ → Command → Bool
 asCommand n c = ltb (commandEntry c) n && not (isGuardedTree c)
 
 abbrev pub asGuarded : ℕ → Command → Bool
 asGuarded n c = ltb (commandEntry c) n && isGuardedTree c
 
--- the same of a command or guarded command: "each operand names the sort its rule needs"
-unfoldable pub commandSorted : List ℕ → Command → Bool
-commandSorted ns (skip n) = true
-commandSorted ns (assign n x a) = isVariable ns x && arithSorted ns a
-commandSorted ns (store n x i a) = isArray ns x && (arithSorted ns i && arithSorted ns a)
-commandSorted ns (sequence n c d) = (asCommand n c && commandSorted ns c) && (asCommand n d && commandSorted ns d)
-commandSorted ns (conditional n c) = asGuarded n c && commandSorted ns c
-commandSorted ns (iteration n c) = asGuarded n c && commandSorted ns c
-commandSorted ns (guarded n b c) = booleanSorted ns b && (asCommand n c && commandSorted ns c)
-commandSorted ns (choice n c d) = (asGuarded n c && commandSorted ns c) && (asGuarded n d && commandSorted ns d)
+-- every reference of a command or guarded command, its expressions' too
+unfoldable pub commandPoints : Command → Bool
+commandPoints (skip n) = true
+commandPoints (assign n x a) = arithPoints a
+commandPoints (store n x i a) = arithPoints i && arithPoints a
+commandPoints (sequence n c d) = (asCommand n c && commandPoints c) && (asCommand n d && commandPoints d)
+commandPoints (conditional n c) = asGuarded n c && commandPoints c
+commandPoints (iteration n c) = asGuarded n c && commandPoints c
+commandPoints (guarded n b c) = booleanPoints b && (asCommand n c && commandPoints c)
+commandPoints (choice n c d) = (asGuarded n c && commandPoints c) && (asGuarded n d && commandPoints d)
 
--- the same of an action
-unfoldable pub actionSorted : List ℕ → Action → Bool
-actionSorted ns (perform c) = commandSorted ns c
-actionSorted ns (test b) = booleanSorted ns b
-actionSorted ns (leave c) = isGuardedTree c && commandSorted ns c
+-- and of an action: what a do is left by is a guarded command
+unfoldable pub actionPoints : Action → Bool
+actionPoints (perform c) = commandPoints c
+actionPoints (test b) = booleanPoints b
+actionPoints (leave c) = isGuardedTree c && commandPoints c

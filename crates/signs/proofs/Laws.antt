@@ -10,7 +10,7 @@ use Rattle.signs.specs.Grid.{grid, operate}
 use Rattle.signs.specs.Lists.{anyOf, pairs}
 use Rattle.signs.specs.Number.{apply, compares}
 use Rattle.signs.specs.Sign.{signOf, single, signs, has, setOf, members, unite, unionAll, added, removed}
-use Rattle.signs.specs.Truth.{among, compareSigns, compareSets, negated, conjoined, andThen}
+use Rattle.signs.specs.Truth.{truthsOf, among, compareSigns, compareSets, certain, negated, conjoined, andThen}
 use Rattle.signs.specs.declared.Comparison.{Comparison}
 use Rattle.signs.specs.declared.Operator.{Operator}
 use Rattle.signs.specs.declared.Sign.{Sign}
@@ -30,6 +30,9 @@ use Rattle.signs.proofs.Operate
 
 pub has-remainder : (n : ℕ) (s : Sign) → has (n % 8) s ≡ has n s
 has-remainder = Membership.has-remainder
+
+pub has-empty : (s : Sign) → has 0 s ≡ false
+has-empty = Membership.has-empty
 
 pub has-single : (s : Sign) → T (has (single s) s)
 has-single = Membership.has-single
@@ -58,11 +61,17 @@ has-added = Membership.has-added
 pub has-removed : (s : Sign) (set : ℕ) (t : Sign) → has (removed s set) t ≡ (has set t && not (has (single s) t))
 has-removed = Membership.has-removed
 
+pub single-below : (s : Sign) → single s < 8
+single-below = Membership.single-below
+
 pub setOf-below : (f : Sign → Bool) → setOf f < 8
 setOf-below = Membership.setOf-below
 
 pub unite-below : (a b : ℕ) → unite a b < 8
 unite-below = Membership.unite-below
+
+pub unionAll-below : (l : List ℕ) → unionAll l < 8
+unionAll-below = Membership.unionAll-below
 
 pub added-below : (s : Sign) (set : ℕ) → added s set < 8
 unfolding added
@@ -137,6 +146,10 @@ pub compareSets-sound : (c : Comparison) (x y : ℤ) (a b : ℕ) → T (has a (s
 compareSets-sound c x y a b ha hb = compareSets-entry c a b (signOf x) (signOf y) ha hb (compares c x y) (compared c x y)
 
 -- ---- Truth answers
+
+pub among-certain : T (among true certain)
+unfolding among certain truthsOf anyOf
+among-certain = tt
 
 pub among-negated : (v : Bool) (t : Truths) → among v (negated t) ≡ among (not v) t
 unfolding among negated

@@ -51,6 +51,12 @@ pub setOf-below : (f : Sign → Bool) → setOf f < 8
 unfolding setOf
 setOf-below f = below-of (f Minus) (f Zero) (f Plus)
 
+pub single-below : (s : Sign) → single s < 8
+unfolding single
+single-below Minus = omega arith
+single-below Zero = omega arith
+single-below Plus = omega arith
+
 pub setOf-has : (set : ℕ) → set < 8 → setOf (has set) ≡ set
 unfolding setOf has single
 setOf-has set h = eqb→eq (setOf (has set)) set (at-below 8 (λ n. eqb (setOf (has n)) n) tt set h)

@@ -38,8 +38,8 @@ unfoldable pub grid : Operator → Sign → Sign → ℕ
 grid o l r = getD (getD (getD grids (gridNumber o) []) (signNumber l) []) (signNumber r) 0
 
 -- the union over the pairs whose left side has a given sign
-unfoldable pub row : Operator → Sign → ℕ → ℕ
-row o l b = unionAll (map (grid o l) (members b))
+unfoldable pub gridRow : Operator → Sign → ℕ → ℕ
+gridRow o l b = unionAll (map (grid o l) (members b))
 
 -- "on sets the union over all pairs"
 unfoldable pub operate : Operator → ℕ → ℕ → ℕ

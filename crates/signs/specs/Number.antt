@@ -1,6 +1,6 @@
 -- Numbers: the value of an operator on two numbers, the reason where it has none, and comparisons (document 01, "The step").
 use Prim.Native.Nat.{ℕ, suc, _%_, _^_}
-use mathlib.Core.Bool.{Bool, true, false, cond, _&&_}
+use mathlib.Core.Bool.{Bool, false, cond, _&&_}
 use mathlib.Core.List.{List, [], _∷_}
 use lib.Dec.{eqb}
 use lib.IntN.{ℤ, pos, negsuc, negℤ, _+ℤ_, _-ℤ_, _*ℤ_}

@@ -71,7 +71,7 @@ fn entry(operator: Operator, l: Sign, r: Sign, b: u8) -> u8
 
 // The union over the pairs with a given left sign, where the left set has it. Entries are below 8, so `|` is their union.
 fn row(operator: Operator, l: Sign, a: u8, b: u8) -> u8
-    ensures { λ s. ⌜ s ≡ cond (has a l) (spec.row operator l b) 0 ⌝ }
+    ensures { λ s. ⌜ s ≡ cond (has a l) (spec.gridRow operator l b) 0 ⌝ }
 {
     if sets::has(a, l) {
         let minus = entry(operator, l, Sign::Minus, b);
