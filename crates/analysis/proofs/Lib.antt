@@ -1,2 +1,10 @@
 pub mod Open
+pub mod Tabulated
+pub mod Values
+pub mod Negative
+pub mod Meanings
+pub mod Stores
+pub mod Effects
+pub mod Accepted
+pub mod ThirdTerm
 pub mod Examples
