@@ -5,7 +5,6 @@ pub mod Sums
 pub mod FirstSuch
 pub mod Asking
 pub mod Reading
-pub mod Heads
 pub mod Cells
 pub mod Shapes
 pub mod Counting

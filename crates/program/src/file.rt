@@ -2,11 +2,14 @@
 
 ghost use mathlib.Core.Path.{_≡_};
 ghost use Prim.Native.Nat.{_<_, _≤_, _+_, _*_, min};
-ghost use Rattle.program.specs.File.{byteAt, wordAt, entryAt, nextField, fieldStart, spanAt, layoutOf, Near, spanOf, nameCount, sizeAt, sizes, cellsOf, cellCount, firstCell, entryCount, entryOffset, entry};
+ghost use Rattle.program.specs.File.{byteAt, wordAt, entryAt, namesField, tableField, headSpan, layoutOf, spanOf, nameCount, sizeAt, sizes, cellsOf, cellCount, firstCell, entryCount, entry};
 use crate::Entry;
+use crate::Field;
+use crate::Head;
 use crate::Layout;
 use crate::Span;
 use crate::Table;
+use crate::reader;
 
 fn wide(b: u8) -> u16
     ensures { λ r. ⌜ r ≡ b ⌝ }
@@ -59,50 +62,70 @@ pub(crate) fn long(x: u16) -> usize
     x as usize
 }
 
-// Where the field after the one at `at` starts.
-fn next_field(s: &[u8], at: usize) -> usize
-    requires { ⌜ at < 100000000 ⌝ }
-    ensures { λ r. ⌜ (r ≡ nextField (now (s .entry)) at) × (r ≤ at + 65538) ⌝ }
+// What is allowed of the names.
+pub fn names_field() -> Field
+    ensures { λ r. ⌜ r ≡ namesField ⌝ }
 {
-    at + 3 + long(word_at(s, at + 1))
-}
-
-// Where the field with `k` fields before it starts.
-pub fn field_start(s: &[u8], k: u8) -> usize
-    ensures { λ r. ⌜ (r ≡ fieldStart (now (s .entry)) k) × (r ≤ 65538 * k) ⌝ }
-{
-    let mut at: usize = 0;
-    let mut i: u8 = 0;
-    while i < k {
-        at = next_field(s, at);
-        i += 1;
+    Field {
+        tag: 1,
+        width: 2,
+        least: 1,
+        most: 32,
     }
-    at
 }
 
-// The content of the field at `at`, in entries of `width` bytes.
-fn span_at(s: &[u8], at: usize, width: u16) -> Span
-    requires { ⌜ (at < 1000000) × (0 < width) ⌝ }
-    ensures { λ r. ⌜ r ≡ spanAt (now (s .entry)) at width ⌝ }
+// What is allowed of a table.
+pub fn table_field(table: Table) -> Field
+    ensures { λ r. ⌜ r ≡ tableField table ⌝ }
 {
-    Span {
-        start: at + 3,
-        count: word_at(s, at + 1) / width,
+    match table {
+        Table::Arithmetic => Field {
+            tag: 2,
+            width: 7,
+            least: 0,
+            most: 512,
+        },
+        Table::Boolean => Field {
+            tag: 3,
+            width: 7,
+            least: 0,
+            most: 256,
+        },
+        Table::Commands => Field {
+            tag: 4,
+            width: 7,
+            least: 1,
+            most: 256,
+        },
+    }
+}
+
+// The content of the field with this head.
+fn head_span(head: Head, field: Field) -> Span
+    requires { ⌜ 0 < field .width ⌝ }
+    ensures { λ r. ⌜ r ≡ headSpan head field ⌝ }
+{
+    match head {
+        Head::Short(at) => Span {
+            start: at,
+            count: 0,
+        },
+        Head::Found(found) => Span {
+            start: found.content,
+            count: found.length / field.width,
+        },
     }
 }
 
 // Where a file has its names and its tables.
 pub fn layout(s: &[u8]) -> Layout
-    ensures { λ r. ⌜ (r ≡ layoutOf (now (s .entry))) × Near r ⌝ }
+    ensures { λ r. ⌜ r ≡ layoutOf (now (s .entry)) ⌝ }
 {
-    let arithmetic = next_field(s, 0);
-    let boolean = next_field(s, arithmetic);
-    let commands = next_field(s, boolean);
     Layout {
-        names: span_at(s, 0, 2),
-        arithmetic: span_at(s, arithmetic, 7),
-        boolean: span_at(s, boolean, 7),
-        commands: span_at(s, commands, 7),
+        names: head_span(reader::field_head(s, 0), names_field()),
+        arithmetic: head_span(reader::field_head(s, 1), table_field(Table::Arithmetic)),
+        boolean: head_span(reader::field_head(s, 2), table_field(Table::Boolean)),
+        commands: head_span(reader::field_head(s, 3), table_field(Table::Commands)),
     }
 }
 

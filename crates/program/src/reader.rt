@@ -1,8 +1,7 @@
 // Reading a file field by field. A `FieldReader` holds the file's bytes and the place where it stands.
 
 ghost use mathlib.Core.Path.{_≡_};
-ghost use Rattle.program.specs.File.{fieldStart};
-ghost use Rattle.program.specs.Reader.{headAt, nextPlace, placeAfter};
+ghost use Rattle.program.specs.File.{headAt, afterHead, placeAfter, fieldHead};
 use crate::FieldHead;
 use crate::FieldReader;
 use crate::Head;
@@ -13,13 +12,14 @@ pub fn head_at(s: &[u8], at: usize) -> Head
     ensures { λ r. ⌜ r ≡ headAt (now (s .entry)) at ⌝ }
 {
     if s.len() <= at {
-        return Head::Short;
+        return Head::Short(at);
     }
     if s.len() - at < 3 {
-        return Head::Short;
+        return Head::Short(at);
     }
     let length = file::word_at(s, at + 1);
     Head::Found(FieldHead {
+        start: at,
         tag: file::byte_at(s, at),
         length,
         content: at + 3,
@@ -27,12 +27,12 @@ pub fn head_at(s: &[u8], at: usize) -> Head
     })
 }
 
-// Where the field after the one at `at` starts; `at` itself where no head stands there.
-fn next_place(s: &[u8], at: usize) -> usize
-    ensures { λ r. ⌜ r ≡ nextPlace (now (s .entry)) at ⌝ }
+// Where the reader goes from a head: to the next field, or nowhere where no head stands.
+fn after(head: Head) -> usize
+    ensures { λ r. ⌜ r ≡ afterHead head ⌝ }
 {
-    match head_at(s, at) {
-        Head::Short => at,
+    match head {
+        Head::Short(at) => at,
         Head::Found(field) => field.next,
     }
 }
@@ -44,7 +44,7 @@ pub fn place_after(s: &[u8], at: usize, k: u8) -> usize
     let mut place: usize = at;
     let mut i: u8 = 0;
     while i < k {
-        place = next_place(s, place);
+        place = after(head_at(s, place));
         i += 1;
     }
     place
@@ -76,7 +76,7 @@ pub fn advance<'a>(r: FieldReader<'a>, k: u8) -> FieldReader<'a>
 
 // The head of the field with `k` fields before it.
 pub fn field_head(s: &[u8], k: u8) -> Head
-    ensures { λ r. ⌜ r ≡ headAt (now (s .entry)) (fieldStart (now (s .entry)) k) ⌝ }
+    ensures { λ r. ⌜ r ≡ fieldHead (now (s .entry)) k ⌝ }
 {
     head(advance(new(s), k))
 }
