@@ -39,6 +39,11 @@ module _ {A : Type 0} (n : ℕ) (f : ℕ → A) where
   unfolding tabulate
   getD-tabulate i d h = grown-at (λ k. tabulate k f) f refl (λ k. refl) n i d h
 
+pub tabulate-same : {A : Type 0} (n : ℕ) (f g : ℕ → A) → ((i : ℕ) → i < n → f i ≡ g i) → tabulate n f ≡ tabulate n g
+unfolding tabulate
+tabulate-same zero f g h = refl
+tabulate-same (suc n) f g h = rw (tabulate-same n f g (λ i l. h i (omega arith)), h n (omega arith))
+
 -- one value all along and past the end
 pub getD-same : {A : Type 0} (m : ℕ) (a : A) (k : ℕ) → getD (replicate m a) k a ≡ a
 getD-same zero a k = refl
