@@ -102,6 +102,10 @@ module _ (s : List ℕ) (fit : validity s ≡ Fit) where
   unfolding validity
   counts = counts-allowed s (turn-fit _ 0 fit)
 
+  pub fit-laid-out : (l : Layout) → l ≡ layoutOf s → LaidOut s l
+  unfolding validity
+  fit-laid-out = laid-out s (turn-fit _ 0 fit)
+
   pub one-last : entryCount s Commands ≡ suc (lastCommand s)
   unfolding lastCommand
   one-last = omega (arith, counts .some-command)

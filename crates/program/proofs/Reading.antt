@@ -5,8 +5,9 @@ use Prim.Native.Nat.{ℕ, _+_, _*_, _≤_, _<_}
 use native.Mathlib.Omega.{arith}
 use borrow.Author.Tests.{le-leb, lt-leb}
 use lib.ListN.{length, List·getD-eq-default}
-use Rattle.program.specs.File.{byteAt, wordAt, namesField, tableTag, tableField, headFound, headAt, entryAt, layoutOf, spanOf, nameCount, entryCount, tableStart, entryOffset}
+use Rattle.program.specs.File.{byteAt, wordAt, namesField, tableTag, tableField, headFound, headAt, entryAt, layoutOf, spanOf, nameCount, entryCount, tableStart, entryOffset, entry}
 use Rattle.program.specs.Questions.{headValidity}
+use Rattle.program.specs.declared.Entry.{Entry}
 use Rattle.program.specs.declared.Field.{Field}
 use Rattle.program.specs.declared.Head.{Head}
 use Rattle.program.specs.declared.Head.the-variants.{Short, Found}
@@ -51,10 +52,14 @@ module _ (s : List ℕ) (l : Layout) (e : l ≡ layoutOf s) where
   unfolding tableStart
   laid-start t = ap (λ (x : Layout). spanOf x t .start) e
 
--- an entry that is read where its table starts
+-- where an entry stands, and what is read there, by its table's start
 pub entry-in : (s : List ℕ) (t : Table) (start m n : ℕ) → start ≡ tableStart s t → m ≡ n → start + 7 * m ≡ entryOffset s t n
 unfolding entryOffset
 entry-in s t start m n e f = λ i. e i + 7 * f i
+
+pub entry-read : (s : List ℕ) (t : Table) (start m n : ℕ) {e : Entry} → e ≡ entryAt s (start + 7 * m) → start ≡ tableStart s t → m ≡ n → e ≡ entry s t n
+unfolding entry
+entry-read s t start m n r e f = r ∙ ap (entryAt s) (entry-in s t start m n e f)
 
 -- an entry of a field is not empty
 pub names-wide : {f : Field} → f ≡ namesField → 0 < f .width

@@ -5,14 +5,13 @@ ghost use mathlib.Core.List.{_∷_, []};
 ghost use Prim.Native.Nat.{ℕ, _<_, _≤_, _+_, _*_, _/_, _%_};
 ghost use lib.ListN.{length, take};
 ghost use Rattle.program.specs.Drawing.{drawnBy, drawn, over, drawnBufferBy, drawnBuffer, edgeRead};
-ghost use Rattle.program.specs.DrawingParts.{overAt, edgeRow, strip, edgeStrip, constructOf, partAt, Room, Drew, DrewAll};
+ghost use Rattle.program.specs.DrawingParts.{overAt, edgeRow, strip, edgeStrip, constructOf, partAt, Room, CommandsAt, Ready, Drew, DrewAll};
 ghost use Rattle.program.specs.Graph.{wordBytes};
 ghost use Rattle.program.specs.Questions.{validity};
 ghost use Rattle.program.specs.declared.Validity.the-variants.{Fit, Refused};
 use crate::Drawn;
 use crate::EdgeBytes;
 use crate::Refusal;
-use crate::Table;
 use crate::Validity;
 use crate::file;
 use crate::validation;
@@ -94,14 +93,15 @@ fn draw_edge(
     Pen { fresh, at: at + 7 }
 }
 
-// How entry `n` is drawn as a part of entry `bound`: a reference that is not lower is a leaf.
-fn construct_at(s: &[u8], bound: u16, n: u16) -> Construct
+// How entry `n` of the commands, which start at `start`, is drawn as a part of entry `bound`: a reference that is not lower is a leaf.
+fn construct_at(s: &[u8], start: usize, bound: u16, n: u16) -> Construct
+    requires { ⌜ CommandsAt (now s) start ⌝ }
     ensures { λ r. ⌜ r ≡ constructOf (now (s .entry)) bound n ⌝ }
 {
     if bound <= n {
         return Construct::Leaf;
     }
-    let e = file::entry(s, Table::Commands, n);
+    let e = file::entry_at(s, start + 7 * file::long(n));
     let kind = e.kind;
     match kind {
         3 => Construct::Sequence(e.p, e.q),
@@ -116,6 +116,7 @@ fn construct_at(s: &[u8], bound: u16, n: u16) -> Construct
 // The edges of entry `n`, a part of entry `bound`, from node `a` to node `b`.
 fn draw_part(
     s: &[u8],
+    start: usize,
     bound: u16,
     n: u16,
     a: u16,
@@ -124,28 +125,28 @@ fn draw_part(
     at: usize,
     buffer: &mut [u8],
 ) -> Pen
-    requires { ⌜ Room (strip (partAt (now s) bound n) a b fresh) at (length (now buffer)) ⌝ }
+    requires { ⌜ Ready (now s) start (strip (partAt (now s) bound n) a b fresh) at (length (now buffer)) ⌝ }
     ensures { λ r. ⌜ Drew (strip (partAt (now (s .entry)) bound n) a b fresh) at (now (buffer .entry)) (now (buffer .exit)) r ⌝ }
 {
-    let c = construct_at(s, bound, n);
+    let c = construct_at(s, start, bound, n);
     match c {
         Construct::Leaf => draw_edge(buffer, at, a, b, 1, n, fresh),
         Construct::Sequence(p, q) => {
-            let first = draw_part(s, n, p, a, fresh, fresh + 1, at, buffer);
-            draw_part(s, n, q, fresh, b, first.fresh, first.at, buffer)
+            let first = draw_part(s, start, n, p, a, fresh, fresh + 1, at, buffer);
+            draw_part(s, start, n, q, fresh, b, first.fresh, first.at, buffer)
         }
-        Construct::Conditional(p) => draw_part(s, n, p, a, b, fresh, at, buffer),
+        Construct::Conditional(p) => draw_part(s, start, n, p, a, b, fresh, at, buffer),
         Construct::Iteration(p) => {
-            let body = draw_part(s, n, p, a, a, fresh, at, buffer);
+            let body = draw_part(s, start, n, p, a, a, fresh, at, buffer);
             draw_edge(buffer, body.at, a, b, 3, p, body.fresh)
         }
         Construct::Guarded(g, p) => {
             let guard = draw_edge(buffer, at, a, fresh, 2, g, fresh + 1);
-            draw_part(s, n, p, fresh, b, guard.fresh, guard.at, buffer)
+            draw_part(s, start, n, p, fresh, b, guard.fresh, guard.at, buffer)
         }
         Construct::Choice(p, q) => {
-            let first = draw_part(s, n, p, a, b, fresh, at, buffer);
-            draw_part(s, n, q, a, b, first.fresh, first.at, buffer)
+            let first = draw_part(s, start, n, p, a, b, fresh, at, buffer);
+            draw_part(s, start, n, q, a, b, first.fresh, first.at, buffer)
         }
     }
 }
@@ -163,8 +164,11 @@ fn draw_program(s: &[u8], edges: &mut [u8; 1785]) -> Counts
     requires { ⌜ validity (now s) ≡ Fit ⌝ }
     ensures { λ r. ⌜ DrewAll (now (s .entry)) (now (edges .entry)) (now (edges .exit)) r ⌝ }
 {
-    let bound = file::entry_count(s, Table::Commands);
-    let pen = draw_part(s, bound, bound - 1, 0, 1, 2, 0, edges);
+    let l = file::layout(s);
+    let commands = l.commands;
+    let start = commands.start;
+    let bound = commands.count;
+    let pen = draw_part(s, start, bound, bound - 1, 0, 1, 2, 0, edges);
     Counts {
         nodes: pen.fresh,
         edges: edges_in(pen.at),
