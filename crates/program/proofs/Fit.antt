@@ -1,36 +1,27 @@
 -- What the questions say of a program that passes them all.
-use mathlib.Core.Path.{_≡_, refl, ap}
-use mathlib.Core.Bool.{Bool, true, false, cond, false≢true}
-use mathlib.Core.List.{List, [], _∷_}
-use Prim.Native.Nat.{ℕ, zero, suc, _+_, _-_, _/_, _%_, _≤_, _<_}
+use mathlib.Core.Path.{_≡_, ap}
+use mathlib.Core.Bool.{true}
+use mathlib.Core.List.{List}
+use Prim.Native.Nat.{ℕ, suc, _+_, _-_, _/_, _%_, _≤_, _<_}
 use native.Mathlib.Decide.{decLt}
 use native.Mathlib.Omega.{arith}
 use lib.Dec.{leb, eqb}
 use lib.ListN.{length, getD, take, List·getD-eq-default}
 use lib.Seq.{take-all}
 use borrow.Author.Tests.{leb-true, eqb-true}
-use Rattle.program.specs.Asking.{inTurn}
 use Rattle.program.specs.File.{wordAt, namesField, tableField, programFields, headFound, headAt, fieldStart, fieldHead, headSpan, layoutOf, spanOf, LaidOut, nameCount, sizeAt, sizes, entryCount, entry, cellCount}
 use Rattle.program.specs.Kind.{isCommand}
 use Rattle.program.specs.Questions.{wholeEntries, headValidity, headsValidity, nameValidity, entryValidity, tableValidity, uses, useValidity, toBeUsed, usedValidity, lastCommand, lastValidity, usesValidity, contentValidity, validity}
 use Rattle.program.specs.declared.Field.{Field}
-use Rattle.program.specs.declared.Head.the-variants.{Short, Found}
 use Rattle.program.specs.declared.Layout.{Layout}
 use Rattle.program.specs.declared.Span.{Span}
 use Rattle.program.specs.declared.Table.{Table}
 use Rattle.program.specs.declared.Table.the-variants.{Arithmetic, Boolean, Commands}
-use Rattle.program.specs.declared.Validity.{Validity}
 use Rattle.program.specs.declared.Validity.the-variants.{Fit}
-use Rattle.program.proofs.Asking.{ask-fit, then-first, then-second, each-fit}
+use Rattle.program.proofs.Asking.{ask-fit, turn-fit, each-fit}
 use Rattle.program.proofs.Cells.{sizes-length, size-at}
+use Rattle.program.proofs.Heads.{whole, field-fit}
 use Rattle.program.proofs.Tests.{two, three}
-
--- questions in turn, all answered yes: yes to each
-pub turn-fit : (xs : List Validity) (k : ℕ) → inTurn xs ≡ Fit → getD xs k Fit ≡ Fit
-unfolding inTurn
-turn-fit [] k e = refl
-turn-fit (x ∷ xs) zero e = then-first x (inTurn xs) e
-turn-fit (x ∷ xs) (suc k) e = turn-fit xs k (then-second x (inTurn xs) e)
 
 -- a field that passes questions 1 to 4: it starts inside the file, and its number of entries is one that is allowed
 record Allowed (end : ℕ) (f : Field) (x : Span) : Type 0 where
@@ -39,15 +30,12 @@ record Allowed (end : ℕ) (f : Field) (x : Span) : Type 0 where
   few : x .count ≤ f .most
 
 head-fit : (s : List ℕ) (at : ℕ) (f : Field) → headValidity (length s) (headAt s at) f ≡ Fit → Allowed (length s) f (headSpan (headAt s at) f)
-unfolding headAt headFound headSpan headValidity wholeEntries
-head-fit s at f e = go (leb (at + 3) (length s)) refl e
-  where
-    go : (b : Bool) → leb (at + 3) (length s) ≡ b → headValidity (length s) (cond b (Found (headFound s at)) (Short at)) f ≡ Fit → Allowed (length s) f (headSpan (cond b (Found (headFound s at)) (Short at)) f)
-    go true t e =
-        let len = wordAt s (at + 1) in
-        let whole = three (eqb (len % f .width) 0) (leb (f .least) (len / f .width)) (leb (len / f .width) (f .most)) (ask-fit _ 3 at (turn-fit _ 1 e)) in
-        record { inside = leb-true _ _ t; enough = leb-true _ _ (whole .1); few = leb-true _ _ (whole .2) }
-    go false t e = absurd (false≢true (ask-fit false 1 at e))
+unfolding headFound headSpan wholeEntries
+head-fit s at f e =
+    let len = wordAt s (at + 1) in
+    let head = whole s at f e in
+    let counts = three (eqb (len % f .width) 0) (leb (f .least) (len / f .width)) (leb (len / f .width) (f .most)) (head .known .entries) in
+    rw (head .found) (record { inside = omega (arith, head .known .inside); enough = leb-true _ _ (counts .1); few = leb-true _ _ (counts .2) })
 
 -- the numbers of entries that the heads of the four fields allow: "1 to 32", "0 to 512", "0 to 256", "1 to 256"
 pub record Counts (s : List ℕ) : Type 0 where
@@ -60,14 +48,14 @@ pub record Counts (s : List ℕ) : Type 0 where
 
 module _ (s : List ℕ) (e : headsValidity s 0 programFields ≡ Fit) where
   names-allowed : Allowed (length s) namesField (layoutOf s .names)
-  unfolding headsValidity programFields layoutOf fieldHead
-  names-allowed = head-fit s (fieldStart s 0) _ (then-first _ _ e)
+  unfolding programFields layoutOf fieldHead
+  names-allowed = head-fit s (fieldStart s 0) _ (field-fit s e 0 (omega arith))
 
   table-allowed : (t : Table) → Allowed (length s) (tableField t) (spanOf (layoutOf s) t)
-  unfolding headsValidity programFields layoutOf fieldHead spanOf
-  table-allowed Arithmetic = head-fit s (fieldStart s 1) _ (then-first _ _ (then-second _ _ e))
-  table-allowed Boolean = head-fit s (fieldStart s 2) _ (then-first _ _ (then-second _ _ (then-second _ _ e)))
-  table-allowed Commands = head-fit s (fieldStart s 3) _ (then-first _ _ (then-second _ _ (then-second _ _ (then-second _ _ e))))
+  unfolding programFields layoutOf fieldHead spanOf
+  table-allowed Arithmetic = head-fit s (fieldStart s 1) _ (field-fit s e 1 (omega arith))
+  table-allowed Boolean = head-fit s (fieldStart s 2) _ (field-fit s e 2 (omega arith))
+  table-allowed Commands = head-fit s (fieldStart s 3) _ (field-fit s e 3 (omega arith))
 
   pub laid-out : (l : Layout) → l ≡ layoutOf s → LaidOut s l
   laid-out l same =

@@ -1,6 +1,5 @@
 -- The two parts of the sheet program's input: the program part is well formed where the input is fit, and the start list is whole records.
 use mathlib.Core.Path.{_≡_, refl, sym, _∙_, ap}
-use mathlib.Core.Bool.{Bool, true, false, cond, false≢true}
 use mathlib.Core.List.{List}
 use Prim.Native.Nat.{ℕ, zero, suc, _+_, _*_, _/_, _%_, _≤_, _<_}
 use native.Mathlib.Nat.{div-add-mod', mul-div-le}
@@ -8,94 +7,28 @@ use native.Mathlib.Omega.{arith}
 use lib.Dec.{eqb, leb}
 use lib.ListN.{length, getD, drop, length-drop}
 use lib.Seq.{length-take-le, getD-take}
-use borrow.Author.Tests.{leb-true, eqb-true, le-leb, eq-eqb}
+use borrow.Author.Tests.{leb-true, eqb-true, eq-eqb}
 use Rattle.program.specs.Asking.{ask, thenAsk, inTurn}
-use Rattle.program.specs.File.{byteAt, wordAt, namesField, tableField, programFields, headFound, headAt, afterHead, placeAfter, fieldStart, fieldHead, headSpan, headContent, layoutOf, spanOf, nameCount, nameOffset, sizeAt, sizes, entryCount, tableStart, entryOffset, entryAt, entry}
+use Rattle.program.specs.File.{byteAt, wordAt, namesField, tableField, programFields, headFound, headAt, placeAfter, fieldStart, fieldHead, headSpan, headContent, layoutOf, spanOf, nameCount, nameOffset, sizeAt, sizes, entryCount, tableStart, entryOffset, entryAt, entry}
 use Rattle.program.specs.Questions.{wholeEntries, headValidity, headsValidity, endValidity, contentValidity, validity, initialField, inputValidity, programPart, initialPart}
 use Rattle.program.specs.declared.Field.{Field}
-use Rattle.program.specs.declared.FieldHead.{FieldHead}
-use Rattle.program.specs.declared.Head.{Head}
-use Rattle.program.specs.declared.Head.the-variants.{Short, Found}
 use Rattle.program.specs.declared.Layout.{Layout}
 use Rattle.program.specs.declared.Span.{Span}
 use Rattle.program.specs.declared.Table.{Table}
 use Rattle.program.specs.declared.Table.the-variants.{Arithmetic, Boolean, Commands}
 use Rattle.program.specs.declared.Validity.the-variants.{Fit}
 use Rattle.program.proofs.Agreeing.{Agree, same-names, same-sizes, same-content}
-use Rattle.program.proofs.Asking.{ask-fit, then-first, then-second}
-use Rattle.program.proofs.Fit.{turn-fit, counts-allowed}
+use Rattle.program.proofs.Asking.{turn-fit}
+use Rattle.program.proofs.Fit.{counts-allowed}
+use Rattle.program.proofs.Heads.{Whole, whole, ends-earlier, field-fit, next-start, ends-before, end-inside, field-span}
 use Rattle.program.proofs.Reading.{head-there}
 use Rattle.program.proofs.Tests.{three}
 
--- what questions 2 to 4 say of a head that is there
-record Asked (end : ℕ) (h : FieldHead) (f : Field) : Type 0 where
-  tagged : eqb (h .tag) (f .tag) ≡ true
-  entries : wholeEntries f (h .length) ≡ true
-  inside : h .next ≤ end
-
-asked : (end : ℕ) (h : FieldHead) (f : Field) → headValidity end (Found h) f ≡ Fit → Asked end h f
-unfolding headValidity
-asked end h f e =
-    record {
-      tagged = ask-fit _ 2 (h .start) (turn-fit _ 0 e);
-      entries = ask-fit _ 3 (h .start) (turn-fit _ 1 e);
-      inside = leb-true _ _ (ask-fit _ 4 (h .start) (turn-fit _ 2 e));
-    }
-
--- they are fit too where the file ends earlier, but not before the field does
-ends-earlier : (end earlier : ℕ) (h : Head) (f : Field) → headValidity end h f ≡ Fit → afterHead h ≤ earlier → headValidity earlier h f ≡ Fit
-unfolding headValidity afterHead inTurn thenAsk ask
-ends-earlier end earlier (Short at) f e l = e
-ends-earlier end earlier (Found h) f e l =
-    let known = asked end h f e in
-    rw (known .tagged, known .entries, le-leb (h .next) earlier l)
-
--- a field that passes questions 1 to 4, at a place
-record Whole (s : List ℕ) (at : ℕ) (f : Field) : Type 0 where
-  found : headAt s at ≡ Found (headFound s at)
-  known : Asked (length s) (headFound s at) f
-
-whole : (s : List ℕ) (at : ℕ) (f : Field) → headValidity (length s) (headAt s at) f ≡ Fit → Whole s at f
-unfolding headAt headValidity
-whole s at f e = go (leb (at + 3) (length s)) refl e
-  where
-    go : (b : Bool) → leb (at + 3) (length s) ≡ b → headValidity (length s) (cond b (Found (headFound s at)) (Short at)) f ≡ Fit → Whole s at f
-    go true t e = record { found = head-there s at (leb-true _ _ t); known = asked (length s) (headFound s at) f e }
-    go false t e = absurd (false≢true (ask-fit false 1 at e))
-
--- the four fields of a program
+-- the program part of a file with four fields that pass questions 1 to 4
 module _ (s : List ℕ) (fit : headsValidity s 0 programFields ≡ Fit) where
-  field-fit : (k : ℕ) → k < 4 → headValidity (length s) (fieldHead s k) (getD programFields k namesField) ≡ Fit
-  unfolding headsValidity programFields
-  field-fit zero h = then-first _ _ fit
-  field-fit (suc zero) h = then-first _ _ (then-second _ _ fit)
-  field-fit (suc (suc zero)) h = then-first _ _ (then-second _ _ (then-second _ _ fit))
-  field-fit (suc (suc (suc zero))) h = then-first _ _ (then-second _ _ (then-second _ _ (then-second _ _ fit)))
-  field-fit (suc (suc (suc (suc k)))) h = absurd (omega arith)
-
-  field-whole : (k : ℕ) → k < 4 → Whole s (fieldStart s k) (getD programFields k namesField)
-  unfolding fieldHead
-  field-whole k h = whole s (fieldStart s k) _ (field-fit k h)
-
-  next-start : (k : ℕ) → k < 4 → fieldStart s (suc k) ≡ fieldStart s k + 3 + wordAt s (fieldStart s k + 1)
-  unfolding placeAfter afterHead headFound
-  next-start k h = rw (field-whole k h .found)
-
-  -- no field ends past the last
-  ends-before : (k : ℕ) → k < 4 → fieldStart s (suc k) ≤ fieldStart s 4
-  ends-before zero h = omega (arith, next-start 1 (omega arith), next-start 2 (omega arith), next-start 3 (omega arith))
-  ends-before (suc zero) h = omega (arith, next-start 2 (omega arith), next-start 3 (omega arith))
-  ends-before (suc (suc zero)) h = omega (arith, next-start 3 (omega arith))
-  ends-before (suc (suc (suc zero))) h = omega arith
-  ends-before (suc (suc (suc (suc k)))) h = absurd (omega arith)
-
-  end-inside : fieldStart s 4 ≤ length s
-  unfolding headFound
-  end-inside = omega (arith, next-start 3 (omega arith), field-whole 3 (omega arith) .known .inside)
-
   part-length : length (programPart s) ≡ fieldStart s 4
   unfolding programPart
-  part-length = length-take-le (fieldStart s 4) s end-inside
+  part-length = length-take-le (fieldStart s 4) s (end-inside s fit)
 
   -- what is read below the end
   same-byte : (i : ℕ) → i < fieldStart s 4 → byteAt (programPart s) i ≡ byteAt s i
@@ -110,35 +43,31 @@ module _ (s : List ℕ) (fit : headsValidity s 0 programFields ≡ Fit) where
   unfolding headFound
   same-head at h =
       head-there (programPart s) at (omega (arith, part-length))
-      ∙ rw (same-byte at (omega arith), same-word (at + 1) (omega arith)) (sym (head-there s at (omega (arith, end-inside))))
+      ∙ rw (same-byte at (omega arith), same-word (at + 1) (omega arith)) (sym (head-there s at (omega (arith, end-inside s fit))))
 
   -- so the fields start where they did
   same-start : (k : ℕ) → k ≤ 4 → fieldStart (programPart s) k ≡ fieldStart s k
   unfolding placeAfter
   same-start zero h = refl
   same-start (suc k) h =
-      rw (same-start k (omega arith), same-head (fieldStart s k) (omega (arith, next-start k h, ends-before k h)))
+      rw (same-start k (omega arith), same-head (fieldStart s k) (omega (arith, next-start s fit k h, ends-before s fit k h)))
 
   same-field : (k : ℕ) → k < 4 → fieldHead (programPart s) k ≡ fieldHead s k
   unfolding fieldHead
-  same-field k h = rw (same-start k (omega arith)) (same-head (fieldStart s k) (omega (arith, next-start k h, ends-before k h)))
+  same-field k h = rw (same-start k (omega arith)) (same-head (fieldStart s k) (omega (arith, next-start s fit k h, ends-before s fit k h)))
 
   same-layout : layoutOf (programPart s) ≡ layoutOf s
   unfolding layoutOf
   same-layout = rw (same-field 0 (omega arith), same-field 1 (omega arith), same-field 2 (omega arith), same-field 3 (omega arith))
 
   -- a field's content ends before the next field starts
-  field-span : (k : ℕ) → k < 4 → (f : Field) → headSpan (fieldHead s k) f ≡ record { start = fieldStart s k + 3; count = wordAt s (fieldStart s k + 1) / f .width }
-  unfolding fieldHead headSpan headFound
-  field-span k h f = rw (field-whole k h .found)
-
   field-end : (k : ℕ) → k < 4 → (f : Field) → headSpan (fieldHead s k) f .start + f .width * headSpan (fieldHead s k) f .count ≤ fieldStart s 4
   field-end k h f =
-      rw (field-span k h f) (omega (arith, mul-div-le (wordAt s (fieldStart s k + 1)) (f .width), next-start k h, ends-before k h))
+      rw (field-span s fit k h f) (omega (arith, mul-div-le (wordAt s (fieldStart s k + 1)) (f .width), next-start s fit k h, ends-before s fit k h))
 
   names-end : 3 + 2 * nameCount s ≤ fieldStart s 4
   unfolding nameCount layoutOf namesField placeAfter
-  names-end = omega (arith, field-end 0 (omega arith) namesField, ap (λ (x : Span). x .start) (field-span 0 (omega arith) namesField))
+  names-end = omega (arith, field-end 0 (omega arith) namesField, ap (λ (x : Span). x .start) (field-span s fit 0 (omega arith) namesField))
 
   table-end : (t : Table) → tableStart s t + 7 * entryCount s t ≤ fieldStart s 4
   unfolding tableStart entryCount spanOf layoutOf tableField
@@ -165,7 +94,7 @@ module _ (s : List ℕ) (fit : headsValidity s 0 programFields ≡ Fit) where
   -- and the heads are fit
   part-field-fit : (k : ℕ) → k < 4 → headValidity (length (programPart s)) (fieldHead (programPart s) k) (getD programFields k namesField) ≡ Fit
   unfolding placeAfter fieldHead
-  part-field-fit k h = rw (part-length, same-field k h) (ends-earlier (length s) (fieldStart s 4) _ _ (field-fit k h) (ends-before k h))
+  part-field-fit k h = rw (part-length, same-field k h) (ends-earlier (length s) (fieldStart s 4) _ _ (field-fit s fit k h) (ends-before s fit k h))
 
   part-heads-fit : headsValidity (programPart s) 0 programFields ≡ Fit
   unfolding headsValidity programFields thenAsk

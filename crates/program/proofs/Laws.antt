@@ -124,7 +124,8 @@ module _ (s : List ℕ) where
 -- ---- First such
 
 -- the first answer depends on the answers below n alone
-pub first-same : {A : Type 0} (settles : A → Bool) (nothing : A) (n : ℕ) (f g : ℕ → A) → ((k : ℕ) → k < n → f k ≡ g k) → firstOf settles nothing n f ≡ firstOf settles nothing n g
+pub first-same : {A : Type 0} (settles : A → Bool) (nothing : A) (n : ℕ) (f g : ℕ → A) → ((k : ℕ) → k < n → f k ≡ g k)
+    → firstOf settles nothing n f ≡ firstOf settles nothing n g
 first-same = FirstSuch.first-same
 
 -- where `nothing` is the one answer that settles nothing
@@ -188,7 +189,7 @@ pub then-second : (a b : Validity) → thenAsk a b ≡ Fit → b ≡ Fit
 then-second = Asking.then-second
 
 pub turn-fit : (xs : List Validity) (k : ℕ) → inTurn xs ≡ Fit → getD xs k Fit ≡ Fit
-turn-fit = Fitness.turn-fit
+turn-fit = Asking.turn-fit
 
 pub each-fit : (n : ℕ) (q : ℕ → Validity) → askEach n q ≡ Fit → (k : ℕ) → k < n → q k ≡ Fit
 each-fit = Asking.each-fit

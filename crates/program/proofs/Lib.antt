@@ -5,6 +5,7 @@ pub mod Sums
 pub mod FirstSuch
 pub mod Asking
 pub mod Reading
+pub mod Heads
 pub mod Cells
 pub mod Shapes
 pub mod Counting
