@@ -3,7 +3,7 @@ use mathlib.Core.Path.{_≡_, refl, sym, _∙_, ap}
 use mathlib.Core.Bool.{Bool, true, false, false≢true}
 use Prim.Native.Nat.{ℕ, suc, _<_}
 use native.Mathlib.Omega.{arith}
-use Rattle.program.specs.Asking.{ask, thenAsk, isRefused, askEach}
+use Rattle.program.specs.Asking.{ask, thenAsk, isRefused, askEach, validityNumbers}
 use Rattle.program.specs.declared.Refusal.{Refusal}
 use Rattle.program.specs.declared.Validity.{Validity}
 use Rattle.program.specs.declared.Validity.the-variants.{Fit, Refused}
@@ -69,3 +69,7 @@ each-stops n q k v r h e p i t = p ∙ sym (first-at isRefused Fit refl fit-only
 pub each-goes-on : (q : ℕ → Validity) (k : ℕ) (v : Validity) (r : Bool) → askEach k q ≡ Fit → v ≡ q k → r ≡ isRefused v → r ≡ false → askEach (suc k) q ≡ Fit
 unfolding askEach isRefused
 each-goes-on q k v r e p i f = first-more isRefused Fit refl fit-only q k e (sym p ∙ not-refused v r i f)
+
+-- the promise of an answer, as it is and in document 01's numbers
+pub numbered : {v w : Validity} → v ≡ w → (v ≡ w) × (validityNumbers v ≡ validityNumbers w)
+numbered e = (e, ap validityNumbers e)
