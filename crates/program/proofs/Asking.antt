@@ -5,7 +5,7 @@ use mathlib.Core.List.{List, [], _∷_}
 use Prim.Native.Nat.{ℕ, zero, suc, _<_}
 use lib.ListN.{getD}
 use native.Mathlib.Omega.{arith}
-use Rattle.program.specs.Asking.{ask, thenAsk, isRefused, inTurn, askEach}
+use Rattle.program.specs.Asking.{ask, thenAsk, isRefused, inTurn, askEach, validityNumbers}
 use Rattle.program.specs.declared.Refusal.{Refusal}
 use Rattle.program.specs.declared.Validity.{Validity}
 use Rattle.program.specs.declared.Validity.the-variants.{Fit, Refused}
@@ -83,3 +83,7 @@ each-goes-on q k v r e p i f = first-more isRefused Fit refl fit-only q k e (sym
 pub each-same : (n : ℕ) (p q : ℕ → Validity) → ((k : ℕ) → k < n → p k ≡ q k) → askEach n p ≡ askEach n q
 unfolding askEach
 each-same = first-same isRefused Fit
+
+-- the promise of an answer, as it is and in document 01's numbers
+pub numbered : {v w : Validity} → v ≡ w → (v ≡ w) × (validityNumbers v ≡ validityNumbers w)
+numbered e = (e, ap validityNumbers e)

@@ -1,12 +1,14 @@
 -- What stands past the end of a file reads as zero; what the field reader finds; and a layout's spans.
 use mathlib.Core.Path.{_≡_, refl, ap, _∙_}
+use mathlib.Core.Bool.{cond}
 use mathlib.Core.List.{List}
 use Prim.Native.Nat.{ℕ, _+_, _*_, _≤_, _<_}
+use native.Mathlib.Decide.{ℕ-discrete}
 use native.Mathlib.Omega.{arith}
-use borrow.Author.Tests.{le-leb, lt-leb}
+use borrow.Author.Tests.{le-leb, lt-leb, eq-eqb, ne-eqb}
 use lib.ListN.{length, List·getD-eq-default}
-use Rattle.program.specs.File.{byteAt, wordAt, namesField, tableTag, tableField, headFound, headAt, entryAt, layoutOf, spanOf, nameCount, entryCount, tableStart, entryOffset, entry}
-use Rattle.program.specs.Questions.{headValidity}
+use Rattle.program.specs.File.{byteAt, wordAt, namesField, tableTag, tableField, headFound, headAt, entryAt, layoutOf, spanOf, nameCount, entryCount, tableStart, entryOffset, entry, cellsOf}
+use Rattle.program.specs.Questions.{headValidity, sameTable, limit}
 use Rattle.program.specs.declared.Entry.{Entry}
 use Rattle.program.specs.declared.Field.{Field}
 use Rattle.program.specs.declared.Head.{Head}
@@ -52,6 +54,11 @@ module _ (s : List ℕ) (l : Layout) (e : l ≡ layoutOf s) where
   unfolding tableStart
   laid-start t = ap (λ (x : Layout). spanOf x t .start) e
 
+  -- the references from entry n of table t to table u are below this number
+  pub laid-limit : (t : Table) (n : ℕ) (u : Table) → cond (sameTable t u) n (spanOf l u .count) ≡ limit s t n u
+  unfolding limit
+  laid-limit t n u = ap (cond (sameTable t u) n) (laid-count u)
+
 -- where an entry stands, and what is read there, by its table's start
 pub entry-in : (s : List ℕ) (t : Table) (start m n : ℕ) → start ≡ tableStart s t → m ≡ n → start + 7 * m ≡ entryOffset s t n
 unfolding entryOffset
@@ -84,3 +91,12 @@ table-wide t e = omega (arith, ap (λ (x : Field). x .width) e, table-width t)
 -- questions 1 to 4 of a head that was found and a field that was made
 pub asked-head : (end : ℕ) {h g : Head} {f k : Field} {v : Validity} → v ≡ headValidity end h f → h ≡ g → f ≡ k → v ≡ headValidity end g k
 asked-head end e p q = e ∙ (λ i. headValidity end (p i) (q i))
+
+-- a name whose size is a number of two bytes has fewer cells than there are such numbers
+pub cells-few : (n : ℕ) → n < 65536 → cellsOf n < 65536
+unfolding cellsOf
+cells-few n h =
+    elim (ℕ-discrete n 0) [
+      | yes e ↦ rw (eq-eqb n 0 e) (omega arith)
+      | no f ↦ rw (ne-eqb n 0 f) h
+    ]

@@ -3,14 +3,12 @@
 ghost use mathlib.Core.Path.{_≡_};
 ghost use Prim.Native.Nat.{_<_, _≤_};
 ghost use lib.ListN.{length, take, drop};
-ghost use Rattle.program.specs.Counting.{UsesIn};
-ghost use mathlib.Core.Bool.{_&&_};
+ghost use mathlib.Core.Bool.{_&&_, cond};
 ghost use lib.Dec.{leb};
-ghost use Rattle.program.specs.Asking.{ask, isRefused, askEach};
-ghost use Rattle.program.specs.File.{LaidOut, nameCount, entryCount, tableStart, entryOffset, entry, programFields};
-ghost use Rattle.program.specs.declared.Table.the-variants.{Commands};
-ghost use Rattle.program.specs.declared.Validity.the-variants.{Fit};
-ghost use Rattle.program.specs.Questions.{wholeEntries, headValidity, headsValidity, endValidity, nameValidity, named, sameTable, limit, ofSort, points, eachOperand, shapeValidity, entryValidity, tableValidity, toBeUsed, useValidity, usedValidity, lastValidity, usesValidity, contentValidity, validity, inputValidity, programPart, initialPart};
+ghost use Rattle.program.specs.Questions as spec;
+ghost use Rattle.program.specs.Asking;
+ghost use Rattle.program.specs.Counting;
+ghost use Rattle.program.specs.File;
 use crate::Entry;
 use crate::Field;
 use crate::FieldHead;
@@ -32,7 +30,7 @@ use crate::reader;
 
 // One question: its answer, and its number and place when that is no.
 fn ask(yes: bool, number: u8, offset: usize) -> Validity
-    ensures { λ r. ⌜ r ≡ ask yes number offset ⌝ }
+    ensures { λ r. ⌜ r ≡ Asking.ask yes number offset ⌝ }
 {
     if yes {
         Validity::Fit
@@ -42,7 +40,7 @@ fn ask(yes: bool, number: u8, offset: usize) -> Validity
 }
 
 fn refused(v: Validity) -> bool
-    ensures { λ r. ⌜ r ≡ isRefused v ⌝ }
+    ensures { λ r. ⌜ r ≡ Asking.isRefused v ⌝ }
 {
     match v {
         Validity::Fit => false,
@@ -53,7 +51,7 @@ fn refused(v: Validity) -> bool
 // Whether a length is whole entries, as many as allowed.
 fn whole_entries(field: Field, len: u16) -> bool
     requires { ⌜ 0 < field .width ⌝ }
-    ensures { λ r. ⌜ r ≡ wholeEntries field len ⌝ }
+    ensures { λ r. ⌜ r ≡ spec.wholeEntries field len ⌝ }
 {
     if len % field.width != 0 {
         return false;
@@ -65,7 +63,7 @@ fn whole_entries(field: Field, len: u16) -> bool
 // Questions 2 to 4 of a head in a file of `end` bytes.
 fn check_found(end: usize, found: FieldHead, field: Field) -> Validity
     requires { ⌜ 0 < field .width ⌝ }
-    ensures { λ r. ⌜ r ≡ headValidity end (Head.Found found) field ⌝ }
+    ensures { λ r. ⌜ r ≡ spec.headValidity end (Head.Found found) field ⌝ }
 {
     if found.tag != field.tag {
         return ask(false, 2, found.start);
@@ -79,7 +77,7 @@ fn check_found(end: usize, found: FieldHead, field: Field) -> Validity
 // Questions 1 to 4 of what the reader finds in a file of `end` bytes.
 fn check_head(end: usize, head: Head, field: Field) -> Validity
     requires { ⌜ 0 < field .width ⌝ }
-    ensures { λ r. ⌜ r ≡ headValidity end head field ⌝ }
+    ensures { λ r. ⌜ r ≡ spec.headValidity end head field ⌝ }
 {
     match head {
         Head::Short(at) => ask(false, 1, at),
@@ -89,8 +87,8 @@ fn check_head(end: usize, head: Head, field: Field) -> Validity
 
 // Whether operand `x` is zero where it is unused, and names a name of its sort where it is a name.
 fn named(s: &[u8], names: u16, role: Role, x: u16) -> bool
-    requires { ⌜ names ≡ nameCount (now s) ⌝ }
-    ensures { λ r. ⌜ r ≡ named (now (s .entry)) role x ⌝ }
+    requires { ⌜ names ≡ File.nameCount (now s) ⌝ }
+    ensures { λ r. ⌜ r ≡ spec.named (now (s .entry)) role x ⌝ }
 {
     match role {
         Role::Unused => x == 0,
@@ -103,7 +101,7 @@ fn named(s: &[u8], names: u16, role: Role, x: u16) -> bool
 
 // Questions 1 to 4 of the four fields.
 fn check_heads(s: &[u8]) -> Validity
-    ensures { λ r. ⌜ r ≡ headsValidity (now (s .entry)) 0 programFields ⌝ }
+    ensures { λ r. ⌜ r ≡ spec.headsValidity (now (s .entry)) 0 File.programFields ⌝ }
 {
     let end = s.len();
     let names = check_head(end, reader::field_head(s, 0), file::names_field());
@@ -142,8 +140,8 @@ fn in_bounds(size: u16, total: usize) -> bool
 
 // Question 6 of every name.
 fn check_names(s: &[u8], names: u16) -> Validity
-    requires { ⌜ names ≡ nameCount (now s) ⌝ }
-    ensures { λ r. ⌜ r ≡ askEach (nameCount (now (s .entry))) (nameValidity (now (s .entry))) ⌝ }
+    requires { ⌜ names ≡ File.nameCount (now s) ⌝ }
+    ensures { λ r. ⌜ r ≡ Asking.askEach (File.nameCount (now (s .entry))) (spec.nameValidity (now (s .entry))) ⌝ }
 {
     let mut total: usize = 0;
     let mut i: u16 = 0;
@@ -161,7 +159,7 @@ fn check_names(s: &[u8], names: u16) -> Validity
 
 // Whether two tables are the same: they have the same tag.
 fn same_table(t: Table, u: Table) -> bool
-    ensures { λ r. ⌜ r ≡ sameTable t u ⌝ }
+    ensures { λ r. ⌜ r ≡ spec.sameTable t u ⌝ }
 {
     let first = file::table_field(t);
     let second = file::table_field(u);
@@ -169,9 +167,8 @@ fn same_table(t: Table, u: Table) -> bool
 }
 
 // The references from entry `n` of a table to `target` are below this number.
-fn limit(s: &[u8], l: Layout, table: Table, n: u16, target: Table) -> u16
-    requires { ⌜ LaidOut (now s) l ⌝ }
-    ensures { λ r. ⌜ r ≡ limit (now (s .entry)) table n target ⌝ }
+fn limit(l: Layout, table: Table, n: u16, target: Table) -> u16
+    ensures { λ r. ⌜ r ≡ cond (spec.sameTable table target) n (File.spanOf l target .count) ⌝ }
 {
     if same_table(table, target) {
         return n;
@@ -182,8 +179,8 @@ fn limit(s: &[u8], l: Layout, table: Table, n: u16, target: Table) -> u16
 
 // The kind of command entry `n`.
 fn command_kind(s: &[u8], l: Layout, n: u16) -> u8
-    requires { ⌜ LaidOut (now s) l ⌝ }
-    ensures { λ r. ⌜ r ≡ entry (now (s .entry)) Commands n .kind ⌝ }
+    requires { ⌜ File.LaidOut (now s) l ⌝ }
+    ensures { λ r. ⌜ r ≡ File.entry (now (s .entry)) Table.Commands n .kind ⌝ }
 {
     let span = l.commands;
     file::byte_at(s, span.start + 7 * file::long(n))
@@ -191,8 +188,8 @@ fn command_kind(s: &[u8], l: Layout, n: u16) -> u8
 
 // Whether entry `x` of a sort's table is of that sort.
 fn of_sort(s: &[u8], l: Layout, sort: Sort, x: u16) -> bool
-    requires { ⌜ LaidOut (now s) l ⌝ }
-    ensures { λ r. ⌜ r ≡ ofSort (now (s .entry)) sort x ⌝ }
+    requires { ⌜ File.LaidOut (now s) l ⌝ }
+    ensures { λ r. ⌜ r ≡ spec.ofSort (now (s .entry)) sort x ⌝ }
 {
     match sort {
         Sort::Expression => true,
@@ -204,16 +201,16 @@ fn of_sort(s: &[u8], l: Layout, sort: Sort, x: u16) -> bool
 
 // Whether a reference `x` from entry `n` of a table points to an entry of a sort that it may point to.
 fn points_to(s: &[u8], l: Layout, table: Table, n: u16, sort: Sort, x: u16) -> bool
-    requires { ⌜ LaidOut (now s) l ⌝ }
-    ensures { λ r. ⌜ r ≡ points (now (s .entry)) table n (Role.To sort) x ⌝ }
+    requires { ⌜ File.LaidOut (now s) l ⌝ }
+    ensures { λ r. ⌜ r ≡ spec.points (now (s .entry)) table n (Role.To sort) x ⌝ }
 {
-    x < limit(s, l, table, n, kinds::table_of(sort)) && of_sort(s, l, sort, x)
+    x < limit(l, table, n, kinds::table_of(sort)) && of_sort(s, l, sort, x)
 }
 
 // Whether operand `x` of entry `n` of a table points as it must, where it is a reference.
 fn points(s: &[u8], l: Layout, table: Table, n: u16, role: Role, x: u16) -> bool
-    requires { ⌜ LaidOut (now s) l ⌝ }
-    ensures { λ r. ⌜ r ≡ points (now (s .entry)) table n role x ⌝ }
+    requires { ⌜ File.LaidOut (now s) l ⌝ }
+    ensures { λ r. ⌜ r ≡ spec.points (now (s .entry)) table n role x ⌝ }
 {
     match role {
         Role::Unused => true,
@@ -226,8 +223,8 @@ fn points(s: &[u8], l: Layout, table: Table, n: u16, role: Role, x: u16) -> bool
 
 // Whether all operands are named as they must be.
 fn all_named(s: &[u8], names: u16, roles: Roles, e: Entry) -> bool
-    requires { ⌜ names ≡ nameCount (now s) ⌝ }
-    ensures { λ r. ⌜ r ≡ eachOperand (named (now (s .entry))) roles e ⌝ }
+    requires { ⌜ names ≡ File.nameCount (now s) ⌝ }
+    ensures { λ r. ⌜ r ≡ spec.eachOperand (spec.named (now (s .entry))) roles e ⌝ }
 {
     let p = roles.p;
     let q = roles.q;
@@ -240,8 +237,8 @@ fn all_named(s: &[u8], names: u16, roles: Roles, e: Entry) -> bool
 
 // Whether all operands point as they must.
 fn all_point(s: &[u8], l: Layout, table: Table, n: u16, roles: Roles, e: Entry) -> bool
-    requires { ⌜ LaidOut (now s) l ⌝ }
-    ensures { λ r. ⌜ r ≡ eachOperand (points (now (s .entry)) table n) roles e ⌝ }
+    requires { ⌜ File.LaidOut (now s) l ⌝ }
+    ensures { λ r. ⌜ r ≡ spec.eachOperand (spec.points (now (s .entry)) table n) roles e ⌝ }
 {
     let p = roles.p;
     let q = roles.q;
@@ -262,8 +259,8 @@ fn check_operands(
     e: Entry,
     at: usize,
 ) -> Validity
-    requires { ⌜ LaidOut (now s) l × (e ≡ entry (now s) table n) × (at ≡ entryOffset (now s) table n) ⌝ }
-    ensures { λ r. ⌜ r ≡ shapeValidity (now (s .entry)) table n (Shape.Known roles) ⌝ }
+    requires { ⌜ File.LaidOut (now s) l × (e ≡ File.entry (now s) table n) × (at ≡ File.entryOffset (now s) table n) ⌝ }
+    ensures { λ r. ⌜ r ≡ spec.shapeValidity (now (s .entry)) table n (Shape.Known roles) ⌝ }
 {
     let names = l.names;
     if !all_named(s, names.count, roles, e) {
@@ -274,8 +271,8 @@ fn check_operands(
 
 // Questions 7 to 9 of entry `n` of the table that starts at `start`.
 fn check_entry(s: &[u8], l: Layout, table: Table, start: usize, n: u16) -> Validity
-    requires { ⌜ LaidOut (now s) l × (start ≡ tableStart (now s) table) ⌝ }
-    ensures { λ r. ⌜ r ≡ entryValidity (now (s .entry)) table n ⌝ }
+    requires { ⌜ File.LaidOut (now s) l × (start ≡ File.tableStart (now s) table) ⌝ }
+    ensures { λ r. ⌜ r ≡ spec.entryValidity (now (s .entry)) table n ⌝ }
 {
     let at = start + 7 * file::long(n);
     let e = file::entry_at(s, at);
@@ -287,8 +284,8 @@ fn check_entry(s: &[u8], l: Layout, table: Table, start: usize, n: u16) -> Valid
 
 // Questions 7 to 9 of a table's entries.
 fn check_table(s: &[u8], l: Layout, table: Table) -> Validity
-    requires { ⌜ LaidOut (now s) l ⌝ }
-    ensures { λ r. ⌜ r ≡ tableValidity (now (s .entry)) table ⌝ }
+    requires { ⌜ File.LaidOut (now s) l ⌝ }
+    ensures { λ r. ⌜ r ≡ spec.tableValidity (now (s .entry)) table ⌝ }
 {
     let span = file::span_of(l, table);
     let start = span.start;
@@ -306,7 +303,7 @@ fn check_table(s: &[u8], l: Layout, table: Table) -> Validity
 
 // How many of a table's entries are to be used once: all but the last command.
 fn to_be_used(table: Table, count: u16) -> u16
-    ensures { λ r. ⌜ r ≡ toBeUsed table count ⌝ }
+    ensures { λ r. ⌜ r ≡ spec.toBeUsed table count ⌝ }
 {
     match table {
         Table::Arithmetic => count,
@@ -317,8 +314,8 @@ fn to_be_used(table: Table, count: u16) -> u16
 
 // Question 10 of a table's entries, whose uses stand in `counts`.
 fn check_uses(s: &[u8], l: Layout, table: Table, counts: &[u8]) -> Validity
-    requires { ⌜ LaidOut (now s) l × UsesIn (now s) (now counts) ⌝ }
-    ensures { λ r. ⌜ r ≡ usedValidity (now (s .entry)) table ⌝ }
+    requires { ⌜ File.LaidOut (now s) l × Counting.UsesIn (now s) (now counts) ⌝ }
+    ensures { λ r. ⌜ r ≡ spec.usedValidity (now (s .entry)) table ⌝ }
 {
     let span = file::span_of(l, table);
     let start = span.start;
@@ -340,8 +337,8 @@ fn check_uses(s: &[u8], l: Layout, table: Table, counts: &[u8]) -> Validity
 
 // Question 11.
 fn check_last(s: &[u8], l: Layout) -> Validity
-    requires { ⌜ LaidOut (now s) l ⌝ }
-    ensures { λ r. ⌜ r ≡ lastValidity (now (s .entry)) ⌝ }
+    requires { ⌜ File.LaidOut (now s) l ⌝ }
+    ensures { λ r. ⌜ r ≡ spec.lastValidity (now (s .entry)) ⌝ }
 {
     let span = l.commands;
     let start = span.start;
@@ -352,8 +349,8 @@ fn check_last(s: &[u8], l: Layout) -> Validity
 
 // Questions 10 and 11.
 fn check_all_uses(s: &[u8], l: Layout) -> Validity
-    requires { ⌜ LaidOut (now s) l ⌝ }
-    ensures { λ r. ⌜ r ≡ usesValidity (now (s .entry)) ⌝ }
+    requires { ⌜ File.LaidOut (now s) l ⌝ }
+    ensures { λ r. ⌜ r ≡ spec.usesValidity (now (s .entry)) ⌝ }
 {
     let counts = uses::count_all(s, l);
     let arithmetic = check_uses(s, l, Table::Arithmetic, &counts);
@@ -373,8 +370,8 @@ fn check_all_uses(s: &[u8], l: Layout) -> Validity
 
 // Questions 6 to 11, where questions 1 to 4 are answered yes.
 fn check_content(s: &[u8]) -> Validity
-    requires { ⌜ headsValidity (now s) 0 programFields ≡ Fit ⌝ }
-    ensures { λ r. ⌜ r ≡ contentValidity (now (s .entry)) ⌝ }
+    requires { ⌜ spec.headsValidity (now s) 0 File.programFields ≡ Validity.Fit ⌝ }
+    ensures { λ r. ⌜ r ≡ spec.contentValidity (now (s .entry)) ⌝ }
 {
     let l = file::layout(s);
     let spans = l.names;
@@ -399,7 +396,7 @@ fn check_content(s: &[u8]) -> Validity
 
 // Question 5, after `k` fields.
 fn check_end(s: &[u8], k: u8) -> Validity
-    ensures { λ r. ⌜ r ≡ endValidity (now (s .entry)) k ⌝ }
+    ensures { λ r. ⌜ r ≡ spec.endValidity (now (s .entry)) k ⌝ }
 {
     let at = reader::place_after(s, 0, k);
     ask(at == s.len(), 5, at)
@@ -407,7 +404,8 @@ fn check_end(s: &[u8], k: u8) -> Validity
 
 // Questions 1 to 11 of a program file.
 pub fn validate(s: &[u8]) -> Validity
-    ensures { λ r. ⌜ r ≡ validity (now (s .entry)) ⌝ }
+    ensures { λ r. ⌜ r ≡ spec.validity (now (s .entry)) ⌝ }
+    ensures numbers { λ r. ⌜ Asking.validityNumbers r ≡ Asking.validityNumbers (spec.validity (now (s .entry))) ⌝ }
 {
     let heads = check_heads(s);
     if refused(heads) {
@@ -422,7 +420,8 @@ pub fn validate(s: &[u8]) -> Validity
 
 // Questions 1 to 11 of the sheet program's input, whose fifth field is the start list.
 pub fn validate_input(s: &[u8]) -> Validity
-    ensures { λ r. ⌜ r ≡ inputValidity (now (s .entry)) ⌝ }
+    ensures { λ r. ⌜ r ≡ spec.inputValidity (now (s .entry)) ⌝ }
+    ensures numbers { λ r. ⌜ Asking.validityNumbers r ≡ Asking.validityNumbers (spec.inputValidity (now (s .entry))) ⌝ }
 {
     let heads = check_heads(s);
     if refused(heads) {
@@ -447,14 +446,14 @@ pub fn validate_input(s: &[u8]) -> Validity
 
 // The program's part of the sheet program's input: its first four fields.
 pub fn program_part<'a>(s: &'a [u8]) -> &'a [u8]
-    ensures { λ r. ⌜ now r ≡ programPart (now (s .entry)) ⌝ }
+    ensures { λ r. ⌜ now r ≡ spec.programPart (now (s .entry)) ⌝ }
 {
     part(s, 0, reader::place_after(s, 0, 4))
 }
 
 // The start list in the sheet program's input: the content of its fifth field.
 pub fn initial_part<'a>(s: &'a [u8]) -> &'a [u8]
-    ensures { λ r. ⌜ now r ≡ initialPart (now (s .entry)) ⌝ }
+    ensures { λ r. ⌜ now r ≡ spec.initialPart (now (s .entry)) ⌝ }
 {
     match reader::field_head(s, 4) {
         Head::Short(_) => &s[..0],

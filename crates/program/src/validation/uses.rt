@@ -3,9 +3,9 @@
 ghost use mathlib.Core.Path.{_≡_};
 ghost use Prim.Native.Nat.{ℕ, _<_, _≤_, _+_, min};
 ghost use lib.ListN.{length, getD, set};
-ghost use Rattle.program.specs.Counting.{capacity, slot, Counted, UsesIn};
-ghost use Rattle.program.specs.File.{LaidOut, tableStart, entryCount};
-ghost use Rattle.program.specs.Questions.{refersTo, shapeUses, entryUses, tableUses};
+ghost use Rattle.program.specs.Counting as spec;
+ghost use Rattle.program.specs.File;
+ghost use Rattle.program.specs.Questions;
 use crate::Entry;
 use crate::Layout;
 use crate::Role;
@@ -18,7 +18,7 @@ use crate::kinds;
 
 // The most entries that a table has.
 fn capacity(table: Table) -> u16
-    ensures { λ r. ⌜ r ≡ capacity table ⌝ }
+    ensures { λ r. ⌜ r ≡ spec.capacity table ⌝ }
 {
     let field = file::table_field(table);
     field.most
@@ -26,7 +26,7 @@ fn capacity(table: Table) -> u16
 
 // The slot of entry `n` of a table.
 pub(super) fn slot(table: Table, n: u16) -> usize
-    ensures { λ r. ⌜ r ≡ slot table n ⌝ }
+    ensures { λ r. ⌜ r ≡ spec.slot table n ⌝ }
 {
     match table {
         Table::Arithmetic => file::long(n),
@@ -53,7 +53,7 @@ fn bump(uses: &mut [u8], k: usize)
 // Counts a reference `x` to an entry of a sort.
 fn count_reference(uses: &mut [u8], sort: Sort, x: u16)
     requires { ⌜ length (now uses) ≡ 1024 ⌝ }
-    ensures { λ _. ⌜ Counted (now (uses .entry)) (now (uses .exit)) (λ u n. refersTo u n (Role.To sort) x) ⌝ }
+    ensures { λ _. ⌜ spec.Counted (now (uses .entry)) (now (uses .exit)) (λ u n. Questions.refersTo u n (Role.To sort) x) ⌝ }
 {
     let table = kinds::table_of(sort);
     if x < capacity(table) {
@@ -64,7 +64,7 @@ fn count_reference(uses: &mut [u8], sort: Sort, x: u16)
 // Counts an operand `x` with its role.
 fn count_operand(uses: &mut [u8], role: Role, x: u16)
     requires { ⌜ length (now uses) ≡ 1024 ⌝ }
-    ensures { λ _. ⌜ Counted (now (uses .entry)) (now (uses .exit)) (λ u n. refersTo u n role x) ⌝ }
+    ensures { λ _. ⌜ spec.Counted (now (uses .entry)) (now (uses .exit)) (λ u n. Questions.refersTo u n role x) ⌝ }
 {
     match role {
         Role::Unused => {}
@@ -78,7 +78,7 @@ fn count_operand(uses: &mut [u8], role: Role, x: u16)
 // Counts the operands of an entry.
 fn count_operands(uses: &mut [u8], roles: Roles, e: Entry)
     requires { ⌜ length (now uses) ≡ 1024 ⌝ }
-    ensures { λ _. ⌜ Counted (now (uses .entry)) (now (uses .exit)) (λ u n. shapeUses u n (Shape.Known roles) e) ⌝ }
+    ensures { λ _. ⌜ spec.Counted (now (uses .entry)) (now (uses .exit)) (λ u n. Questions.shapeUses u n (Shape.Known roles) e) ⌝ }
 {
     let p = roles.p;
     let q = roles.q;
@@ -90,8 +90,8 @@ fn count_operands(uses: &mut [u8], roles: Roles, e: Entry)
 
 // Counts the operands of entry `m` of the table that starts at `start`.
 fn count_entry(s: &[u8], table: Table, start: usize, m: u16, uses: &mut [u8])
-    requires { ⌜ (start ≡ tableStart (now s) table) × (start ≤ length (now s)) × (length (now uses) ≡ 1024) ⌝ }
-    ensures { λ _. ⌜ Counted (now (uses .entry)) (now (uses .exit)) (λ u n. entryUses (now (s .entry)) u n table m) ⌝ }
+    requires { ⌜ (start ≡ File.tableStart (now s) table) × (start ≤ length (now s)) × (length (now uses) ≡ 1024) ⌝ }
+    ensures { λ _. ⌜ spec.Counted (now (uses .entry)) (now (uses .exit)) (λ u n. Questions.entryUses (now (s .entry)) u n table m) ⌝ }
 {
     let e = file::entry_at(s, start + 7 * file::long(m));
     match kinds::shape(table, e.kind) {
@@ -102,8 +102,8 @@ fn count_entry(s: &[u8], table: Table, start: usize, m: u16, uses: &mut [u8])
 
 // Counts the operands of a table's entries.
 fn count_table(s: &[u8], l: Layout, table: Table, uses: &mut [u8])
-    requires { ⌜ LaidOut (now s) l × (length (now uses) ≡ 1024) ⌝ }
-    ensures { λ _. ⌜ Counted (now (uses .entry)) (now (uses .exit)) (λ u n. tableUses (now (s .entry)) u n table (entryCount (now (s .entry)) table)) ⌝ }
+    requires { ⌜ File.LaidOut (now s) l × (length (now uses) ≡ 1024) ⌝ }
+    ensures { λ _. ⌜ spec.Counted (now (uses .entry)) (now (uses .exit)) (λ u n. Questions.tableUses (now (s .entry)) u n table (File.entryCount (now (s .entry)) table)) ⌝ }
 {
     let span = file::span_of(l, table);
     let start = span.start;
@@ -117,8 +117,8 @@ fn count_table(s: &[u8], l: Layout, table: Table, uses: &mut [u8])
 
 // Counts the operands of all entries.
 pub(super) fn count_all(s: &[u8], l: Layout) -> [u8; 1024]
-    requires { ⌜ LaidOut (now s) l ⌝ }
-    ensures { λ r. ⌜ UsesIn (now (s .entry)) r ⌝ }
+    requires { ⌜ File.LaidOut (now s) l ⌝ }
+    ensures { λ r. ⌜ spec.UsesIn (now (s .entry)) r ⌝ }
 {
     let mut uses = [0u8; 1024];
     count_table(s, l, Table::Arithmetic, &mut uses);
