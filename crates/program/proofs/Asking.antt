@@ -1,9 +1,11 @@
 -- Laws of asking: what a fit answer says of each question, and what the first refusal says of all.
 use mathlib.Core.Path.{_≡_, refl, sym, _∙_, ap}
 use mathlib.Core.Bool.{Bool, true, false, false≢true}
-use Prim.Native.Nat.{ℕ, suc, _<_}
+use mathlib.Core.List.{List, [], _∷_}
+use Prim.Native.Nat.{ℕ, zero, suc, _<_}
+use lib.ListN.{getD}
 use native.Mathlib.Omega.{arith}
-use Rattle.program.specs.Asking.{ask, thenAsk, isRefused, askEach}
+use Rattle.program.specs.Asking.{ask, thenAsk, isRefused, inTurn, askEach, validityNumbers}
 use Rattle.program.specs.declared.Refusal.{Refusal}
 use Rattle.program.specs.declared.Validity.{Validity}
 use Rattle.program.specs.declared.Validity.the-variants.{Fit, Refused}
@@ -32,6 +34,13 @@ pub then-fit : (a : Validity) → thenAsk a Fit ≡ a
 unfolding thenAsk
 then-fit Fit = refl
 then-fit (Refused x) = refl
+
+-- questions in turn, all answered yes: yes to each
+pub turn-fit : (xs : List Validity) (k : ℕ) → inTurn xs ≡ Fit → getD xs k Fit ≡ Fit
+unfolding inTurn
+turn-fit [] k e = refl
+turn-fit (x ∷ xs) zero e = then-first x (inTurn xs) e
+turn-fit (x ∷ xs) (suc k) e = turn-fit xs k (then-second x (inTurn xs) e)
 
 -- how code asks: an answer v to the first questions is returned where it is a refusal, and the next asked where it is not
 pub stops : (a b v : Validity) (r : Bool) → v ≡ a → r ≡ isRefused v → r ≡ true → v ≡ thenAsk a b
@@ -74,3 +83,7 @@ each-goes-on q k v r e p i f = first-more isRefused Fit refl fit-only q k e (sym
 pub each-same : (n : ℕ) (p q : ℕ → Validity) → ((k : ℕ) → k < n → p k ≡ q k) → askEach n p ≡ askEach n q
 unfolding askEach
 each-same = first-same isRefused Fit
+
+-- the promise of an answer, as it is and in document 01's numbers
+pub numbered : {v w : Validity} → v ≡ w → (v ≡ w) × (validityNumbers v ≡ validityNumbers w)
+numbered e = (e, ap validityNumbers e)

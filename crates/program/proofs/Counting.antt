@@ -10,10 +10,13 @@ use borrow.Author.Tests.{eq-eqb, ne-eqb}
 use lib.Dec.{eqb}
 use lib.ListN.{length, getD, set, length-set}
 use lib.Seq.{getD-set-same, getD-set-other}
-use Rattle.program.specs.Counting.{capacity, slot, Counted}
-use Rattle.program.specs.Questions.{sameTable}
+use Rattle.program.specs.Asking.{ask}
+use Rattle.program.specs.Counting.{capacity, slot, Counted, UsesIn}
+use Rattle.program.specs.File.{tableField, entryOffset}
+use Rattle.program.specs.Questions.{sameTable, toBeUsed, uses, useValidity}
 use Rattle.program.specs.declared.Table.{Table}
 use Rattle.program.specs.declared.Table.the-variants.{Arithmetic, Boolean, Commands}
+use Rattle.program.specs.declared.Validity.{Validity}
 
 -- nothing counted
 pub counted-none : (a : List ℕ) (f : Table → ℕ → ℕ) → ((u : Table) (n : ℕ) → n < capacity u → f u n ≡ 0) → Counted a a f
@@ -29,7 +32,7 @@ counted-then a b c f g p q =
 
 -- two entries have one slot only where they are the same
 slot-same : (t u : Table) (x n : ℕ) → x < capacity t → n < capacity u → slot t x ≡ slot u n → (sameTable t u && eqb x n) ≡ true
-unfolding capacity slot sameTable
+unfolding capacity tableField slot sameTable
 slot-same Arithmetic Arithmetic x n h k e = eq-eqb x n e
 slot-same Arithmetic Boolean x n h k e = absurd (omega arith)
 slot-same Arithmetic Commands x n h k e = absurd (omega arith)
@@ -66,7 +69,7 @@ counted-one a t x h room =
 
 -- a reference past a table's capacity is to no entry
 far-other : (t u : Table) (x n : ℕ) → capacity t ≤ x → n < capacity u → (sameTable t u && eqb x n) ≡ false
-unfolding capacity sameTable
+unfolding capacity tableField sameTable
 far-other Arithmetic Arithmetic x n h k = ne-eqb x n (omega arith)
 far-other Arithmetic Boolean x n h k = refl
 far-other Arithmetic Commands x n h k = refl
@@ -81,7 +84,7 @@ pub counted-far : (a : List ℕ) (t : Table) (x : ℕ) → capacity t ≤ x → 
 counted-far a t x h = counted-none a _ (λ u n k. rw (far-other t u x n h k))
 
 -- a count of one tells that there is one use
-pub once : (x : ℕ) → eqb (min 2 x) 1 ≡ eqb x 1
+once : (x : ℕ) → eqb (min 2 x) 1 ≡ eqb x 1
 once x =
     elim (ℕ-discrete x 1) [
       | yes e ↦ eq-eqb (min 2 x) 1 (omega arith) ∙ sym (eq-eqb x 1 e)
@@ -89,7 +92,19 @@ once x =
     ]
 
 pub slot-small : (t : Table) (n : ℕ) → n < capacity t → slot t n < 1024
-unfolding capacity slot
+unfolding capacity tableField slot
 slot-small Arithmetic n h = omega arith
 slot-small Boolean n h = omega arith
 slot-small Commands n h = omega arith
+
+pub few-used : (t : Table) (n : ℕ) → n ≤ tableField t .most → toBeUsed t n ≤ capacity t
+unfolding capacity toBeUsed
+few-used Arithmetic n h = h
+few-used Boolean n h = h
+few-used Commands n h = omega arith
+
+-- question 10 of an entry, asked of its slot
+pub use-asked : (s counts : List ℕ) (t : Table) (n k at : ℕ) {v : Validity}
+    → UsesIn s counts → n < capacity t → k ≡ slot t n → at ≡ entryOffset s t n → v ≡ ask (eqb (getD counts k 0) 1) 10 at → v ≡ useValidity s t n
+unfolding useValidity
+use-asked s counts t n k at u h e f v = rw (← once (uses s t n), ← u .each t n h, ← e, ← f) v

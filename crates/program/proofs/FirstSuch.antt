@@ -9,7 +9,8 @@ use Rattle.program.specs.declared.First.{First}
 use Rattle.program.specs.declared.First.the-variants.{At, Nothing}
 
 -- the first depends on the answers below n alone
-pub first-same : {A : Type 0} (settles : A → Bool) (nothing : A) (n : ℕ) (f g : ℕ → A) → ((k : ℕ) → k < n → f k ≡ g k) → firstOf settles nothing n f ≡ firstOf settles nothing n g
+pub first-same : {A : Type 0} (settles : A → Bool) (nothing : A) (n : ℕ) (f g : ℕ → A) → ((k : ℕ) → k < n → f k ≡ g k)
+    → firstOf settles nothing n f ≡ firstOf settles nothing n g
 unfolding firstOf
 first-same settles nothing zero f g h = refl
 first-same settles nothing (suc n) f g h = rw (first-same settles nothing n f g (λ k l. h k (omega arith)), h n (omega arith))
@@ -74,7 +75,8 @@ module _ {A : Type 0} (settles : A → Bool) (nothing : A) (unsettled : settles 
   first-found zero f h = absurd (false≢true (sym unsettled ∙ h))
   first-found (suc n) f h = go (settles (firstOf settles nothing n f)) refl (first-found n f)
     where
-      go : (b : Bool) → settles (firstOf settles nothing n f) ≡ b → (settles (firstOf settles nothing n f) ≡ true → Foremost settles nothing n f) → Foremost settles nothing (suc n) f
+      go : (b : Bool) → settles (firstOf settles nothing n f) ≡ b → (settles (firstOf settles nothing n f) ≡ true → Foremost settles nothing n f)
+          → Foremost settles nothing (suc n) f
       go true s earlier =
           let found = earlier s in
           record {

@@ -1,44 +1,41 @@
 -- What the questions say of a program that passes them all.
-use mathlib.Core.Path.{_≡_, refl}
+use mathlib.Core.Path.{_≡_, ap}
 use mathlib.Core.Bool.{true}
-use mathlib.Core.List.{List, [], _∷_}
-use Prim.Native.Nat.{ℕ, zero, suc, _-_, _/_, _%_, _≤_, _<_}
+use mathlib.Core.List.{List}
+use Prim.Native.Nat.{ℕ, suc, _+_, _-_, _/_, _%_, _≤_, _<_}
 use native.Mathlib.Decide.{decLt}
 use native.Mathlib.Omega.{arith}
 use lib.Dec.{leb, eqb}
-use lib.ListN.{getD, take, List·getD-eq-default}
+use lib.ListN.{length, getD, take, List·getD-eq-default}
 use lib.Seq.{take-all}
 use borrow.Author.Tests.{leb-true, eqb-true}
-use Rattle.program.specs.Asking.{inTurn}
-use Rattle.program.specs.File.{Field, programFields, contentLength, fieldStart, spanAt, layoutOf, spanOf, nameCount, sizeAt, sizes, entryCount, entry, cellCount}
+use Rattle.program.specs.File.{wordAt, namesField, tableField, programFields, headFound, headAt, fieldStart, fieldHead, headSpan, layoutOf, spanOf, LaidOut, nameCount, sizeAt, sizes, entryCount, entry, cellCount}
 use Rattle.program.specs.Kind.{isCommand}
-use Rattle.program.specs.Questions.{wholeEntries, headValidity, headsValidity, nameValidity, entryValidity, tableValidity, uses, useValidity, lastCommand, lastValidity, usesValidity, contentValidity, validity}
+use Rattle.program.specs.Questions.{wholeEntries, headValidity, headsValidity, nameValidity, entryValidity, tableValidity, uses, useValidity, toBeUsed, usedValidity, lastCommand, lastValidity, usesValidity, contentValidity, validity}
+use Rattle.program.specs.declared.Field.{Field}
+use Rattle.program.specs.declared.Layout.{Layout}
+use Rattle.program.specs.declared.Span.{Span}
 use Rattle.program.specs.declared.Table.{Table}
 use Rattle.program.specs.declared.Table.the-variants.{Arithmetic, Boolean, Commands}
-use Rattle.program.specs.declared.Validity.{Validity}
 use Rattle.program.specs.declared.Validity.the-variants.{Fit}
-use Rattle.program.proofs.Asking.{ask-fit, then-first, then-second, each-fit}
+use Rattle.program.proofs.Asking.{ask-fit, turn-fit, each-fit}
 use Rattle.program.proofs.Cells.{sizes-length, size-at}
+use Rattle.program.proofs.Heads.{whole, field-fit}
 use Rattle.program.proofs.Tests.{two, three}
 
--- questions in turn, all answered yes: yes to each
-pub turn-fit : (xs : List Validity) (k : ℕ) → inTurn xs ≡ Fit → getD xs k Fit ≡ Fit
-unfolding inTurn
-turn-fit [] k e = refl
-turn-fit (x ∷ xs) zero e = then-first x (inTurn xs) e
-turn-fit (x ∷ xs) (suc k) e = turn-fit xs k (then-second x (inTurn xs) e)
+-- a field that passes questions 1 to 4: it starts inside the file, and its number of entries is one that is allowed
+record Allowed (end : ℕ) (f : Field) (x : Span) : Type 0 where
+  inside : x .start ≤ end
+  enough : f .least ≤ x .count
+  few : x .count ≤ f .most
 
--- a field's number of entries is one that is allowed
-record Allowed (f : Field) (count : ℕ) : Type 0 where
-  enough : f .least ≤ count
-  few : count ≤ f .most
-
-head-fit : (s : List ℕ) (at : ℕ) (f : Field) → headValidity s at f ≡ Fit → Allowed f (contentLength s at / f .width)
-unfolding headValidity wholeEntries
+head-fit : (s : List ℕ) (at : ℕ) (f : Field) → headValidity (length s) (headAt s at) f ≡ Fit → Allowed (length s) f (headSpan (headAt s at) f)
+unfolding headFound headSpan wholeEntries
 head-fit s at f e =
-    let count = contentLength s at / f .width in
-    let whole = three (eqb (contentLength s at % f .width) 0) (leb (f .least) count) (leb count (f .most)) (ask-fit _ 3 at (turn-fit _ 2 e)) in
-    record { enough = leb-true _ _ (whole .1); few = leb-true _ _ (whole .2) }
+    let len = wordAt s (at + 1) in
+    let head = whole s at f e in
+    let counts = three (eqb (len % f .width) 0) (leb (f .least) (len / f .width)) (leb (len / f .width) (f .most)) (head .known .entries) in
+    rw (head .found) (record { inside = omega (arith, head .known .inside); enough = leb-true _ _ (counts .1); few = leb-true _ _ (counts .2) })
 
 -- the numbers of entries that the heads of the four fields allow: "1 to 32", "0 to 512", "0 to 256", "1 to 256"
 pub record Counts (s : List ℕ) : Type 0 where
@@ -49,21 +46,36 @@ pub record Counts (s : List ℕ) : Type 0 where
   pub some-command : 1 ≤ entryCount s Commands
   pub commands : entryCount s Commands ≤ 256
 
-pub counts-allowed : (s : List ℕ) → headsValidity s 0 programFields ≡ Fit → Counts s
-unfolding headsValidity programFields nameCount entryCount spanOf layoutOf spanAt
-counts-allowed s e =
-    let first = head-fit s (fieldStart s 0) _ (then-first _ _ e) in
-    let second = then-second _ _ e in
-    let third = then-second _ _ second in
-    let last = head-fit s (fieldStart s 3) _ (then-first _ _ (then-second _ _ third)) in
-    record {
-      some-name = first .enough;
-      names = first .few;
-      arithmetic = head-fit s (fieldStart s 1) _ (then-first _ _ second) .few;
-      boolean = head-fit s (fieldStart s 2) _ (then-first _ _ third) .few;
-      some-command = last .enough;
-      commands = last .few;
-    }
+module _ (s : List ℕ) (e : headsValidity s 0 programFields ≡ Fit) where
+  names-allowed : Allowed (length s) namesField (layoutOf s .names)
+  unfolding programFields layoutOf fieldHead
+  names-allowed = head-fit s (fieldStart s 0) _ (field-fit s e 0 (omega arith))
+
+  table-allowed : (t : Table) → Allowed (length s) (tableField t) (spanOf (layoutOf s) t)
+  unfolding programFields layoutOf fieldHead spanOf
+  table-allowed Arithmetic = head-fit s (fieldStart s 1) _ (field-fit s e 1 (omega arith))
+  table-allowed Boolean = head-fit s (fieldStart s 2) _ (field-fit s e 2 (omega arith))
+  table-allowed Commands = head-fit s (fieldStart s 3) _ (field-fit s e 3 (omega arith))
+
+  pub laid-out : (l : Layout) → l ≡ layoutOf s → LaidOut s l
+  laid-out l same =
+      record {
+        same = same;
+        inside = λ t. omega (arith, ap (λ (x : Layout). spanOf x t .start) same, table-allowed t .inside);
+        few = λ t. omega (arith, ap (λ (x : Layout). spanOf x t .count) same, table-allowed t .few);
+      }
+
+  pub counts-allowed : Counts s
+  unfolding namesField tableField nameCount entryCount
+  counts-allowed =
+      record {
+        some-name = names-allowed .enough;
+        names = names-allowed .few;
+        arithmetic = table-allowed Arithmetic .few;
+        boolean = table-allowed Boolean .few;
+        some-command = table-allowed Commands .enough;
+        commands = table-allowed Commands .few;
+      }
 
 module _ (s : List ℕ) (fit : validity s ≡ Fit) where
   content-fit : contentValidity s ≡ Fit
@@ -77,6 +89,10 @@ module _ (s : List ℕ) (fit : validity s ≡ Fit) where
   pub counts : Counts s
   unfolding validity
   counts = counts-allowed s (turn-fit _ 0 fit)
+
+  pub fit-laid-out : (l : Layout) → l ≡ layoutOf s → LaidOut s l
+  unfolding validity
+  fit-laid-out = laid-out s (turn-fit _ 0 fit)
 
   pub one-last : entryCount s Commands ≡ suc (lastCommand s)
   unfolding lastCommand
@@ -110,7 +126,7 @@ module _ (s : List ℕ) (fit : validity s ≡ Fit) where
 
   -- question 10, of the commands
   pub used-once : (n : ℕ) → n < lastCommand s → uses s Commands n ≡ 1
-  unfolding useValidity usesValidity
+  unfolding useValidity usesValidity usedValidity toBeUsed lastCommand
   used-once n h = eqb-true (uses s Commands n) 1 (ask-fit _ 10 _ (each-fit _ _ (turn-fit _ 2 uses-fit) n h))
 
   -- question 11

@@ -1,84 +1,91 @@
--- Heads at places: where one stands and where none does, and that a reader from the start finds the fields' own.
-use mathlib.Core.Path.{_≡_, refl, ap, sym, _∙_}
-use mathlib.Core.Bool.{Bool, true, false, cond}
+-- What questions 1 to 4 say of the heads of a program that passes them.
+use mathlib.Core.Path.{_≡_, refl}
+use mathlib.Core.Bool.{Bool, true, false, cond, false≢true}
 use mathlib.Core.List.{List}
-use mathlib.Core.Logic.{_⊎_, inl, inr, ⊎-elim}
-use Prim.Native.Nat.{ℕ, zero, suc, _+_, _≤_, _<_}
+use Prim.Native.Nat.{ℕ, zero, suc, _+_, _/_, _≤_, _<_}
 use native.Mathlib.Omega.{arith}
-use borrow.Author.Tests.{leb-true, leb-false, le-leb, lt-leb}
-use lib.Dec.{leb}
-use lib.ListN.{length}
-use Rattle.program.specs.File.{nextField, fieldStart}
-use Rattle.program.specs.Reader.{fieldHead, headAt, afterHead, nextPlace, placeAfter}
+use lib.Dec.{eqb, leb}
+use lib.ListN.{length, getD}
+use borrow.Author.Tests.{leb-true, le-leb}
+use Rattle.program.specs.Asking.{ask, thenAsk, inTurn}
+use Rattle.program.specs.File.{wordAt, namesField, programFields, headFound, headAt, afterHead, placeAfter, fieldStart, fieldHead, headSpan}
+use Rattle.program.specs.Questions.{wholeEntries, headValidity, headsValidity}
+use Rattle.program.specs.declared.Field.{Field}
 use Rattle.program.specs.declared.FieldHead.{FieldHead}
+use Rattle.program.specs.declared.Head.{Head}
 use Rattle.program.specs.declared.Head.the-variants.{Short, Found}
+use Rattle.program.specs.declared.Validity.the-variants.{Fit}
+use Rattle.program.proofs.Asking.{ask-fit, then-first, then-second, turn-fit}
+use Rattle.program.proofs.Reading.{head-there}
 
-pub head-there : (s : List ℕ) (at : ℕ) → at + 3 ≤ length s → headAt s at ≡ Found (fieldHead s at)
-unfolding headAt
-head-there s at h = rw (le-leb _ _ h)
+-- what questions 2 to 4 say of a head that is there
+pub record Asked (end : ℕ) (h : FieldHead) (f : Field) : Type 0 where
+  pub tagged : eqb (h .tag) (f .tag) ≡ true
+  pub entries : wholeEntries f (h .length) ≡ true
+  pub inside : h .next ≤ end
 
-pub head-short : (s : List ℕ) (at : ℕ) → length s < at + 3 → headAt s at ≡ Short
-unfolding headAt
-head-short s at h = rw (lt-leb _ _ h)
+asked : (end : ℕ) (h : FieldHead) (f : Field) → headValidity end (Found h) f ≡ Fit → Asked end h f
+unfolding headValidity
+asked end h f e =
+    record {
+      tagged = ask-fit _ 2 (h .start) (turn-fit _ 0 e);
+      entries = ask-fit _ 3 (h .start) (turn-fit _ 1 e);
+      inside = leb-true _ _ (ask-fit _ 4 (h .start) (turn-fit _ 2 e));
+    }
 
--- what a head that is found, or none, says of the file
-pub found-short : (s : List ℕ) (at : ℕ) → headAt s at ≡ Short → leb (at + 3) (length s) ≡ false
-unfolding headAt
-found-short s at e = go (leb (at + 3) (length s)) e
+-- they are fit too where the file ends earlier, but not before the field does
+pub ends-earlier : (end earlier : ℕ) (h : Head) (f : Field) → headValidity end h f ≡ Fit → afterHead h ≤ earlier → headValidity earlier h f ≡ Fit
+unfolding headValidity afterHead inTurn thenAsk ask
+ends-earlier end earlier (Short at) f e l = e
+ends-earlier end earlier (Found h) f e l =
+    let known = asked end h f e in
+    rw (known .tagged, known .entries, le-leb (h .next) earlier l)
+
+-- a field that passes questions 1 to 4, at a place
+pub record Whole (s : List ℕ) (at : ℕ) (f : Field) : Type 0 where
+  pub found : headAt s at ≡ Found (headFound s at)
+  pub known : Asked (length s) (headFound s at) f
+
+pub whole : (s : List ℕ) (at : ℕ) (f : Field) → headValidity (length s) (headAt s at) f ≡ Fit → Whole s at f
+unfolding headAt headValidity
+whole s at f e = go (leb (at + 3) (length s)) refl e
   where
-    go : (b : Bool) → cond b (Found (fieldHead s at)) Short ≡ Short → b ≡ false
-    go true e = absurd (let z : _≡_ {A = ℕ} 0 1 = cc in omega arith)
-    go false e = refl
+    go : (b : Bool) → leb (at + 3) (length s) ≡ b → headValidity (length s) (cond b (Found (headFound s at)) (Short at)) f ≡ Fit → Whole s at f
+    go true t e = record { found = head-there s at (leb-true _ _ t); known = asked (length s) (headFound s at) f e }
+    go false t e = absurd (false≢true (ask-fit false 1 at e))
 
-pub found-there : (s : List ℕ) (at : ℕ) (h : FieldHead) → headAt s at ≡ Found h → (leb (at + 3) (length s) ≡ true) × (fieldHead s at ≡ h)
-unfolding headAt
-found-there s at h e = go (leb (at + 3) (length s)) e
-  where
-    go : (b : Bool) → cond b (Found (fieldHead s at)) Short ≡ Found h → (b ≡ true) × (fieldHead s at ≡ h)
-    go true e = (refl, cc)
-    go false e = absurd (let z : _≡_ {A = ℕ} 0 1 = cc in omega arith)
+-- the four fields of a program
+module _ (s : List ℕ) (fit : headsValidity s 0 programFields ≡ Fit) where
+  pub field-fit : (k : ℕ) → k < 4 → headValidity (length s) (fieldHead s k) (getD programFields k namesField) ≡ Fit
+  unfolding headsValidity programFields
+  field-fit zero h = then-first _ _ fit
+  field-fit (suc zero) h = then-first _ _ (then-second _ _ fit)
+  field-fit (suc (suc zero)) h = then-first _ _ (then-second _ _ (then-second _ _ fit))
+  field-fit (suc (suc (suc zero))) h = then-first _ _ (then-second _ _ (then-second _ _ (then-second _ _ fit)))
+  field-fit (suc (suc (suc (suc k)))) h = absurd (omega arith)
 
-next-there : (s : List ℕ) (at : ℕ) → at + 3 ≤ length s → nextPlace s at ≡ nextField s at
-unfolding nextPlace afterHead fieldHead
-next-there s at h = rw (head-there s at h)
+  field-whole : (k : ℕ) → k < 4 → Whole s (fieldStart s k) (getD programFields k namesField)
+  unfolding fieldHead
+  field-whole k h = whole s (fieldStart s k) _ (field-fit k h)
 
-next-short : (s : List ℕ) (at : ℕ) → length s < at + 3 → nextPlace s at ≡ at
-unfolding nextPlace afterHead
-next-short s at h = rw (head-short s at h)
+  pub next-start : (k : ℕ) → k < 4 → fieldStart s (suc k) ≡ fieldStart s k + 3 + wordAt s (fieldStart s k + 1)
+  unfolding placeAfter afterHead headFound
+  next-start k h = rw (field-whole k h .found)
 
-field-further : (s : List ℕ) (at : ℕ) → at + 3 ≤ nextField s at
-unfolding nextField
-field-further s at = omega arith
+  -- no field ends past the last
+  pub ends-before : (k : ℕ) → k < 4 → fieldStart s (suc k) ≤ fieldStart s 4
+  ends-before zero h = omega (arith, next-start 1 (omega arith), next-start 2 (omega arith), next-start 3 (omega arith))
+  ends-before (suc zero) h = omega (arith, next-start 2 (omega arith), next-start 3 (omega arith))
+  ends-before (suc (suc zero)) h = omega (arith, next-start 3 (omega arith))
+  ends-before (suc (suc (suc zero))) h = omega arith
+  ends-before (suc (suc (suc (suc k)))) h = absurd (omega arith)
 
--- a reader is where the field starts, or no head stands at either place
-abbrev Along : List ℕ → ℕ → ℕ → Type 0
-Along s p f = (p ≡ f) ⊎ ((length s < p + 3) × (length s < f + 3))
+  pub end-inside : fieldStart s 4 ≤ length s
+  unfolding headFound
+  end-inside = omega (arith, next-start 3 (omega arith), field-whole 3 (omega arith) .known .inside)
 
-one-further : (s : List ℕ) (p f : ℕ) → Along s p f → Along s (nextPlace s p) (nextField s f)
-one-further s p f =
-    ⊎-elim
-    (λ (e : p ≡ f). by e (leb (p + 3) (length s)) refl)
-    (λ (h : (length s < p + 3) × (length s < f + 3)). inr (stays (h .0), further (h .1)))
-  where
-    stays : length s < p + 3 → length s < nextPlace s p + 3
-    stays h = let e = next-short s p h in omega arith
-
-    further : length s < f + 3 → length s < nextField s f + 3
-    further h = let l = field-further s f in omega arith
-
-    by : p ≡ f → (b : Bool) → leb (p + 3) (length s) ≡ b → Along s (nextPlace s p) (nextField s f)
-    by e true t = inl (next-there s p (leb-true _ _ t) ∙ ap (nextField s) e)
-    by e false t = let h = leb-false _ _ t in inr (stays h, further (omega arith))
-
-along : (s : List ℕ) (k : ℕ) → Along s (placeAfter s 0 k) (fieldStart s k)
-unfolding placeAfter fieldStart
-along s zero = inl refl
-along s (suc k) = one-further s (placeAfter s 0 k) (fieldStart s k) (along s k)
-
--- what a reader finds after k fields from the start is the head of the field with k before it
-pub head-after : (s : List ℕ) (k : ℕ) → headAt s (placeAfter s 0 k) ≡ headAt s (fieldStart s k)
-head-after s k =
-    ⊎-elim
-    (λ (e : placeAfter s 0 k ≡ fieldStart s k). ap (headAt s) e)
-    (λ (h : (length s < placeAfter s 0 k + 3) × (length s < fieldStart s k + 3)). head-short s (placeAfter s 0 k) (h .0) ∙ sym (head-short s (fieldStart s k) (h .1)))
-    (along s k)
+  -- where the content of a field is
+  pub field-span : (k : ℕ) → k < 4 → (f : Field)
+      → headSpan (fieldHead s k) f ≡ record { start = fieldStart s k + 3; count = wordAt s (fieldStart s k + 1) / f .width }
+  unfolding fieldHead headSpan headFound
+  field-span k h f = rw (field-whole k h .found)

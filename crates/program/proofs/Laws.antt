@@ -2,7 +2,7 @@
 use mathlib.Core.Path.{_≡_}
 use mathlib.Core.Bool.{Bool, true, false}
 use mathlib.Core.List.{List}
-use Prim.Native.Nat.{ℕ, suc, _+_, _≤_, _<_}
+use Prim.Native.Nat.{ℕ, suc, _+_, _*_, _/_, _%_, _≤_, _<_}
 use lib.Dec.{T}
 use lib.IntN.{pos}
 use lib.ListN.{length, getD}
@@ -12,7 +12,7 @@ use Rattle.program.specs.File.{nameCount, sizeAt, sizes, entryCount, ent
 use Rattle.program.specs.FirstSuch.{firstOf, firstSuch}
 use Rattle.program.specs.Graph.{Edge, edges, edgeCount, nodeCount, graphBytes}
 use Rattle.program.specs.Kind.{isGuarded}
-use Rattle.program.specs.Questions.{validity}
+use Rattle.program.specs.Questions.{validity, inputValidity, programPart, initialPart}
 use Rattle.program.specs.Sorted.{arithNamed, booleanNamed, commandNamed, arithPoints, booleanPoints, isGuardedTree, commandPoints}
 use Rattle.program.specs.Syntax.{number, arithEntry, truth, booleanEntry, skip, commandEntry}
 use Rattle.program.specs.Tree.{arithBelow, booleanBelow, commandBelow, arithNode, arithTrees, arithAt, booleanNode, booleanTrees, booleanAt, commandNode, commandTrees, commandAt, script}
@@ -31,6 +31,7 @@ use Rattle.program.proofs.FirstSuch
 use Rattle.program.proofs.FirstSuch.{Foremost, FirstPassing}
 use Rattle.program.proofs.Fit as Fitness
 use Rattle.program.proofs.Fit.{Counts as Allowed}
+use Rattle.program.proofs.Inputs
 use Rattle.program.proofs.Made.{made}
 use Rattle.program.proofs.Nodes
 use Rattle.program.proofs.Nodes.{Inside}
@@ -123,7 +124,8 @@ module _ (s : List ℕ) where
 -- ---- First such
 
 -- the first answer depends on the answers below n alone
-pub first-same : {A : Type 0} (settles : A → Bool) (nothing : A) (n : ℕ) (f g : ℕ → A) → ((k : ℕ) → k < n → f k ≡ g k) → firstOf settles nothing n f ≡ firstOf settles nothing n g
+pub first-same : {A : Type 0} (settles : A → Bool) (nothing : A) (n : ℕ) (f g : ℕ → A) → ((k : ℕ) → k < n → f k ≡ g k)
+    → firstOf settles nothing n f ≡ firstOf settles nothing n g
 first-same = FirstSuch.first-same
 
 -- where `nothing` is the one answer that settles nothing
@@ -187,7 +189,7 @@ pub then-second : (a b : Validity) → thenAsk a b ≡ Fit → b ≡ Fit
 then-second = Asking.then-second
 
 pub turn-fit : (xs : List Validity) (k : ℕ) → inTurn xs ≡ Fit → getD xs k Fit ≡ Fit
-turn-fit = Fitness.turn-fit
+turn-fit = Asking.turn-fit
 
 pub each-fit : (n : ℕ) (q : ℕ → Validity) → askEach n q ≡ Fit → (k : ℕ) → k < n → q k ≡ Fit
 each-fit = Asking.each-fit
@@ -282,3 +284,26 @@ module _ (s : List ℕ) (fit : validity s ≡ Fit) where
   -- an edge is read back out of a buffer that the graph was drawn into
   pub drawn-edge-read : (k : ℕ) (d : Edge) → k < edgeCount s → (buffer : List ℕ) → edgeRead (over (graphBytes s) buffer) k ≡ edgeNumbers (getD (edges s) k d)
   drawn-edge-read = EdgeReading.drawn-edge-read s fit
+
+-- ---- The sheet program's input, where it passes questions 1 to 11
+
+module _ (s : List ℕ) (fit : inputValidity s ≡ Fit) where
+  -- the program part is well formed, and has the input's names
+  pub program-fit : validity (programPart s) ≡ Fit
+  program-fit = Inputs.program-fit s fit
+
+  pub program-names : nameCount (programPart s) ≡ nameCount s
+  program-names = Inputs.program-names s fit
+
+  pub program-sizes : sizes (programPart s) ≡ sizes s
+  program-sizes = Inputs.program-sizes s fit
+
+  -- "the start list (0 to 512 records)": whole records of a byte per name, at most 512
+  pub initial-whole : length (initialPart s) % nameCount (programPart s) ≡ 0
+  initial-whole = Inputs.initial-whole s fit
+
+  pub initial-records : length (initialPart s) ≡ length (initialPart s) / nameCount (programPart s) * nameCount (programPart s)
+  initial-records = Inputs.initial-records s fit
+
+  pub initial-few : length (initialPart s) / nameCount (programPart s) ≤ 512
+  initial-few = Inputs.initial-few s fit

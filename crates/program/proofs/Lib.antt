@@ -21,6 +21,8 @@ pub mod Counts
 pub mod Strips
 pub mod Drawings
 pub mod EdgeReading
+pub mod Agreeing
+pub mod Inputs
 pub mod Laws
 pub mod Open
 pub mod Examples

@@ -1,16 +1,13 @@
 -- Laws of lists: lists that grow at their end, and what holds of every element.
 use mathlib.Core.Path.{_≡_, refl, sym, _∙_, ap}
-use mathlib.Core.Bool.{Bool}
 use mathlib.Core.List.{List, [], _∷_, _++_}
 use Prim.Native.Nat.{ℕ, zero, suc, _≤_, _<_}
 use native.Mathlib.Nat.{le-of-suc-le-suc, not-suc-le-zero}
 use native.Mathlib.Omega.{arith}
 use native.Mathlib.Decide.{ℕ-discrete}
-use lib.Dec.{T}
 use lib.ListN.{length, getD, length-append, List·getD-append, List·getD-eq-default, replicate}
 use lib.Seq.{getD-append-seam}
-use Rattle.signs.specs.Lists.{allOf, tabulate}
-use Rattle.program.proofs.Tests.{both, passed, is-true}
+use Rattle.signs.specs.Lists.{tabulate}
 
 -- a list that gets one element more at its end each time: its length is the number of times, and it holds each element at its place
 module _ {A : Type 0} (list : ℕ → List A) (at : ℕ → A) (empty : list 0 ≡ []) (grows : (n : ℕ) → list (suc n) ≡ list n ++ (at n ∷ [])) where
@@ -39,6 +36,11 @@ module _ {A : Type 0} (n : ℕ) (f : ℕ → A) where
   unfolding tabulate
   getD-tabulate i d h = grown-at (λ k. tabulate k f) f refl (λ k. refl) n i d h
 
+pub tabulate-same : {A : Type 0} (n : ℕ) (f g : ℕ → A) → ((i : ℕ) → i < n → f i ≡ g i) → tabulate n f ≡ tabulate n g
+unfolding tabulate
+tabulate-same zero f g h = refl
+tabulate-same (suc n) f g h = rw (tabulate-same n f g (λ i l. h i (omega arith)), h n (omega arith))
+
 -- one value all along and past the end
 pub getD-same : {A : Type 0} (m : ℕ) (a : A) (k : ℕ) → getD (replicate m a) k a ≡ a
 getD-same zero a k = refl
@@ -60,9 +62,3 @@ module _ {A : Type 0} {P : A → Type 0} where
   each-at k d none l = absurd (not-suc-le-zero l)
   each-at zero d (more p h) l = p
   each-at (suc k) d (more p h) l = each-at k d h (le-of-suc-le-suc l)
-
-  -- a test that every element with the property passes
-  pub each-allOf : {xs : List A} (f : A → Bool) → ((x : A) → P x → T (f x)) → Each P xs → T (allOf f xs)
-  unfolding allOf
-  each-allOf f g none = tt
-  each-allOf f g (more {x = x} {xs = xs} p h) = passed (both (is-true (f x) (g x p)) (is-true (allOf f xs) (each-allOf f g h)))

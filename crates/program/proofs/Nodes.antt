@@ -1,20 +1,14 @@
 -- Edges leave and enter nodes of the graph, and no edge leaves the end node (book, Proposition 2.12).
-use mathlib.Core.Path.{ap}
-use mathlib.Core.Bool.{not, _&&_}
 use mathlib.Core.Logic.{_≢_}
 use mathlib.Core.List.{List}
 use Prim.Native.Nat.{ℕ, _+_, _≤_, _<_}
 use native.Mathlib.Nat.{le-refl}
 use native.Mathlib.Omega.{arith}
-use lib.Dec.{T, eqb, ltb}
 use lib.ListN.{getD}
-use borrow.Author.Tests.{lt-ltb, ne-eqb}
-use Rattle.signs.specs.Lists.{allOf}
 use Rattle.program.specs.Graph.{Action, Edge, edge, part, graph, edges, edgeCount, nodeCount}
 use Rattle.program.specs.Syntax.{Command, skip, assign, store, sequence, conditional, iteration, guarded, choice}
 use Rattle.program.specs.Tree.{script}
-use Rattle.program.proofs.Lists.{Each, none, more, each-append, each-at, each-allOf}
-use Rattle.program.proofs.Tests.{both, passed}
+use Rattle.program.proofs.Lists.{Each, none, more, each-append, each-at}
 
 -- what holds of an edge in a graph of so many nodes
 pub record Inside (nodes : ℕ) (e : Edge) : Type 0 where
@@ -69,7 +63,7 @@ module _ (s : List ℕ) where
   unfolding nodeCount graph
   two-nodes = fresh-grows _ 0 1 2
 
-  -- "no edge leaves the end node": of all edges, at an index, and as a test
+  -- "no edge leaves the end node": of all edges, and at an index
   pub edges-inside : Each (Inside (nodeCount s)) (edges s)
   unfolding nodeCount edges graph
   edges-inside =
@@ -79,7 +73,3 @@ module _ (s : List ℕ) where
   pub edge-inside : (k : ℕ) (d : Edge) → k < edgeCount s → Inside (nodeCount s) (getD (edges s) k d)
   unfolding edgeCount
   edge-inside k d h = each-at k d edges-inside h
-
-  pub all-inside : T (allOf (λ e. ltb (e .source) (nodeCount s) && ltb (e .target) (nodeCount s) && not (eqb (e .source) 1)) (edges s))
-  all-inside =
-      each-allOf _ (λ e h. passed (both (both (lt-ltb _ _ (h .source-inside)) (lt-ltb _ _ (h .target-inside))) (ap not (ne-eqb _ _ (h .source-not-end))))) edges-inside

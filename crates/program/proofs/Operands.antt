@@ -17,9 +17,9 @@ use Rattle.program.specs.declared.Shape.the-variants.{Unknown, Known}
 use Rattle.program.specs.declared.Sort.{Sort}
 use Rattle.program.specs.declared.Table.{Table}
 use Rattle.program.specs.declared.Validity.the-variants.{Fit}
-use Rattle.program.proofs.Asking.{ask-fit}
+use Rattle.program.proofs.Asking.{ask-fit, turn-fit}
 use Rattle.program.proofs.Cells.{sizes-length, size-at}
-use Rattle.program.proofs.Fit.{turn-fit, entry-fit}
+use Rattle.program.proofs.Fit.{entry-fit}
 use Rattle.program.proofs.Tests.{two, three}
 
 -- a reference to a lower entry, or to one of an earlier table, that is of its sort

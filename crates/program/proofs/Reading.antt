@@ -1,12 +1,22 @@
--- What stands past the end of a file reads as zero; and the counts in a layout.
-use mathlib.Core.Path.{_≡_, refl, ap}
+-- What stands past the end of a file reads as zero; what the field reader finds; and a layout's spans.
+use mathlib.Core.Path.{_≡_, refl, ap, _∙_}
+use mathlib.Core.Bool.{cond}
 use mathlib.Core.List.{List}
-use Prim.Native.Nat.{ℕ, suc, _+_, _≤_}
+use Prim.Native.Nat.{ℕ, _+_, _*_, _≤_, _<_}
+use native.Mathlib.Decide.{ℕ-discrete}
 use native.Mathlib.Omega.{arith}
+use borrow.Author.Tests.{le-leb, lt-leb, eq-eqb, ne-eqb}
 use lib.ListN.{length, List·getD-eq-default}
-use Rattle.program.specs.File.{byteAt, wordAt, contentLength, nextField, fieldStart, entryAt, layoutOf, spanOf, nameCount, entryCount}
+use Rattle.program.specs.File.{byteAt, wordAt, namesField, tableTag, tableField, headFound, headAt, entryAt, layoutOf, spanOf, nameCount, entryCount, tableStart, entryOffset, entry, cellsOf}
+use Rattle.program.specs.Questions.{headValidity, sameTable, limit}
+use Rattle.program.specs.declared.Entry.{Entry}
+use Rattle.program.specs.declared.Field.{Field}
+use Rattle.program.specs.declared.Head.{Head}
+use Rattle.program.specs.declared.Head.the-variants.{Short, Found}
 use Rattle.program.specs.declared.Layout.{Layout}
+use Rattle.program.specs.declared.Table.{Table}
 use Rattle.program.specs.declared.Table.the-variants.{Arithmetic, Boolean, Commands}
+use Rattle.program.specs.declared.Validity.{Validity}
 
 pub byte-past : (s : List ℕ) (i : ℕ) → length s ≤ i → byteAt s i ≡ 0
 unfolding byteAt
@@ -21,24 +31,72 @@ unfolding entryAt
 entry-past s i h =
     rw (byte-past s i h, word-past s (i + 1) (omega arith), word-past s (i + 3) (omega arith), word-past s (i + 5) (omega arith))
 
--- a field starts after the head and the content of the one before it
-pub field-next : (s : List ℕ) (k : ℕ) → fieldStart s (suc k) ≡ fieldStart s k + 3 + contentLength s (fieldStart s k)
-unfolding fieldStart nextField
-field-next s k = refl
+-- what the field reader finds where three bytes are left, and where they are not
+pub head-there : (s : List ℕ) (at : ℕ) → at + 3 ≤ length s → headAt s at ≡ Found (headFound s at)
+unfolding headAt
+head-there s at h = rw (le-leb _ _ h)
 
--- the counts that a file's layout holds
-pub record LayoutCounts (s : List ℕ) (l : Layout) : Type 0 where
-  pub names : l .names .count ≡ nameCount s
-  pub arithmetic : l .arithmetic .count ≡ entryCount s Arithmetic
-  pub boolean : l .boolean .count ≡ entryCount s Boolean
-  pub commands : l .commands .count ≡ entryCount s Commands
+pub head-short : (s : List ℕ) (at : ℕ) → length s < at + 3 → headAt s at ≡ Short at
+unfolding headAt
+head-short s at h = rw (lt-leb _ _ h)
 
-pub layout-counts : (s : List ℕ) (l : Layout) → l ≡ layoutOf s → LayoutCounts s l
-unfolding nameCount entryCount spanOf
-layout-counts s l e =
-    record {
-      names = ap (λ (x : Layout). x .names .count) e;
-      arithmetic = ap (λ (x : Layout). x .arithmetic .count) e;
-      boolean = ap (λ (x : Layout). x .boolean .count) e;
-      commands = ap (λ (x : Layout). x .commands .count) e;
-    }
+-- what a file's layout holds
+module _ (s : List ℕ) (l : Layout) (e : l ≡ layoutOf s) where
+  pub laid-names : l .names .count ≡ nameCount s
+  unfolding nameCount
+  laid-names = ap (λ (x : Layout). x .names .count) e
+
+  pub laid-count : (t : Table) → spanOf l t .count ≡ entryCount s t
+  unfolding entryCount
+  laid-count t = ap (λ (x : Layout). spanOf x t .count) e
+
+  pub laid-start : (t : Table) → spanOf l t .start ≡ tableStart s t
+  unfolding tableStart
+  laid-start t = ap (λ (x : Layout). spanOf x t .start) e
+
+  -- the references from entry n of table t to table u are below this number
+  pub laid-limit : (t : Table) (n : ℕ) (u : Table) → cond (sameTable t u) n (spanOf l u .count) ≡ limit s t n u
+  unfolding limit
+  laid-limit t n u = ap (cond (sameTable t u) n) (laid-count u)
+
+-- where an entry stands, and what is read there, by its table's start
+pub entry-in : (s : List ℕ) (t : Table) (start m n : ℕ) → start ≡ tableStart s t → m ≡ n → start + 7 * m ≡ entryOffset s t n
+unfolding entryOffset
+entry-in s t start m n e f = λ i. e i + 7 * f i
+
+pub entry-read : (s : List ℕ) (t : Table) (start m n : ℕ) {e : Entry} → e ≡ entryAt s (start + 7 * m) → start ≡ tableStart s t → m ≡ n → e ≡ entry s t n
+unfolding entry
+entry-read s t start m n r e f = r ∙ ap (entryAt s) (entry-in s t start m n e f)
+
+-- an entry of a field is not empty
+pub names-wide : {f : Field} → f ≡ namesField → 0 < f .width
+unfolding namesField
+names-wide e = omega (arith, ap (λ (x : Field). x .width) e)
+
+table-width : (t : Table) → tableField t .width ≡ 7
+unfolding tableField
+table-width Arithmetic = refl
+table-width Boolean = refl
+table-width Commands = refl
+
+pub table-tag : (t : Table) → tableField t .tag ≡ tableTag t
+unfolding tableField
+table-tag Arithmetic = refl
+table-tag Boolean = refl
+table-tag Commands = refl
+
+pub table-wide : {f : Field} (t : Table) → f ≡ tableField t → 0 < f .width
+table-wide t e = omega (arith, ap (λ (x : Field). x .width) e, table-width t)
+
+-- questions 1 to 4 of a head that was found and a field that was made
+pub asked-head : (end : ℕ) {h g : Head} {f k : Field} {v : Validity} → v ≡ headValidity end h f → h ≡ g → f ≡ k → v ≡ headValidity end g k
+asked-head end e p q = e ∙ (λ i. headValidity end (p i) (q i))
+
+-- a name whose size is a number of two bytes has fewer cells than there are such numbers
+pub cells-few : (n : ℕ) → n < 65536 → cellsOf n < 65536
+unfolding cellsOf
+cells-few n h =
+    elim (ℕ-discrete n 0) [
+      | yes e ↦ rw (eq-eqb n 0 e) (omega arith)
+      | no f ↦ rw (ne-eqb n 0 f) h
+    ]

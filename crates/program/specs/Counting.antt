@@ -3,15 +3,14 @@ use Prim.Native.Nat.{ℕ, _+_, _<_, _≤_, min}
 use mathlib.Core.List.{List}
 use mathlib.Core.Path.{_≡_}
 use lib.ListN.{length, getD}
+use Rattle.program.specs.File.{tableField}
 use Rattle.program.specs.Questions.{uses}
 use Rattle.program.specs.declared.Table.{Table}
 use Rattle.program.specs.declared.Table.the-variants.{Arithmetic, Boolean, Commands}
 
 -- the most entries that a table has
 unfoldable pub capacity : Table → ℕ
-capacity Arithmetic = 512
-capacity Boolean = 256
-capacity Commands = 256
+capacity t = tableField t .most
 
 -- the slot of entry n of a table
 unfoldable pub slot : Table → ℕ → ℕ

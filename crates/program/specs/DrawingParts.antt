@@ -6,7 +6,7 @@ use mathlib.Core.List.{List, [], _∷_, _++_, flatMap}
 use lib.Dec.{ltb}
 use lib.ListN.{length, take, drop, getD}
 use Rattle.program.specs.Drawing.{over}
-use Rattle.program.specs.File.{entry}
+use Rattle.program.specs.File.{tableStart, entry}
 use Rattle.program.specs.Graph.{part, wordBytes, edgeBytes, edgeCount, nodeCount, graphBytes}
 use Rattle.program.specs.Syntax.{Command}
 use Rattle.program.specs.Tree.{commandBelow, commandTrees}
@@ -49,6 +49,16 @@ pub record DrewAll (s before after : List ℕ) (r : Counts) : Type 0 where
 pub record Room (x : Strip) (at size : ℕ) : Type 0 where
   pub bytes-fit : at + length (x .bytes) ≤ size
   pub nodes-fit : x .fresh < 65536
+
+-- where the commands start: inside the file
+pub record CommandsAt (s : List ℕ) (start : ℕ) : Type 0 where
+  pub same : start ≡ tableStart s Commands
+  pub inside : start ≤ length s
+
+-- what drawing a part of a file's commands needs
+pub record Ready (s : List ℕ) (start : ℕ) (x : Strip) (at size : ℕ) : Type 0 where
+  pub commands : CommandsAt s start
+  pub room : Room x at size
 
 -- what the drawing of a command goes by: its kind, and the entries of its parts
 unfoldable pub constructBy : Entry → Construct

@@ -1,12 +1,17 @@
 -- The program file: numbers, fields and entries (document 01, "The script file"). All reading is total: a byte past the end is 0.
-use Prim.Native.Nat.{ℕ, zero, suc, _+_, _*_, _/_, _-_, _<_}
+use mathlib.Core.Path.{_≡_}
+use Prim.Native.Nat.{ℕ, zero, suc, _+_, _*_, _/_, _-_, _≤_}
 use mathlib.Core.Bool.{cond}
 use mathlib.Core.List.{List, [], _∷_, map, sum}
-use lib.Dec.{eqb, ltb}
-use lib.ListN.{getD, take}
+use lib.Dec.{eqb, leb, ltb}
+use lib.ListN.{length, getD, take, drop}
 use lib.IntN.{ℤ, pos, negsuc}
 use Rattle.signs.specs.Lists.{tabulate}
 use Rattle.program.specs.declared.Entry.{Entry}
+use Rattle.program.specs.declared.Field.{Field}
+use Rattle.program.specs.declared.FieldHead.{FieldHead}
+use Rattle.program.specs.declared.Head.{Head}
+use Rattle.program.specs.declared.Head.the-variants.{Short, Found}
 use Rattle.program.specs.declared.Layout.{Layout}
 use Rattle.program.specs.declared.Span.{Span}
 use Rattle.program.specs.declared.Table.{Table}
@@ -23,59 +28,85 @@ wordAt s i = byteAt s i * 256 + byteAt s (i + 1)
 unfoldable pub signed32 : ℕ → ℤ
 signed32 n = cond (ltb n 2147483648) (pos n) (negsuc (4294967295 - n))
 
--- what document 01 allows of a field: its tag, the bytes of an entry, and how many entries
-pub record Field : Type 0 where
-  pub tag : ℕ
-  pub width : ℕ
-  pub least : ℕ
-  pub most : ℕ
+-- "Tag 1, names: 1 to 32 entries of two bytes."
+unfoldable pub namesField : Field
+namesField = record { tag = 1; width = 2; least = 1; most = 32 }
 
--- "Tag 1, names: 1 to 32 entries of two bytes." "Tag 2, arithmetic: 0 to 512 entries. Tag 3, boolean: 0 to 256. Tag 4, commands: 1 to 256. Each entry has seven bytes"
-unfoldable pub programFields : List Field
-programFields =
-    record { tag = 1; width = 2; least = 1; most = 32 }
-    ∷ record { tag = 2; width = 7; least = 0; most = 512 }
-    ∷ record { tag = 3; width = 7; least = 0; most = 256 }
-    ∷ record { tag = 4; width = 7; least = 1; most = 256 }
-    ∷ []
+-- "Tag 2, arithmetic: 0 to 512 entries. Tag 3, boolean: 0 to 256. Tag 4, commands: 1 to 256. Each entry has seven bytes"
+abbrev pub tableTag : Table → ℕ
+tableTag Arithmetic = 2
+tableTag Boolean = 3
+tableTag Commands = 4
 
--- "one-byte tag, two-byte length, content": the content's length, and where the next field starts
-unfoldable pub contentLength : List ℕ → ℕ → ℕ
-contentLength s at = wordAt s (at + 1)
-
-unfoldable pub nextField : List ℕ → ℕ → ℕ
-nextField s at = at + 3 + contentLength s at
-
--- where the field with k fields before it starts
-unfoldable pub fieldStart : List ℕ → ℕ → ℕ
-fieldStart s zero = 0
-fieldStart s (suc k) = nextField s (fieldStart s k)
-
--- the content of the field at a place: where it starts, and how many entries of a width it has
-unfoldable pub spanAt : List ℕ → ℕ → ℕ → Span
-spanAt s at width = record { start = at + 3; count = contentLength s at / width }
+unfoldable pub tableField : Table → Field
+tableField Arithmetic = record { tag = tableTag Arithmetic; width = 7; least = 0; most = 512 }
+tableField Boolean = record { tag = tableTag Boolean; width = 7; least = 0; most = 256 }
+tableField Commands = record { tag = tableTag Commands; width = 7; least = 1; most = 256 }
 
 -- "Four fields in order, tags 1 to 4"
+unfoldable pub programFields : List Field
+programFields = namesField ∷ tableField Arithmetic ∷ tableField Boolean ∷ tableField Commands ∷ []
+
+-- "one-byte tag, two-byte length, content": the head that stands at a place, with where its content and the next field start
+unfoldable pub headFound : List ℕ → ℕ → FieldHead
+headFound s at = record { start = at; tag = byteAt s at; length = wordAt s (at + 1); content = at + 3; next = at + 3 + wordAt s (at + 1) }
+
+-- "Are three bytes left for its head?": what the field reader finds at a place
+unfoldable pub headAt : List ℕ → ℕ → Head
+headAt s at = cond (leb (at + 3) (length s)) (Found (headFound s at)) (Short at)
+
+-- where the reader goes from there. It stays where no head stands; question 1 is no there, so no answer to the questions depends on a place further on
+unfoldable pub afterHead : Head → ℕ
+afterHead (Short at) = at
+afterHead (Found h) = h .next
+
+-- where the reader is k fields after a place
+unfoldable pub placeAfter : List ℕ → ℕ → ℕ → ℕ
+placeAfter s at zero = at
+placeAfter s at (suc k) = afterHead (headAt s (placeAfter s at k))
+
+-- where the field with k fields before it starts, and what the reader finds there
+abbrev pub fieldStart : List ℕ → ℕ → ℕ
+fieldStart s k = placeAfter s 0 k
+
+unfoldable pub fieldHead : List ℕ → ℕ → Head
+fieldHead s k = headAt s (fieldStart s k)
+
+-- a head in document 01's numbers: question 1's and its place where there is none, else 0, the tag and the length, and where content and next field start
+unfoldable pub headNumbers : Head → List ℕ
+headNumbers (Short at) = 1 ∷ at ∷ []
+headNumbers (Found h) = 0 ∷ h .tag ∷ h .length ∷ h .content ∷ h .next ∷ []
+
+-- the content of a field: where it starts, and how many entries it has
+unfoldable pub headSpan : Head → Field → Span
+headSpan (Short at) f = record { start = at; count = 0 }
+headSpan (Found h) f = record { start = h .content; count = h .length / f .width }
+
+-- the same as bytes, as far as they are there
+unfoldable pub headContent : List ℕ → Head → List ℕ
+headContent s (Short at) = []
+headContent s (Found h) = take (h .length) (drop (h .content) s)
+
 unfoldable pub layoutOf : List ℕ → Layout
 layoutOf s =
     record {
-      names = spanAt s (fieldStart s 0) 2;
-      arithmetic = spanAt s (fieldStart s 1) 7;
-      boolean = spanAt s (fieldStart s 2) 7;
-      commands = spanAt s (fieldStart s 3) 7;
+      names = headSpan (fieldHead s 0) namesField;
+      arithmetic = headSpan (fieldHead s 1) (tableField Arithmetic);
+      boolean = headSpan (fieldHead s 2) (tableField Boolean);
+      commands = headSpan (fieldHead s 3) (tableField Commands);
     }
-
--- every table starts within reach of four fields' heads and contents, 65,538 bytes each
-pub record Near (l : Layout) : Type 0 where
-  pub arithmetic : l .arithmetic .start < 262152
-  pub boolean : l .boolean .start < 262152
-  pub commands : l .commands .start < 262152
 
 -- a table's part of a file
 unfoldable pub spanOf : Layout → Table → Span
 spanOf l Arithmetic = l .arithmetic
 spanOf l Boolean = l .boolean
 spanOf l Commands = l .commands
+
+-- a layout is the file's, and each table starts inside the file and has as many entries as allowed
+pub record LaidOut (s : List ℕ) (l : Layout) : Type 0 where
+  pub same : l ≡ layoutOf s
+  pub inside : (t : Table) → spanOf l t .start ≤ length s
+  pub few : (t : Table) → spanOf l t .count ≤ tableField t .most
 
 -- the number of names, where name i stands, and the sizes of the names: "0 is a variable, 1 to 64 an array of that size"
 unfoldable pub nameCount : List ℕ → ℕ
@@ -90,12 +121,15 @@ sizeAt s i = wordAt s (nameOffset i)
 unfoldable pub sizes : List ℕ → List ℕ
 sizes s = tabulate (nameCount s) (sizeAt s)
 
--- the number of entries of a table, and where entry n stands
+-- the number of entries of a table, where they start, and where entry n stands
 unfoldable pub entryCount : List ℕ → Table → ℕ
 entryCount s t = spanOf (layoutOf s) t .count
 
+unfoldable pub tableStart : List ℕ → Table → ℕ
+tableStart s t = spanOf (layoutOf s) t .start
+
 unfoldable pub entryOffset : List ℕ → Table → ℕ → ℕ
-entryOffset s t n = spanOf (layoutOf s) t .start + 7 * n
+entryOffset s t n = tableStart s t + 7 * n
 
 -- "a kind and three two-byte operands P, Q, R": the entry at a place, and entry n of a table
 unfoldable pub entryAt : List ℕ → ℕ → Entry

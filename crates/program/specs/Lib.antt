@@ -1,5 +1,4 @@
 pub mod File
-pub mod Reader
 pub mod FirstSuch
 pub mod Asking
 pub mod Kind

@@ -3,11 +3,14 @@ use Prim.Native.Nat.{ℕ, zero, suc, _+_, _/_, _%_, _-_}
 use mathlib.Core.Bool.{Bool, true, false, cond, _&&_}
 use mathlib.Core.List.{List, [], _∷_}
 use lib.Dec.{eqb, leb, ltb}
-use lib.ListN.{length, take, drop}
+use lib.ListN.{length, take}
 use Rattle.program.specs.Asking.{ask, thenAsk, inTurn, askEach}
-use Rattle.program.specs.File.{byteAt, Field, programFields, contentLength, nextField, fieldStart, nameCount, nameOffset, sizeAt, sizes, entryCount, entryOffset, entry, cellCount}
+use Rattle.program.specs.File.{tableTag, programFields, fieldStart, fieldHead, headContent, nameCount, nameOffset, sizeAt, sizes, entryCount, entryOffset, entry, cellCount}
 use Rattle.program.specs.Kind.{shape, tableOf, isCommand, isGuarded}
 use Rattle.program.specs.declared.Entry.{Entry}
+use Rattle.program.specs.declared.Field.{Field}
+use Rattle.program.specs.declared.Head.{Head}
+use Rattle.program.specs.declared.Head.the-variants.{Short, Found}
 use Rattle.program.specs.declared.Role.{Role}
 use Rattle.program.specs.declared.Role.the-variants.{Unused, Half, Variable, Array, To}
 use Rattle.program.specs.declared.Roles.{Roles}
@@ -24,20 +27,21 @@ use Rattle.program.specs.declared.Validity.the-variants.{Fit}
 unfoldable pub wholeEntries : Field → ℕ → Bool
 wholeEntries f len = eqb (len % f .width) 0 && leb (f .least) (len / f .width) && leb (len / f .width) (f .most)
 
--- "Are three bytes left for its head? 1. Is the tag the one due? 2. Is the length whole entries, as many as allowed? 3. Is all the content there? 4." Their place is where the head starts
-unfoldable pub headValidity : List ℕ → ℕ → Field → Validity
-headValidity s at f =
+-- "Are three bytes left for its head? 1. Is the tag the one due? 2. Is the length whole entries, as many as allowed? 3. Is all the content there? 4."
+-- Asked of what the reader finds in a file of so many bytes. Their place is where the head starts
+unfoldable pub headValidity : ℕ → Head → Field → Validity
+headValidity end (Short at) f = ask false 1 at
+headValidity end (Found h) f =
     inTurn
-    (ask (leb (at + 3) (length s)) 1 at
-    ∷ ask (eqb (byteAt s at) (f .tag)) 2 at
-    ∷ ask (wholeEntries f (contentLength s at)) 3 at
-    ∷ ask (leb (nextField s at) (length s)) 4 at
+    (ask (eqb (h .tag) (f .tag)) 2 (h .start)
+    ∷ ask (wholeEntries f (h .length)) 3 (h .start)
+    ∷ ask (leb (h .next) end) 4 (h .start)
     ∷ [])
 
 -- "For each field in turn", from the field with k fields before it
 unfoldable pub headsValidity : List ℕ → ℕ → List Field → Validity
 headsValidity s k [] = Fit
-headsValidity s k (f ∷ fs) = thenAsk (headValidity s (fieldStart s k) f) (headsValidity s (suc k) fs)
+headsValidity s k (f ∷ fs) = thenAsk (headValidity (length s) (fieldHead s k) f) (headsValidity s (suc k) fs)
 
 -- "Then: does the file end after the fourth field? 5", after k fields; its place is the first extra byte
 unfoldable pub endValidity : List ℕ → ℕ → Validity
@@ -56,15 +60,7 @@ named s Array x = ltb x (nameCount s) && ltb 0 (sizeAt s x)
 named s (To sort) x = true
 
 unfoldable pub sameTable : Table → Table → Bool
-sameTable Arithmetic Arithmetic = true
-sameTable Arithmetic Boolean = false
-sameTable Arithmetic Commands = false
-sameTable Boolean Arithmetic = false
-sameTable Boolean Boolean = true
-sameTable Boolean Commands = false
-sameTable Commands Arithmetic = false
-sameTable Commands Boolean = false
-sameTable Commands Commands = true
+sameTable t u = eqb (tableTag t) (tableTag u)
 
 -- "A reference inside one table goes to a lower entry; one to an earlier table goes to an entry that exists": from entry n of table t to table u, the references below this number
 unfoldable pub limit : List ℕ → Table → ℕ → Table → ℕ
@@ -136,6 +132,15 @@ uses s u n =
 unfoldable pub useValidity : List ℕ → Table → ℕ → Validity
 useValidity s t n = ask (eqb (uses s t n) 1) 10 (entryOffset s t n)
 
+-- all of so many entries of a table, "but the last command"
+unfoldable pub toBeUsed : Table → ℕ → ℕ
+toBeUsed Arithmetic count = count
+toBeUsed Boolean count = count
+toBeUsed Commands count = count - 1
+
+unfoldable pub usedValidity : List ℕ → Table → Validity
+usedValidity s t = askEach (toBeUsed t (entryCount s t)) (useValidity s t)
+
 -- "The last is the script."
 unfoldable pub lastCommand : List ℕ → ℕ
 lastCommand s = entryCount s Commands - 1
@@ -148,11 +153,7 @@ lastValidity s = ask (isCommand (entry s Commands (lastCommand s) .kind)) 11 (en
 unfoldable pub usesValidity : List ℕ → Validity
 usesValidity s =
     inTurn
-    (askEach (entryCount s Arithmetic) (useValidity s Arithmetic)
-    ∷ askEach (entryCount s Boolean) (useValidity s Boolean)
-    ∷ askEach (lastCommand s) (useValidity s Commands)
-    ∷ lastValidity s
-    ∷ [])
+    (usedValidity s Arithmetic ∷ usedValidity s Boolean ∷ usedValidity s Commands ∷ lastValidity s ∷ [])
 
 -- questions 6 to 11: "each entry in file order", then their uses
 unfoldable pub contentValidity : List ℕ → Validity
@@ -178,7 +179,7 @@ unfoldable pub inputValidity : List ℕ → Validity
 inputValidity s =
     inTurn
     (headsValidity s 0 programFields
-    ∷ headValidity s (fieldStart s 4) (initialField s)
+    ∷ headValidity (length s) (fieldHead s 4) (initialField s)
     ∷ endValidity s 5
     ∷ contentValidity s
     ∷ [])
@@ -188,4 +189,4 @@ unfoldable pub programPart : List ℕ → List ℕ
 programPart s = take (fieldStart s 4) s
 
 unfoldable pub initialPart : List ℕ → List ℕ
-initialPart s = take (contentLength s (fieldStart s 4)) (drop (fieldStart s 4 + 3) s)
+initialPart s = headContent s (fieldHead s 4)

@@ -1,4 +1,5 @@
--- What questions 8 and 9 say of trees: names that are there and of the right sort, and references that point as they must. The condition of an exit has the first and not the second: its entries are those of commands.
+-- What questions 8 and 9 say of trees: names that are there and of the right sort, and references that point as they must.
+-- The condition of an exit has the first and not the second: its entries are those of commands.
 use Prim.Native.Nat.{ℕ}
 use mathlib.Core.Bool.{Bool, true, false, not, _&&_}
 use mathlib.Core.List.{List}

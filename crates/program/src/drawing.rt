@@ -4,15 +4,13 @@ ghost use mathlib.Core.Path.{_≡_};
 ghost use mathlib.Core.List.{_∷_, []};
 ghost use Prim.Native.Nat.{ℕ, _<_, _≤_, _+_, _*_, _/_, _%_};
 ghost use lib.ListN.{length, take};
-ghost use Rattle.program.specs.Drawing.{drawnBy, drawn, over, drawnBufferBy, drawnBuffer, edgeRead};
-ghost use Rattle.program.specs.DrawingParts.{overAt, edgeRow, strip, edgeStrip, constructOf, partAt, Room, Drew, DrewAll};
-ghost use Rattle.program.specs.Graph.{wordBytes};
-ghost use Rattle.program.specs.Questions.{validity};
-ghost use Rattle.program.specs.declared.Validity.the-variants.{Fit, Refused};
+ghost use Rattle.program.specs.Drawing as spec;
+ghost use Rattle.program.specs.DrawingParts;
+ghost use Rattle.program.specs.Graph;
+ghost use Rattle.program.specs.Questions;
 use crate::Drawn;
 use crate::EdgeBytes;
 use crate::Refusal;
-use crate::Table;
 use crate::Validity;
 use crate::file;
 use crate::validation;
@@ -53,14 +51,14 @@ fn low(x: u16) -> u8
 
 fn put_byte(buffer: &mut [u8], at: usize, x: u8)
     requires { ⌜ at + 1 ≤ length (now buffer) ⌝ }
-    ensures { λ _. ⌜ now (buffer .exit) ≡ overAt at (x ∷ []) (now (buffer .entry)) ⌝ }
+    ensures { λ _. ⌜ now (buffer .exit) ≡ DrawingParts.overAt at (x ∷ []) (now (buffer .entry)) ⌝ }
 {
     buffer[at] = x;
 }
 
 fn put_word(buffer: &mut [u8], at: usize, x: u16)
     requires { ⌜ at + 2 ≤ length (now buffer) ⌝ }
-    ensures { λ _. ⌜ now (buffer .exit) ≡ overAt at (wordBytes x) (now (buffer .entry)) ⌝ }
+    ensures { λ _. ⌜ now (buffer .exit) ≡ DrawingParts.overAt at (Graph.wordBytes x) (now (buffer .entry)) ⌝ }
 {
     put_byte(buffer, at, high(x));
     put_byte(buffer, at + 1, low(x));
@@ -69,7 +67,7 @@ fn put_word(buffer: &mut [u8], at: usize, x: u16)
 // An edge's seven bytes, at a place that has room for them.
 fn put_edge(buffer: &mut [u8], at: usize, source: u16, target: u16, kind: u8, entry: u16)
     requires { ⌜ at + 7 ≤ length (now buffer) ⌝ }
-    ensures { λ _. ⌜ now (buffer .exit) ≡ overAt at (edgeRow source target kind entry) (now (buffer .entry)) ⌝ }
+    ensures { λ _. ⌜ now (buffer .exit) ≡ DrawingParts.overAt at (DrawingParts.edgeRow source target kind entry) (now (buffer .entry)) ⌝ }
 {
     put_word(buffer, at, source);
     put_word(buffer, at + 2, target);
@@ -87,21 +85,22 @@ fn draw_edge(
     entry: u16,
     fresh: u16,
 ) -> Pen
-    requires { ⌜ Room (edgeStrip source target kind entry fresh) at (length (now buffer)) ⌝ }
-    ensures { λ r. ⌜ Drew (edgeStrip source target kind entry fresh) at (now (buffer .entry)) (now (buffer .exit)) r ⌝ }
+    requires { ⌜ DrawingParts.Room (DrawingParts.edgeStrip source target kind entry fresh) at (length (now buffer)) ⌝ }
+    ensures { λ r. ⌜ DrawingParts.Drew (DrawingParts.edgeStrip source target kind entry fresh) at (now (buffer .entry)) (now (buffer .exit)) r ⌝ }
 {
     put_edge(buffer, at, source, target, kind, entry);
     Pen { fresh, at: at + 7 }
 }
 
-// How entry `n` is drawn as a part of entry `bound`: a reference that is not lower is a leaf.
-fn construct_at(s: &[u8], bound: u16, n: u16) -> Construct
-    ensures { λ r. ⌜ r ≡ constructOf (now (s .entry)) bound n ⌝ }
+// How entry `n` of the commands, which start at `start`, is drawn as a part of entry `bound`: a reference that is not lower is a leaf.
+fn construct_at(s: &[u8], start: usize, bound: u16, n: u16) -> Construct
+    requires { ⌜ DrawingParts.CommandsAt (now s) start ⌝ }
+    ensures { λ r. ⌜ r ≡ DrawingParts.constructOf (now (s .entry)) bound n ⌝ }
 {
     if bound <= n {
         return Construct::Leaf;
     }
-    let e = file::entry(s, Table::Commands, n);
+    let e = file::entry_at(s, start + 7 * file::long(n));
     let kind = e.kind;
     match kind {
         3 => Construct::Sequence(e.p, e.q),
@@ -116,6 +115,7 @@ fn construct_at(s: &[u8], bound: u16, n: u16) -> Construct
 // The edges of entry `n`, a part of entry `bound`, from node `a` to node `b`.
 fn draw_part(
     s: &[u8],
+    start: usize,
     bound: u16,
     n: u16,
     a: u16,
@@ -124,28 +124,28 @@ fn draw_part(
     at: usize,
     buffer: &mut [u8],
 ) -> Pen
-    requires { ⌜ Room (strip (partAt (now s) bound n) a b fresh) at (length (now buffer)) ⌝ }
-    ensures { λ r. ⌜ Drew (strip (partAt (now (s .entry)) bound n) a b fresh) at (now (buffer .entry)) (now (buffer .exit)) r ⌝ }
+    requires { ⌜ DrawingParts.Ready (now s) start (DrawingParts.strip (DrawingParts.partAt (now s) bound n) a b fresh) at (length (now buffer)) ⌝ }
+    ensures { λ r. ⌜ DrawingParts.Drew (DrawingParts.strip (DrawingParts.partAt (now (s .entry)) bound n) a b fresh) at (now (buffer .entry)) (now (buffer .exit)) r ⌝ }
 {
-    let c = construct_at(s, bound, n);
+    let c = construct_at(s, start, bound, n);
     match c {
         Construct::Leaf => draw_edge(buffer, at, a, b, 1, n, fresh),
         Construct::Sequence(p, q) => {
-            let first = draw_part(s, n, p, a, fresh, fresh + 1, at, buffer);
-            draw_part(s, n, q, fresh, b, first.fresh, first.at, buffer)
+            let first = draw_part(s, start, n, p, a, fresh, fresh + 1, at, buffer);
+            draw_part(s, start, n, q, fresh, b, first.fresh, first.at, buffer)
         }
-        Construct::Conditional(p) => draw_part(s, n, p, a, b, fresh, at, buffer),
+        Construct::Conditional(p) => draw_part(s, start, n, p, a, b, fresh, at, buffer),
         Construct::Iteration(p) => {
-            let body = draw_part(s, n, p, a, a, fresh, at, buffer);
+            let body = draw_part(s, start, n, p, a, a, fresh, at, buffer);
             draw_edge(buffer, body.at, a, b, 3, p, body.fresh)
         }
         Construct::Guarded(g, p) => {
             let guard = draw_edge(buffer, at, a, fresh, 2, g, fresh + 1);
-            draw_part(s, n, p, fresh, b, guard.fresh, guard.at, buffer)
+            draw_part(s, start, n, p, fresh, b, guard.fresh, guard.at, buffer)
         }
         Construct::Choice(p, q) => {
-            let first = draw_part(s, n, p, a, b, fresh, at, buffer);
-            draw_part(s, n, q, a, b, first.fresh, first.at, buffer)
+            let first = draw_part(s, start, n, p, a, b, fresh, at, buffer);
+            draw_part(s, start, n, q, a, b, first.fresh, first.at, buffer)
         }
     }
 }
@@ -160,11 +160,14 @@ fn edges_in(end: usize) -> u16
 
 // The edges of a well-formed program: there are at most 255.
 fn draw_program(s: &[u8], edges: &mut [u8; 1785]) -> Counts
-    requires { ⌜ validity (now s) ≡ Fit ⌝ }
-    ensures { λ r. ⌜ DrewAll (now (s .entry)) (now (edges .entry)) (now (edges .exit)) r ⌝ }
+    requires { ⌜ Questions.validity (now s) ≡ Validity.Fit ⌝ }
+    ensures { λ r. ⌜ DrawingParts.DrewAll (now (s .entry)) (now (edges .entry)) (now (edges .exit)) r ⌝ }
 {
-    let bound = file::entry_count(s, Table::Commands);
-    let pen = draw_part(s, bound, bound - 1, 0, 1, 2, 0, edges);
+    let l = file::layout(s);
+    let commands = l.commands;
+    let start = commands.start;
+    let bound = commands.count;
+    let pen = draw_part(s, start, bound, bound - 1, 0, 1, 2, 0, edges);
     Counts {
         nodes: pen.fresh,
         edges: edges_in(pen.at),
@@ -174,7 +177,7 @@ fn draw_program(s: &[u8], edges: &mut [u8; 1785]) -> Counts
 // The first `end` bytes over the start of a buffer.
 fn copy_front(buffer: &mut [u8], bytes: &[u8], end: usize)
     requires { ⌜ (end ≤ length (now bytes)) × (end ≤ length (now buffer)) ⌝ }
-    ensures { λ _. ⌜ now (buffer .exit) ≡ over (take end (now (bytes .entry))) (now (buffer .entry)) ⌝ }
+    ensures { λ _. ⌜ now (buffer .exit) ≡ spec.over (take end (now (bytes .entry))) (now (buffer .entry)) ⌝ }
 {
     let mut i: usize = 0;
     while i < end {
@@ -184,7 +187,7 @@ fn copy_front(buffer: &mut [u8], bytes: &[u8], end: usize)
 }
 
 fn refused(x: Refusal) -> Drawn
-    ensures { λ r. ⌜ r ≡ record { validity = Refused x; nodes = 0; edges = 0 } ⌝ }
+    ensures { λ r. ⌜ r ≡ record { validity = Validity.Refused x; nodes = 0; edges = 0 } ⌝ }
 {
     Drawn {
         validity: Validity::Refused(x),
@@ -195,8 +198,8 @@ fn refused(x: Refusal) -> Drawn
 
 // Question 13 of a well-formed program. Its edges are drawn aside first: a buffer that is too short stays as it is.
 fn draw_fit(s: &[u8], buffer: &mut [u8]) -> Drawn
-    requires { ⌜ validity (now s) ≡ Fit ⌝ }
-    ensures { λ r. ⌜ (r ≡ drawn (now (s .entry)) (now (buffer .entry))) × (now (buffer .exit) ≡ drawnBuffer (now (s .entry)) (now (buffer .entry))) ⌝ }
+    requires { ⌜ Questions.validity (now s) ≡ Validity.Fit ⌝ }
+    ensures { λ r. ⌜ (r ≡ spec.drawn (now (s .entry)) (now (buffer .entry))) × (now (buffer .exit) ≡ spec.drawnBuffer (now (s .entry)) (now (buffer .entry))) ⌝ }
 {
     let mut edges = [0u8; 1785];
     let counts = draw_program(s, &mut edges);
@@ -217,8 +220,8 @@ fn draw_fit(s: &[u8], buffer: &mut [u8]) -> Drawn
 
 // The graph of a file of known validity, drawn into a buffer.
 fn draw_valid(s: &[u8], buffer: &mut [u8], v: Validity) -> Drawn
-    requires { ⌜ v ≡ validity (now s) ⌝ }
-    ensures { λ r. ⌜ (r ≡ drawn (now (s .entry)) (now (buffer .entry))) × (now (buffer .exit) ≡ drawnBuffer (now (s .entry)) (now (buffer .entry))) ⌝ }
+    requires { ⌜ v ≡ Questions.validity (now s) ⌝ }
+    ensures { λ r. ⌜ (r ≡ spec.drawn (now (s .entry)) (now (buffer .entry))) × (now (buffer .exit) ≡ spec.drawnBuffer (now (s .entry)) (now (buffer .entry))) ⌝ }
 {
     match v {
         Validity::Fit => draw_fit(s, buffer),
@@ -228,8 +231,8 @@ fn draw_valid(s: &[u8], buffer: &mut [u8], v: Validity) -> Drawn
 
 // The same into an array that every graph fits, so that 13 is not asked.
 fn draw_edges_valid(s: &[u8], edges: &mut [u8; 1785], v: Validity) -> Drawn
-    requires { ⌜ v ≡ validity (now s) ⌝ }
-    ensures { λ r. ⌜ (r ≡ drawnBy (now (s .entry)) (validity (now (s .entry)))) × (now (edges .exit) ≡ drawnBufferBy (now (s .entry)) (now (edges .entry)) (validity (now (s .entry)))) ⌝ }
+    requires { ⌜ v ≡ Questions.validity (now s) ⌝ }
+    ensures { λ r. ⌜ (r ≡ spec.drawnBy (now (s .entry)) (Questions.validity (now (s .entry)))) × (now (edges .exit) ≡ spec.drawnBufferBy (now (s .entry)) (now (edges .entry)) (Questions.validity (now (s .entry)))) ⌝ }
 {
     match v {
         Validity::Fit => {
@@ -246,7 +249,8 @@ fn draw_edges_valid(s: &[u8], edges: &mut [u8; 1785], v: Validity) -> Drawn
 
 // Draws the graph of a program file: the edges' bytes over the start of the buffer.
 pub fn draw(s: &[u8], buffer: &mut [u8]) -> Drawn
-    ensures { λ r. ⌜ (r ≡ drawn (now (s .entry)) (now (buffer .entry))) × (now (buffer .exit) ≡ drawnBuffer (now (s .entry)) (now (buffer .entry))) ⌝ }
+    ensures { λ r. ⌜ (r ≡ spec.drawn (now (s .entry)) (now (buffer .entry))) × (now (buffer .exit) ≡ spec.drawnBuffer (now (s .entry)) (now (buffer .entry))) ⌝ }
+    ensures numbers { λ r. ⌜ spec.drawnNumbers r ≡ spec.drawnNumbers (spec.drawn (now (s .entry)) (now (buffer .entry))) ⌝ }
 {
     let v = validation::validate(s);
     draw_valid(s, buffer, v)
@@ -254,7 +258,7 @@ pub fn draw(s: &[u8], buffer: &mut [u8]) -> Drawn
 
 // The same into an array that every graph fits, so that 13 is not asked.
 pub fn draw_edges(s: &[u8], edges: &mut [u8; 1785]) -> Drawn
-    ensures { λ r. ⌜ (r ≡ drawnBy (now (s .entry)) (validity (now (s .entry)))) × (now (edges .exit) ≡ drawnBufferBy (now (s .entry)) (now (edges .entry)) (validity (now (s .entry)))) ⌝ }
+    ensures { λ r. ⌜ (r ≡ spec.drawnBy (now (s .entry)) (Questions.validity (now (s .entry)))) × (now (edges .exit) ≡ spec.drawnBufferBy (now (s .entry)) (now (edges .entry)) (Questions.validity (now (s .entry)))) ⌝ }
 {
     let v = validation::validate(s);
     draw_edges_valid(s, edges, v)
@@ -262,7 +266,7 @@ pub fn draw_edges(s: &[u8], edges: &mut [u8; 1785]) -> Drawn
 
 // Edge `k` of such bytes.
 pub fn edge_at(bytes: &[u8], k: u16) -> EdgeBytes
-    ensures { λ r. ⌜ r ≡ edgeRead (now (bytes .entry)) k ⌝ }
+    ensures { λ r. ⌜ r ≡ spec.edgeRead (now (bytes .entry)) k ⌝ }
 {
     let at = 7 * file::long(k);
     EdgeBytes {

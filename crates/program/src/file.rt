@@ -2,11 +2,14 @@
 
 ghost use mathlib.Core.Path.{_≡_};
 ghost use Prim.Native.Nat.{_<_, _≤_, _+_, _*_, min};
-ghost use Rattle.program.specs.File.{byteAt, wordAt, entryAt, nextField, fieldStart, spanAt, layoutOf, Near, spanOf, nameCount, sizeAt, sizes, cellsOf, cellCount, firstCell, entryCount, entryOffset, entry};
+ghost use Rattle.program.specs.File as spec;
 use crate::Entry;
+use crate::Field;
+use crate::Head;
 use crate::Layout;
 use crate::Span;
 use crate::Table;
+use crate::reader;
 
 fn wide(b: u8) -> u16
     ensures { λ r. ⌜ r ≡ b ⌝ }
@@ -16,14 +19,14 @@ fn wide(b: u8) -> u16
 
 // The byte at `i`.
 pub fn byte_at(s: &[u8], i: usize) -> u8
-    ensures { λ r. ⌜ r ≡ byteAt (now (s .entry)) i ⌝ }
+    ensures { λ r. ⌜ r ≡ spec.byteAt (now (s .entry)) i ⌝ }
 {
     if i < s.len() { s[i] } else { 0 }
 }
 
 // The number at `i`, its high byte first.
 pub fn word_at(s: &[u8], i: usize) -> u16
-    ensures { λ r. ⌜ r ≡ wordAt (now (s .entry)) i ⌝ }
+    ensures { λ r. ⌜ r ≡ spec.wordAt (now (s .entry)) i ⌝ }
 {
     if i < s.len() {
         wide(byte_at(s, i)) * 256 + wide(byte_at(s, i + 1))
@@ -34,7 +37,7 @@ pub fn word_at(s: &[u8], i: usize) -> u16
 
 // The entry whose kind byte is at `at`.
 pub fn entry_at(s: &[u8], at: usize) -> Entry
-    ensures { λ r. ⌜ r ≡ entryAt (now (s .entry)) at ⌝ }
+    ensures { λ r. ⌜ r ≡ spec.entryAt (now (s .entry)) at ⌝ }
 {
     if at < s.len() {
         Entry {
@@ -59,56 +62,76 @@ pub(crate) fn long(x: u16) -> usize
     x as usize
 }
 
-// Where the field after the one at `at` starts.
-fn next_field(s: &[u8], at: usize) -> usize
-    requires { ⌜ at < 100000000 ⌝ }
-    ensures { λ r. ⌜ (r ≡ nextField (now (s .entry)) at) × (r ≤ at + 65538) ⌝ }
+// What is allowed of the names.
+pub fn names_field() -> Field
+    ensures { λ r. ⌜ r ≡ spec.namesField ⌝ }
 {
-    at + 3 + long(word_at(s, at + 1))
-}
-
-// Where the field with `k` fields before it starts.
-pub fn field_start(s: &[u8], k: u8) -> usize
-    ensures { λ r. ⌜ (r ≡ fieldStart (now (s .entry)) k) × (r ≤ 65538 * k) ⌝ }
-{
-    let mut at: usize = 0;
-    let mut i: u8 = 0;
-    while i < k {
-        at = next_field(s, at);
-        i += 1;
+    Field {
+        tag: 1,
+        width: 2,
+        least: 1,
+        most: 32,
     }
-    at
 }
 
-// The content of the field at `at`, in entries of `width` bytes.
-fn span_at(s: &[u8], at: usize, width: u16) -> Span
-    requires { ⌜ (at < 1000000) × (0 < width) ⌝ }
-    ensures { λ r. ⌜ r ≡ spanAt (now (s .entry)) at width ⌝ }
+// What is allowed of a table.
+pub fn table_field(table: Table) -> Field
+    ensures { λ r. ⌜ r ≡ spec.tableField table ⌝ }
 {
-    Span {
-        start: at + 3,
-        count: word_at(s, at + 1) / width,
+    match table {
+        Table::Arithmetic => Field {
+            tag: 2,
+            width: 7,
+            least: 0,
+            most: 512,
+        },
+        Table::Boolean => Field {
+            tag: 3,
+            width: 7,
+            least: 0,
+            most: 256,
+        },
+        Table::Commands => Field {
+            tag: 4,
+            width: 7,
+            least: 1,
+            most: 256,
+        },
+    }
+}
+
+// The content of the field with this head.
+fn head_span(head: Head, field: Field) -> Span
+    requires { ⌜ 0 < field .width ⌝ }
+    ensures { λ r. ⌜ r ≡ spec.headSpan head field ⌝ }
+{
+    match head {
+        Head::Short(at) => Span {
+            start: at,
+            count: 0,
+        },
+        Head::Found(found) => Span {
+            start: found.content,
+            count: found.length / field.width,
+        },
     }
 }
 
 // Where a file has its names and its tables.
 pub fn layout(s: &[u8]) -> Layout
-    ensures { λ r. ⌜ (r ≡ layoutOf (now (s .entry))) × Near r ⌝ }
+    ensures { λ r. ⌜ r ≡ spec.layoutOf (now (s .entry)) ⌝ }
 {
-    let arithmetic = next_field(s, 0);
-    let boolean = next_field(s, arithmetic);
-    let commands = next_field(s, boolean);
     Layout {
-        names: span_at(s, 0, 2),
-        arithmetic: span_at(s, arithmetic, 7),
-        boolean: span_at(s, boolean, 7),
-        commands: span_at(s, commands, 7),
+        names: head_span(reader::field_head(s, 0), names_field()),
+        arithmetic: head_span(reader::field_head(s, 1), table_field(Table::Arithmetic)),
+        boolean: head_span(reader::field_head(s, 2), table_field(Table::Boolean)),
+        commands: head_span(reader::field_head(s, 3), table_field(Table::Commands)),
     }
 }
 
 // A table's part of a file.
 pub fn span_of(l: Layout, table: Table) -> Span
-    ensures { λ r. ⌜ r ≡ spanOf l table ⌝ }
+    ensures { λ r. ⌜ r ≡ spec.spanOf l table ⌝ }
 {
     match table {
         Table::Arithmetic => l.arithmetic,
@@ -119,7 +142,7 @@ pub fn span_of(l: Layout, table: Table) -> Span
 
 // The number of names.
 pub fn name_count(s: &[u8]) -> u16
-    ensures { λ r. ⌜ r ≡ nameCount (now (s .entry)) ⌝ }
+    ensures { λ r. ⌜ r ≡ spec.nameCount (now (s .entry)) ⌝ }
 {
     let l = layout(s);
     let names = l.names;
@@ -128,14 +151,14 @@ pub fn name_count(s: &[u8]) -> u16
 
 // The size of name `i`: 0 for a variable.
 pub fn size_at(s: &[u8], i: u16) -> u16
-    ensures { λ r. ⌜ r ≡ sizeAt (now (s .entry)) i ⌝ }
+    ensures { λ r. ⌜ r ≡ spec.sizeAt (now (s .entry)) i ⌝ }
 {
     word_at(s, 3 + 2 * long(i))
 }
 
 // The number of entries of a table.
 pub fn entry_count(s: &[u8], table: Table) -> u16
-    ensures { λ r. ⌜ r ≡ entryCount (now (s .entry)) table ⌝ }
+    ensures { λ r. ⌜ r ≡ spec.entryCount (now (s .entry)) table ⌝ }
 {
     let span = span_of(layout(s), table);
     span.count
@@ -143,7 +166,7 @@ pub fn entry_count(s: &[u8], table: Table) -> u16
 
 // Entry `n` of a table.
 pub fn entry(s: &[u8], table: Table, n: u16) -> Entry
-    ensures { λ r. ⌜ r ≡ entry (now (s .entry)) table n ⌝ }
+    ensures { λ r. ⌜ r ≡ spec.entry (now (s .entry)) table n ⌝ }
 {
     let span = span_of(layout(s), table);
     let start = span.start;
@@ -166,14 +189,14 @@ fn least(a: u16, b: u16) -> u16
 }
 
 pub(crate) fn cells_of(size: u16) -> usize
-    ensures { λ r. ⌜ (r ≡ cellsOf size) × (r < 65536) ⌝ }
+    ensures { λ r. ⌜ r ≡ spec.cellsOf size ⌝ }
 {
     if size == 0 { 1 } else { long(size) }
 }
 
 // The number of cells of the names before name `i`, or of all where there are no more.
 pub fn first_cell(s: &[u8], i: u16) -> usize
-    ensures { λ r. ⌜ r ≡ firstCell (sizes (now (s .entry))) i ⌝ }
+    ensures { λ r. ⌜ r ≡ spec.firstCell (spec.sizes (now (s .entry))) i ⌝ }
 {
     let end = least(name_count(s), i);
     let mut total: usize = 0;
@@ -187,7 +210,7 @@ pub fn first_cell(s: &[u8], i: u16) -> usize
 
 // The number of cells of a memory.
 pub fn cell_count(s: &[u8]) -> usize
-    ensures { λ r. ⌜ r ≡ cellCount (sizes (now (s .entry))) ⌝ }
+    ensures { λ r. ⌜ r ≡ spec.cellCount (spec.sizes (now (s .entry))) ⌝ }
 {
     first_cell(s, name_count(s))
 }

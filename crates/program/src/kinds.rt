@@ -1,8 +1,7 @@
 // What the operands of each kind of entry are.
 
 ghost use mathlib.Core.Path.{_≡_};
-ghost use Rattle.program.specs.Kind.{shape, tableOf, isCommand, isGuarded};
-ghost use Rattle.program.specs.declared.Table.the-variants.{Arithmetic, Boolean, Commands};
+ghost use Rattle.program.specs.Kind as spec;
 use crate::Role;
 use crate::Roles;
 use crate::Shape;
@@ -16,7 +15,7 @@ fn known(p: Role, q: Role, r: Role) -> Shape
 }
 
 fn arithmetic_shape(kind: u8) -> Shape
-    ensures { λ r. ⌜ r ≡ shape Arithmetic kind ⌝ }
+    ensures { λ r. ⌜ r ≡ spec.shape Table.Arithmetic kind ⌝ }
 {
     match kind {
         0 => known(Role::Half, Role::Half, Role::Unused),
@@ -32,7 +31,7 @@ fn arithmetic_shape(kind: u8) -> Shape
 }
 
 fn boolean_shape(kind: u8) -> Shape
-    ensures { λ r. ⌜ r ≡ shape Boolean kind ⌝ }
+    ensures { λ r. ⌜ r ≡ spec.shape Table.Boolean kind ⌝ }
 {
     match kind {
         0 => known(Role::Unused, Role::Unused, Role::Unused),
@@ -52,7 +51,7 @@ fn boolean_shape(kind: u8) -> Shape
 }
 
 fn command_shape(kind: u8) -> Shape
-    ensures { λ r. ⌜ r ≡ shape Commands kind ⌝ }
+    ensures { λ r. ⌜ r ≡ spec.shape Table.Commands kind ⌝ }
 {
     match kind {
         0 => known(Role::Unused, Role::Unused, Role::Unused),
@@ -84,7 +83,7 @@ fn command_shape(kind: u8) -> Shape
 
 // The roles of the operands of an entry of a table, by its kind.
 pub fn shape(table: Table, kind: u8) -> Shape
-    ensures { λ r. ⌜ r ≡ shape table kind ⌝ }
+    ensures { λ r. ⌜ r ≡ spec.shape table kind ⌝ }
 {
     match table {
         Table::Arithmetic => arithmetic_shape(kind),
@@ -95,7 +94,7 @@ pub fn shape(table: Table, kind: u8) -> Shape
 
 // The table that a sort's entries stand in.
 pub fn table_of(sort: Sort) -> Table
-    ensures { λ r. ⌜ r ≡ tableOf sort ⌝ }
+    ensures { λ r. ⌜ r ≡ spec.tableOf sort ⌝ }
 {
     match sort {
         Sort::Expression => Table::Arithmetic,
@@ -107,14 +106,14 @@ pub fn table_of(sort: Sort) -> Table
 
 // Whether a kind of command entry is a command.
 pub fn is_command(kind: u8) -> bool
-    ensures { λ r. ⌜ r ≡ isCommand kind ⌝ }
+    ensures { λ r. ⌜ r ≡ spec.isCommand kind ⌝ }
 {
     kind <= 5
 }
 
 // Whether a kind of command entry is a guarded command.
 pub fn is_guarded(kind: u8) -> bool
-    ensures { λ r. ⌜ r ≡ isGuarded kind ⌝ }
+    ensures { λ r. ⌜ r ≡ spec.isGuarded kind ⌝ }
 {
     6 <= kind && kind <= 7
 }

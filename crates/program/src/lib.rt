@@ -98,17 +98,26 @@ pub struct EdgeBytes {
     pub entry: u16,
 }
 
-// The head of a field, and where its content and the next field start.
+// What is allowed of a field: its tag, the bytes of an entry, and how many entries.
+pub struct Field {
+    pub tag: u8,
+    pub width: u16,
+    pub least: u16,
+    pub most: u16,
+}
+
+// The head of a field: where it starts, its tag and its content's length, and where its content and the next field start.
 pub struct FieldHead {
+    pub start: usize,
     pub tag: u8,
     pub length: u16,
     pub content: usize,
     pub next: usize,
 }
 
-// What stands at a place of a file: fewer bytes than a head has, or the head of a field.
+// What stands at a place of a file: fewer bytes than a head has (with the place), or the head of a field.
 pub enum Head {
-    Short,
+    Short(usize),
     Found(FieldHead),
 }
 

@@ -1,8 +1,7 @@
 // Reading a file field by field. A `FieldReader` holds the file's bytes and the place where it stands.
 
 ghost use mathlib.Core.Path.{_≡_};
-ghost use Rattle.program.specs.File.{fieldStart};
-ghost use Rattle.program.specs.Reader.{headAt, nextPlace, placeAfter};
+ghost use Rattle.program.specs.File as spec;
 use crate::FieldHead;
 use crate::FieldReader;
 use crate::Head;
@@ -10,16 +9,17 @@ use crate::file;
 
 // What stands at `at`.
 pub fn head_at(s: &[u8], at: usize) -> Head
-    ensures { λ r. ⌜ r ≡ headAt (now (s .entry)) at ⌝ }
+    ensures { λ r. ⌜ r ≡ spec.headAt (now (s .entry)) at ⌝ }
 {
     if s.len() <= at {
-        return Head::Short;
+        return Head::Short(at);
     }
     if s.len() - at < 3 {
-        return Head::Short;
+        return Head::Short(at);
     }
     let length = file::word_at(s, at + 1);
     Head::Found(FieldHead {
+        start: at,
         tag: file::byte_at(s, at),
         length,
         content: at + 3,
@@ -27,24 +27,24 @@ pub fn head_at(s: &[u8], at: usize) -> Head
     })
 }
 
-// Where the field after the one at `at` starts; `at` itself where no head stands there.
-fn next_place(s: &[u8], at: usize) -> usize
-    ensures { λ r. ⌜ r ≡ nextPlace (now (s .entry)) at ⌝ }
+// Where the reader goes from a head: to the next field, or nowhere where no head stands.
+fn after(head: Head) -> usize
+    ensures { λ r. ⌜ r ≡ spec.afterHead head ⌝ }
 {
-    match head_at(s, at) {
-        Head::Short => at,
+    match head {
+        Head::Short(at) => at,
         Head::Found(field) => field.next,
     }
 }
 
 // Where `k` fields from `at` on end, or the first place on the way where no head stands.
 pub fn place_after(s: &[u8], at: usize, k: u8) -> usize
-    ensures { λ r. ⌜ r ≡ placeAfter (now (s .entry)) at k ⌝ }
+    ensures { λ r. ⌜ r ≡ spec.placeAfter (now (s .entry)) at k ⌝ }
 {
     let mut place: usize = at;
     let mut i: u8 = 0;
     while i < k {
-        place = next_place(s, place);
+        place = after(head_at(s, place));
         i += 1;
     }
     place
@@ -59,14 +59,14 @@ pub fn new<'a>(bytes: &'a [u8]) -> FieldReader<'a>
 
 // What stands where the reader is.
 pub fn head<'a>(r: FieldReader<'a>) -> Head
-    ensures { λ h. ⌜ h ≡ headAt (now (r .entry .bytes)) (r .entry .at) ⌝ }
+    ensures { λ h. ⌜ h ≡ spec.headAt (now (r .entry .bytes)) (r .entry .at) ⌝ }
 {
     head_at(r.bytes, r.at)
 }
 
 // The reader `k` fields further on, or at the first place on the way where no head stands.
 pub fn advance<'a>(r: FieldReader<'a>, k: u8) -> FieldReader<'a>
-    ensures { λ q. ⌜ (q .bytes ≡ r .entry .bytes) × (q .at ≡ placeAfter (now (r .entry .bytes)) (r .entry .at) k) ⌝ }
+    ensures { λ q. ⌜ (q .bytes ≡ r .entry .bytes) × (q .at ≡ spec.placeAfter (now (r .entry .bytes)) (r .entry .at) k) ⌝ }
 {
     FieldReader {
         bytes: r.bytes,
@@ -76,7 +76,7 @@ pub fn advance<'a>(r: FieldReader<'a>, k: u8) -> FieldReader<'a>
 
 // The head of the field with `k` fields before it.
 pub fn field_head(s: &[u8], k: u8) -> Head
-    ensures { λ r. ⌜ r ≡ headAt (now (s .entry)) (fieldStart (now (s .entry)) k) ⌝ }
+    ensures { λ r. ⌜ r ≡ spec.fieldHead (now (s .entry)) k ⌝ }
 {
     head(advance(new(s), k))
 }

@@ -1,17 +1,17 @@
 // Questions 1 to 11 of a program file.
 
 ghost use mathlib.Core.Path.{_≡_};
-ghost use Prim.Native.Nat.{_<_, _≤_, _+_, _-_};
-ghost use lib.ListN.{take, drop};
-ghost use Rattle.program.specs.Counting.{capacity, UsesIn};
-ghost use mathlib.Core.Bool.{_&&_};
+ghost use Prim.Native.Nat.{_<_, _≤_};
+ghost use lib.ListN.{length, take, drop};
+ghost use mathlib.Core.Bool.{_&&_, cond};
 ghost use lib.Dec.{leb};
-ghost use Rattle.program.specs.Asking.{ask, isRefused, askEach};
-ghost use Rattle.program.specs.File.{layoutOf, spanOf, Near, nameCount, entryCount, entryOffset, entry, fieldStart, programFields};
-ghost use Rattle.program.specs.declared.Table.the-variants.{Commands};
-ghost use Rattle.program.specs.declared.Validity.the-variants.{Fit};
-ghost use Rattle.program.specs.Questions.{wholeEntries, headValidity, headsValidity, endValidity, nameValidity, named, sameTable, limit, ofSort, points, eachOperand, shapeValidity, entryValidity, tableValidity, useValidity, lastValidity, usesValidity, contentValidity, validity, inputValidity, programPart, initialPart};
+ghost use Rattle.program.specs.Questions as spec;
+ghost use Rattle.program.specs.Asking;
+ghost use Rattle.program.specs.Counting;
+ghost use Rattle.program.specs.File;
 use crate::Entry;
+use crate::Field;
+use crate::FieldHead;
 use crate::Head;
 use crate::Layout;
 use crate::Refusal;
@@ -30,7 +30,7 @@ use crate::reader;
 
 // One question: its answer, and its number and place when that is no.
 fn ask(yes: bool, number: u8, offset: usize) -> Validity
-    ensures { λ r. ⌜ r ≡ ask yes number offset ⌝ }
+    ensures { λ r. ⌜ r ≡ Asking.ask yes number offset ⌝ }
 {
     if yes {
         Validity::Fit
@@ -40,7 +40,7 @@ fn ask(yes: bool, number: u8, offset: usize) -> Validity
 }
 
 fn refused(v: Validity) -> bool
-    ensures { λ r. ⌜ r ≡ isRefused v ⌝ }
+    ensures { λ r. ⌜ r ≡ Asking.isRefused v ⌝ }
 {
     match v {
         Validity::Fit => false,
@@ -49,40 +49,46 @@ fn refused(v: Validity) -> bool
 }
 
 // Whether a length is whole entries, as many as allowed.
-fn whole_entries(len: u16, tag: u8, width: u16, least: u16, most: u16) -> bool
-    requires { ⌜ 0 < width ⌝ }
-    ensures { λ r. ⌜ r ≡ wholeEntries (record { tag = tag; width = width; least = least; most = most }) len ⌝ }
+fn whole_entries(field: Field, len: u16) -> bool
+    requires { ⌜ 0 < field .width ⌝ }
+    ensures { λ r. ⌜ r ≡ spec.wholeEntries field len ⌝ }
 {
-    if len % width != 0 {
+    if len % field.width != 0 {
         return false;
     }
-    let count = len / width;
-    least <= count && count <= most
+    let count = len / field.width;
+    field.least <= count && count <= field.most
 }
 
-// Questions 1 to 4 of the field with `k` fields before it.
-fn check_head(s: &[u8], k: u8, tag: u8, width: u16, least: u16, most: u16) -> Validity
-    requires { ⌜ 0 < width ⌝ }
-    ensures { λ r. ⌜ r ≡ headValidity (now (s .entry)) (fieldStart (now (s .entry)) k) (record { tag = tag; width = width; least = least; most = most }) ⌝ }
+// Questions 2 to 4 of a head in a file of `end` bytes.
+fn check_found(end: usize, found: FieldHead, field: Field) -> Validity
+    requires { ⌜ 0 < field .width ⌝ }
+    ensures { λ r. ⌜ r ≡ spec.headValidity end (Head.Found found) field ⌝ }
 {
-    let at = file::field_start(s, k);
-    let found = reader::field_head(s, k);
-    let Head::Found(field) = found else {
-        return ask(false, 1, at);
-    };
-    if field.tag != tag {
-        return ask(false, 2, at);
+    if found.tag != field.tag {
+        return ask(false, 2, found.start);
     }
-    if !whole_entries(field.length, tag, width, least, most) {
-        return ask(false, 3, at);
+    if !whole_entries(field, found.length) {
+        return ask(false, 3, found.start);
     }
-    ask(field.next <= s.len(), 4, at)
+    ask(found.next <= end, 4, found.start)
+}
+
+// Questions 1 to 4 of what the reader finds in a file of `end` bytes.
+fn check_head(end: usize, head: Head, field: Field) -> Validity
+    requires { ⌜ 0 < field .width ⌝ }
+    ensures { λ r. ⌜ r ≡ spec.headValidity end head field ⌝ }
+{
+    match head {
+        Head::Short(at) => ask(false, 1, at),
+        Head::Found(found) => check_found(end, found, field),
+    }
 }
 
 // Whether operand `x` is zero where it is unused, and names a name of its sort where it is a name.
 fn named(s: &[u8], names: u16, role: Role, x: u16) -> bool
-    requires { ⌜ names ≡ nameCount (now s) ⌝ }
-    ensures { λ r. ⌜ r ≡ named (now (s .entry)) role x ⌝ }
+    requires { ⌜ names ≡ File.nameCount (now s) ⌝ }
+    ensures { λ r. ⌜ r ≡ spec.named (now (s .entry)) role x ⌝ }
 {
     match role {
         Role::Unused => x == 0,
@@ -95,21 +101,34 @@ fn named(s: &[u8], names: u16, role: Role, x: u16) -> bool
 
 // Questions 1 to 4 of the four fields.
 fn check_heads(s: &[u8]) -> Validity
-    ensures { λ r. ⌜ r ≡ headsValidity (now (s .entry)) 0 programFields ⌝ }
+    ensures { λ r. ⌜ r ≡ spec.headsValidity (now (s .entry)) 0 File.programFields ⌝ }
 {
-    let names = check_head(s, 0, 1, 2, 1, 32);
+    let end = s.len();
+    let names = check_head(end, reader::field_head(s, 0), file::names_field());
     if refused(names) {
         return names;
     }
-    let arithmetic = check_head(s, 1, 2, 7, 0, 512);
+    let arithmetic = check_head(
+        end,
+        reader::field_head(s, 1),
+        file::table_field(Table::Arithmetic),
+    );
     if refused(arithmetic) {
         return arithmetic;
     }
-    let boolean = check_head(s, 2, 3, 7, 0, 256);
+    let boolean = check_head(
+        end,
+        reader::field_head(s, 2),
+        file::table_field(Table::Boolean),
+    );
     if refused(boolean) {
         return boolean;
     }
-    check_head(s, 3, 4, 7, 1, 256)
+    check_head(
+        end,
+        reader::field_head(s, 3),
+        file::table_field(Table::Commands),
+    )
 }
 
 // Whether a size is 0 to 64 and a cell total at most 512.
@@ -121,8 +140,8 @@ fn in_bounds(size: u16, total: usize) -> bool
 
 // Question 6 of every name.
 fn check_names(s: &[u8], names: u16) -> Validity
-    requires { ⌜ names ≡ nameCount (now s) ⌝ }
-    ensures { λ r. ⌜ r ≡ askEach (nameCount (now (s .entry))) (nameValidity (now (s .entry))) ⌝ }
+    requires { ⌜ names ≡ File.nameCount (now s) ⌝ }
+    ensures { λ r. ⌜ r ≡ Asking.askEach (File.nameCount (now (s .entry))) (spec.nameValidity (now (s .entry))) ⌝ }
 {
     let mut total: usize = 0;
     let mut i: u16 = 0;
@@ -138,33 +157,18 @@ fn check_names(s: &[u8], names: u16) -> Validity
     Validity::Fit
 }
 
-// Whether two tables are the same.
+// Whether two tables are the same: they have the same tag.
 fn same_table(t: Table, u: Table) -> bool
-    ensures { λ r. ⌜ r ≡ sameTable t u ⌝ }
+    ensures { λ r. ⌜ r ≡ spec.sameTable t u ⌝ }
 {
-    match t {
-        Table::Arithmetic => match u {
-            Table::Arithmetic => true,
-            Table::Boolean => false,
-            Table::Commands => false,
-        },
-        Table::Boolean => match u {
-            Table::Arithmetic => false,
-            Table::Boolean => true,
-            Table::Commands => false,
-        },
-        Table::Commands => match u {
-            Table::Arithmetic => false,
-            Table::Boolean => false,
-            Table::Commands => true,
-        },
-    }
+    let first = file::table_field(t);
+    let second = file::table_field(u);
+    first.tag == second.tag
 }
 
 // The references from entry `n` of a table to `target` are below this number.
-fn limit(s: &[u8], l: Layout, table: Table, n: u16, target: Table) -> u16
-    requires { ⌜ l ≡ layoutOf (now s) ⌝ }
-    ensures { λ r. ⌜ r ≡ limit (now (s .entry)) table n target ⌝ }
+fn limit(l: Layout, table: Table, n: u16, target: Table) -> u16
+    ensures { λ r. ⌜ r ≡ cond (spec.sameTable table target) n (File.spanOf l target .count) ⌝ }
 {
     if same_table(table, target) {
         return n;
@@ -173,47 +177,19 @@ fn limit(s: &[u8], l: Layout, table: Table, n: u16, target: Table) -> u16
     span.count
 }
 
-// Where a table's entries start.
-fn start_of(l: Layout, table: Table) -> usize
-    requires { ⌜ Near l ⌝ }
-    ensures { λ r. ⌜ (r ≡ spanOf l table .start) × (r < 262152) ⌝ }
-{
-    match table {
-        Table::Arithmetic => {
-            let span = l.arithmetic;
-            span.start
-        }
-        Table::Boolean => {
-            let span = l.boolean;
-            span.start
-        }
-        Table::Commands => {
-            let span = l.commands;
-            span.start
-        }
-    }
-}
-
-// Where entry `n` of a table stands.
-fn offset(s: &[u8], l: Layout, table: Table, n: u16) -> usize
-    requires { ⌜ (l ≡ layoutOf (now s)) × Near l ⌝ }
-    ensures { λ r. ⌜ r ≡ entryOffset (now (s .entry)) table n ⌝ }
-{
-    start_of(l, table) + 7 * file::long(n)
-}
-
 // The kind of command entry `n`.
 fn command_kind(s: &[u8], l: Layout, n: u16) -> u8
-    requires { ⌜ (l ≡ layoutOf (now s)) × Near l ⌝ }
-    ensures { λ r. ⌜ r ≡ entry (now (s .entry)) Commands n .kind ⌝ }
+    requires { ⌜ File.LaidOut (now s) l ⌝ }
+    ensures { λ r. ⌜ r ≡ File.entry (now (s .entry)) Table.Commands n .kind ⌝ }
 {
-    file::byte_at(s, offset(s, l, Table::Commands, n))
+    let span = l.commands;
+    file::byte_at(s, span.start + 7 * file::long(n))
 }
 
 // Whether entry `x` of a sort's table is of that sort.
 fn of_sort(s: &[u8], l: Layout, sort: Sort, x: u16) -> bool
-    requires { ⌜ (l ≡ layoutOf (now s)) × Near l ⌝ }
-    ensures { λ r. ⌜ r ≡ ofSort (now (s .entry)) sort x ⌝ }
+    requires { ⌜ File.LaidOut (now s) l ⌝ }
+    ensures { λ r. ⌜ r ≡ spec.ofSort (now (s .entry)) sort x ⌝ }
 {
     match sort {
         Sort::Expression => true,
@@ -225,16 +201,16 @@ fn of_sort(s: &[u8], l: Layout, sort: Sort, x: u16) -> bool
 
 // Whether a reference `x` from entry `n` of a table points to an entry of a sort that it may point to.
 fn points_to(s: &[u8], l: Layout, table: Table, n: u16, sort: Sort, x: u16) -> bool
-    requires { ⌜ (l ≡ layoutOf (now s)) × Near l ⌝ }
-    ensures { λ r. ⌜ r ≡ points (now (s .entry)) table n (Role.To sort) x ⌝ }
+    requires { ⌜ File.LaidOut (now s) l ⌝ }
+    ensures { λ r. ⌜ r ≡ spec.points (now (s .entry)) table n (Role.To sort) x ⌝ }
 {
-    x < limit(s, l, table, n, kinds::table_of(sort)) && of_sort(s, l, sort, x)
+    x < limit(l, table, n, kinds::table_of(sort)) && of_sort(s, l, sort, x)
 }
 
 // Whether operand `x` of entry `n` of a table points as it must, where it is a reference.
 fn points(s: &[u8], l: Layout, table: Table, n: u16, role: Role, x: u16) -> bool
-    requires { ⌜ (l ≡ layoutOf (now s)) × Near l ⌝ }
-    ensures { λ r. ⌜ r ≡ points (now (s .entry)) table n role x ⌝ }
+    requires { ⌜ File.LaidOut (now s) l ⌝ }
+    ensures { λ r. ⌜ r ≡ spec.points (now (s .entry)) table n role x ⌝ }
 {
     match role {
         Role::Unused => true,
@@ -247,8 +223,8 @@ fn points(s: &[u8], l: Layout, table: Table, n: u16, role: Role, x: u16) -> bool
 
 // Whether all operands are named as they must be.
 fn all_named(s: &[u8], names: u16, roles: Roles, e: Entry) -> bool
-    requires { ⌜ names ≡ nameCount (now s) ⌝ }
-    ensures { λ r. ⌜ r ≡ eachOperand (named (now (s .entry))) roles e ⌝ }
+    requires { ⌜ names ≡ File.nameCount (now s) ⌝ }
+    ensures { λ r. ⌜ r ≡ spec.eachOperand (spec.named (now (s .entry))) roles e ⌝ }
 {
     let p = roles.p;
     let q = roles.q;
@@ -261,8 +237,8 @@ fn all_named(s: &[u8], names: u16, roles: Roles, e: Entry) -> bool
 
 // Whether all operands point as they must.
 fn all_point(s: &[u8], l: Layout, table: Table, n: u16, roles: Roles, e: Entry) -> bool
-    requires { ⌜ (l ≡ layoutOf (now s)) × Near l ⌝ }
-    ensures { λ r. ⌜ r ≡ eachOperand (points (now (s .entry)) table n) roles e ⌝ }
+    requires { ⌜ File.LaidOut (now s) l ⌝ }
+    ensures { λ r. ⌜ r ≡ spec.eachOperand (spec.points (now (s .entry)) table n) roles e ⌝ }
 {
     let p = roles.p;
     let q = roles.q;
@@ -283,8 +259,8 @@ fn check_operands(
     e: Entry,
     at: usize,
 ) -> Validity
-    requires { ⌜ (l ≡ layoutOf (now s)) × Near l × (e ≡ entry (now s) table n) × (at ≡ entryOffset (now s) table n) ⌝ }
-    ensures { λ r. ⌜ r ≡ shapeValidity (now (s .entry)) table n (Shape.Known roles) ⌝ }
+    requires { ⌜ File.LaidOut (now s) l × (e ≡ File.entry (now s) table n) × (at ≡ File.entryOffset (now s) table n) ⌝ }
+    ensures { λ r. ⌜ r ≡ spec.shapeValidity (now (s .entry)) table n (Shape.Known roles) ⌝ }
 {
     let names = l.names;
     if !all_named(s, names.count, roles, e) {
@@ -293,12 +269,12 @@ fn check_operands(
     ask(all_point(s, l, table, n, roles, e), 9, at)
 }
 
-// Questions 7 to 9 of entry `n` of a table.
-fn check_entry(s: &[u8], l: Layout, table: Table, n: u16) -> Validity
-    requires { ⌜ (l ≡ layoutOf (now s)) × Near l ⌝ }
-    ensures { λ r. ⌜ r ≡ entryValidity (now (s .entry)) table n ⌝ }
+// Questions 7 to 9 of entry `n` of the table that starts at `start`.
+fn check_entry(s: &[u8], l: Layout, table: Table, start: usize, n: u16) -> Validity
+    requires { ⌜ File.LaidOut (now s) l × (start ≡ File.tableStart (now s) table) ⌝ }
+    ensures { λ r. ⌜ r ≡ spec.entryValidity (now (s .entry)) table n ⌝ }
 {
-    let at = offset(s, l, table, n);
+    let at = start + 7 * file::long(n);
     let e = file::entry_at(s, at);
     match kinds::shape(table, e.kind) {
         Shape::Unknown => ask(false, 7, at),
@@ -308,14 +284,15 @@ fn check_entry(s: &[u8], l: Layout, table: Table, n: u16) -> Validity
 
 // Questions 7 to 9 of a table's entries.
 fn check_table(s: &[u8], l: Layout, table: Table) -> Validity
-    requires { ⌜ (l ≡ layoutOf (now s)) × Near l ⌝ }
-    ensures { λ r. ⌜ r ≡ tableValidity (now (s .entry)) table ⌝ }
+    requires { ⌜ File.LaidOut (now s) l ⌝ }
+    ensures { λ r. ⌜ r ≡ spec.tableValidity (now (s .entry)) table ⌝ }
 {
     let span = file::span_of(l, table);
+    let start = span.start;
     let count = span.count;
     let mut n: u16 = 0;
     while n < count {
-        let v = check_entry(s, l, table, n);
+        let v = check_entry(s, l, table, start, n);
         if refused(v) {
             return v;
         }
@@ -324,17 +301,31 @@ fn check_table(s: &[u8], l: Layout, table: Table) -> Validity
     Validity::Fit
 }
 
-// Question 10 of the first `count` entries of a table, whose uses stand in `counts`.
-fn check_uses(s: &[u8], l: Layout, table: Table, count: u16, counts: &[u8]) -> Validity
-    requires { ⌜ (l ≡ layoutOf (now s)) × Near l × (count ≤ capacity table) × UsesIn (now s) (now counts) ⌝ }
-    ensures { λ r. ⌜ r ≡ askEach count (useValidity (now (s .entry)) table) ⌝ }
+// How many of a table's entries are to be used once: all but the last command.
+fn to_be_used(table: Table, count: u16) -> u16
+    ensures { λ r. ⌜ r ≡ spec.toBeUsed table count ⌝ }
 {
+    match table {
+        Table::Arithmetic => count,
+        Table::Boolean => count,
+        Table::Commands => if 0 < count { count - 1 } else { 0 },
+    }
+}
+
+// Question 10 of a table's entries, whose uses stand in `counts`.
+fn check_uses(s: &[u8], l: Layout, table: Table, counts: &[u8]) -> Validity
+    requires { ⌜ File.LaidOut (now s) l × Counting.UsesIn (now s) (now counts) ⌝ }
+    ensures { λ r. ⌜ r ≡ spec.usedValidity (now (s .entry)) table ⌝ }
+{
+    let span = file::span_of(l, table);
+    let start = span.start;
+    let count = to_be_used(table, span.count);
     let mut n: u16 = 0;
     while n < count {
         let v = ask(
             counts[uses::slot(table, n)] == 1,
             10,
-            offset(s, l, table, n),
+            start + 7 * file::long(n),
         );
         if refused(v) {
             return v;
@@ -346,46 +337,41 @@ fn check_uses(s: &[u8], l: Layout, table: Table, count: u16, counts: &[u8]) -> V
 
 // Question 11.
 fn check_last(s: &[u8], l: Layout) -> Validity
-    requires { ⌜ (l ≡ layoutOf (now s)) × Near l × (0 < entryCount (now s) Commands) ⌝ }
-    ensures { λ r. ⌜ r ≡ lastValidity (now (s .entry)) ⌝ }
+    requires { ⌜ File.LaidOut (now s) l ⌝ }
+    ensures { λ r. ⌜ r ≡ spec.lastValidity (now (s .entry)) ⌝ }
 {
     let span = l.commands;
-    let last = span.count - 1;
-    ask(
-        kinds::is_command(command_kind(s, l, last)),
-        11,
-        offset(s, l, Table::Commands, last),
-    )
+    let start = span.start;
+    let last = to_be_used(Table::Commands, span.count);
+    let at = start + 7 * file::long(last);
+    ask(kinds::is_command(file::byte_at(s, at)), 11, at)
 }
 
-// Questions 10 and 11, where questions 1 to 4 are answered yes.
+// Questions 10 and 11.
 fn check_all_uses(s: &[u8], l: Layout) -> Validity
-    requires { ⌜ (l ≡ layoutOf (now s)) × Near l × (headsValidity (now s) 0 programFields ≡ Fit) ⌝ }
-    ensures { λ r. ⌜ r ≡ usesValidity (now (s .entry)) ⌝ }
+    requires { ⌜ File.LaidOut (now s) l ⌝ }
+    ensures { λ r. ⌜ r ≡ spec.usesValidity (now (s .entry)) ⌝ }
 {
-    let counts = uses::count_all(s);
-    let arithmetic = l.arithmetic;
-    let first = check_uses(s, l, Table::Arithmetic, arithmetic.count, &counts);
-    if refused(first) {
-        return first;
+    let counts = uses::count_all(s, l);
+    let arithmetic = check_uses(s, l, Table::Arithmetic, &counts);
+    if refused(arithmetic) {
+        return arithmetic;
     }
-    let boolean = l.boolean;
-    let second = check_uses(s, l, Table::Boolean, boolean.count, &counts);
-    if refused(second) {
-        return second;
+    let boolean = check_uses(s, l, Table::Boolean, &counts);
+    if refused(boolean) {
+        return boolean;
     }
-    let commands = l.commands;
-    let third = check_uses(s, l, Table::Commands, commands.count - 1, &counts);
-    if refused(third) {
-        return third;
+    let commands = check_uses(s, l, Table::Commands, &counts);
+    if refused(commands) {
+        return commands;
     }
     check_last(s, l)
 }
 
 // Questions 6 to 11, where questions 1 to 4 are answered yes.
 fn check_content(s: &[u8]) -> Validity
-    requires { ⌜ headsValidity (now s) 0 programFields ≡ Fit ⌝ }
-    ensures { λ r. ⌜ r ≡ contentValidity (now (s .entry)) ⌝ }
+    requires { ⌜ spec.headsValidity (now s) 0 File.programFields ≡ Validity.Fit ⌝ }
+    ensures { λ r. ⌜ r ≡ spec.contentValidity (now (s .entry)) ⌝ }
 {
     let l = file::layout(s);
     let spans = l.names;
@@ -410,15 +396,16 @@ fn check_content(s: &[u8]) -> Validity
 
 // Question 5, after `k` fields.
 fn check_end(s: &[u8], k: u8) -> Validity
-    ensures { λ r. ⌜ r ≡ endValidity (now (s .entry)) k ⌝ }
+    ensures { λ r. ⌜ r ≡ spec.endValidity (now (s .entry)) k ⌝ }
 {
-    let at = file::field_start(s, k);
+    let at = reader::place_after(s, 0, k);
     ask(at == s.len(), 5, at)
 }
 
 // Questions 1 to 11 of a program file.
 pub fn validate(s: &[u8]) -> Validity
-    ensures { λ r. ⌜ r ≡ validity (now (s .entry)) ⌝ }
+    ensures { λ r. ⌜ r ≡ spec.validity (now (s .entry)) ⌝ }
+    ensures numbers { λ r. ⌜ Asking.validityNumbers r ≡ Asking.validityNumbers (spec.validity (now (s .entry))) ⌝ }
 {
     let heads = check_heads(s);
     if refused(heads) {
@@ -433,13 +420,20 @@ pub fn validate(s: &[u8]) -> Validity
 
 // Questions 1 to 11 of the sheet program's input, whose fifth field is the start list.
 pub fn validate_input(s: &[u8]) -> Validity
-    ensures { λ r. ⌜ r ≡ inputValidity (now (s .entry)) ⌝ }
+    ensures { λ r. ⌜ r ≡ spec.inputValidity (now (s .entry)) ⌝ }
+    ensures numbers { λ r. ⌜ Asking.validityNumbers r ≡ Asking.validityNumbers (spec.inputValidity (now (s .entry))) ⌝ }
 {
     let heads = check_heads(s);
     if refused(heads) {
         return heads;
     }
-    let initial = check_head(s, 4, 5, file::name_count(s), 0, 512);
+    let field = Field {
+        tag: 5,
+        width: file::name_count(s),
+        least: 0,
+        most: 512,
+    };
+    let initial = check_head(s.len(), reader::field_head(s, 4), field);
     if refused(initial) {
         return initial;
     }
@@ -452,29 +446,30 @@ pub fn validate_input(s: &[u8]) -> Validity
 
 // The program's part of the sheet program's input: its first four fields.
 pub fn program_part<'a>(s: &'a [u8]) -> &'a [u8]
-    ensures { λ r. ⌜ now r ≡ programPart (now (s .entry)) ⌝ }
+    ensures { λ r. ⌜ now r ≡ spec.programPart (now (s .entry)) ⌝ }
 {
-    part(s, 0, file::field_start(s, 4))
+    part(s, 0, reader::place_after(s, 0, 4))
 }
 
 // The start list in the sheet program's input: the content of its fifth field.
 pub fn initial_part<'a>(s: &'a [u8]) -> &'a [u8]
-    ensures { λ r. ⌜ now r ≡ initialPart (now (s .entry)) ⌝ }
+    ensures { λ r. ⌜ now r ≡ spec.initialPart (now (s .entry)) ⌝ }
 {
-    let start = file::field_start(s, 4) + 3;
-    let end = file::field_start(s, 5);
-    part(s, start, end)
+    match reader::field_head(s, 4) {
+        Head::Short(_) => &s[..0],
+        Head::Found(found) => part(s, found.content, file::long(found.length)),
+    }
 }
 
-// The bytes from `start` to `end`, as far as they are there.
-fn part<'a>(s: &'a [u8], start: usize, end: usize) -> &'a [u8]
-    requires { ⌜ start ≤ end ⌝ }
-    ensures { λ r. ⌜ now r ≡ take (end - start) (drop start (now (s .entry))) ⌝ }
+// The `count` bytes from `start` on, as far as they are there.
+fn part<'a>(s: &'a [u8], start: usize, count: usize) -> &'a [u8]
+    ensures { λ r. ⌜ now r ≡ take count (drop start (now (s .entry))) ⌝ }
 {
     if s.len() <= start {
         return &s[..0];
     }
-    if end <= s.len() {
+    if count <= s.len() - start {
+        let end = start + count;
         &s[start..end]
     } else {
         &s[start..]

@@ -3,10 +3,9 @@
 ghost use mathlib.Core.Path.{_≡_};
 ghost use Prim.Native.Nat.{ℕ, _<_, _≤_, _+_, min};
 ghost use lib.ListN.{length, getD, set};
-ghost use Rattle.program.specs.Counting.{capacity, slot, Counted, UsesIn};
-ghost use Rattle.program.specs.File.{layoutOf, Near, entryCount};
-ghost use Rattle.program.specs.Questions.{refersTo, shapeUses, entryUses, tableUses};
-use super::offset;
+ghost use Rattle.program.specs.Counting as spec;
+ghost use Rattle.program.specs.File;
+ghost use Rattle.program.specs.Questions;
 use crate::Entry;
 use crate::Layout;
 use crate::Role;
@@ -17,19 +16,17 @@ use crate::Table;
 use crate::file;
 use crate::kinds;
 
+// The most entries that a table has.
 fn capacity(table: Table) -> u16
-    ensures { λ r. ⌜ r ≡ capacity table ⌝ }
+    ensures { λ r. ⌜ r ≡ spec.capacity table ⌝ }
 {
-    match table {
-        Table::Arithmetic => 512,
-        Table::Boolean => 256,
-        Table::Commands => 256,
-    }
+    let field = file::table_field(table);
+    field.most
 }
 
 // The slot of entry `n` of a table.
 pub(super) fn slot(table: Table, n: u16) -> usize
-    ensures { λ r. ⌜ r ≡ slot table n ⌝ }
+    ensures { λ r. ⌜ r ≡ spec.slot table n ⌝ }
 {
     match table {
         Table::Arithmetic => file::long(n),
@@ -56,7 +53,7 @@ fn bump(uses: &mut [u8], k: usize)
 // Counts a reference `x` to an entry of a sort.
 fn count_reference(uses: &mut [u8], sort: Sort, x: u16)
     requires { ⌜ length (now uses) ≡ 1024 ⌝ }
-    ensures { λ _. ⌜ Counted (now (uses .entry)) (now (uses .exit)) (λ u n. refersTo u n (Role.To sort) x) ⌝ }
+    ensures { λ _. ⌜ spec.Counted (now (uses .entry)) (now (uses .exit)) (λ u n. Questions.refersTo u n (Role.To sort) x) ⌝ }
 {
     let table = kinds::table_of(sort);
     if x < capacity(table) {
@@ -67,7 +64,7 @@ fn count_reference(uses: &mut [u8], sort: Sort, x: u16)
 // Counts an operand `x` with its role.
 fn count_operand(uses: &mut [u8], role: Role, x: u16)
     requires { ⌜ length (now uses) ≡ 1024 ⌝ }
-    ensures { λ _. ⌜ Counted (now (uses .entry)) (now (uses .exit)) (λ u n. refersTo u n role x) ⌝ }
+    ensures { λ _. ⌜ spec.Counted (now (uses .entry)) (now (uses .exit)) (λ u n. Questions.refersTo u n role x) ⌝ }
 {
     match role {
         Role::Unused => {}
@@ -81,7 +78,7 @@ fn count_operand(uses: &mut [u8], role: Role, x: u16)
 // Counts the operands of an entry.
 fn count_operands(uses: &mut [u8], roles: Roles, e: Entry)
     requires { ⌜ length (now uses) ≡ 1024 ⌝ }
-    ensures { λ _. ⌜ Counted (now (uses .entry)) (now (uses .exit)) (λ u n. shapeUses u n (Shape.Known roles) e) ⌝ }
+    ensures { λ _. ⌜ spec.Counted (now (uses .entry)) (now (uses .exit)) (λ u n. Questions.shapeUses u n (Shape.Known roles) e) ⌝ }
 {
     let p = roles.p;
     let q = roles.q;
@@ -91,12 +88,12 @@ fn count_operands(uses: &mut [u8], roles: Roles, e: Entry)
     count_operand(uses, r, e.r);
 }
 
-// Counts the operands of entry `m` of a table.
-fn count_entry(s: &[u8], l: Layout, table: Table, m: u16, uses: &mut [u8])
-    requires { ⌜ (l ≡ layoutOf (now s)) × Near l × (length (now uses) ≡ 1024) ⌝ }
-    ensures { λ _. ⌜ Counted (now (uses .entry)) (now (uses .exit)) (λ u n. entryUses (now (s .entry)) u n table m) ⌝ }
+// Counts the operands of entry `m` of the table that starts at `start`.
+fn count_entry(s: &[u8], table: Table, start: usize, m: u16, uses: &mut [u8])
+    requires { ⌜ (start ≡ File.tableStart (now s) table) × (start ≤ length (now s)) × (length (now uses) ≡ 1024) ⌝ }
+    ensures { λ _. ⌜ spec.Counted (now (uses .entry)) (now (uses .exit)) (λ u n. Questions.entryUses (now (s .entry)) u n table m) ⌝ }
 {
-    let e = file::entry_at(s, offset(s, l, table, m));
+    let e = file::entry_at(s, start + 7 * file::long(m));
     match kinds::shape(table, e.kind) {
         Shape::Unknown => {}
         Shape::Known(roles) => count_operands(uses, roles, e),
@@ -105,23 +102,24 @@ fn count_entry(s: &[u8], l: Layout, table: Table, m: u16, uses: &mut [u8])
 
 // Counts the operands of a table's entries.
 fn count_table(s: &[u8], l: Layout, table: Table, uses: &mut [u8])
-    requires { ⌜ (l ≡ layoutOf (now s)) × Near l × (length (now uses) ≡ 1024) ⌝ }
-    ensures { λ _. ⌜ Counted (now (uses .entry)) (now (uses .exit)) (λ u n. tableUses (now (s .entry)) u n table (entryCount (now (s .entry)) table)) ⌝ }
+    requires { ⌜ File.LaidOut (now s) l × (length (now uses) ≡ 1024) ⌝ }
+    ensures { λ _. ⌜ spec.Counted (now (uses .entry)) (now (uses .exit)) (λ u n. Questions.tableUses (now (s .entry)) u n table (File.entryCount (now (s .entry)) table)) ⌝ }
 {
     let span = file::span_of(l, table);
+    let start = span.start;
     let count = span.count;
     let mut m: u16 = 0;
     while m < count {
-        count_entry(s, l, table, m, uses);
+        count_entry(s, table, start, m, uses);
         m += 1;
     }
 }
 
 // Counts the operands of all entries.
-pub(super) fn count_all(s: &[u8]) -> [u8; 1024]
-    ensures { λ r. ⌜ UsesIn (now (s .entry)) r ⌝ }
+pub(super) fn count_all(s: &[u8], l: Layout) -> [u8; 1024]
+    requires { ⌜ File.LaidOut (now s) l ⌝ }
+    ensures { λ r. ⌜ spec.UsesIn (now (s .entry)) r ⌝ }
 {
-    let l = file::layout(s);
     let mut uses = [0u8; 1024];
     count_table(s, l, Table::Arithmetic, &mut uses);
     count_table(s, l, Table::Boolean, &mut uses);

@@ -7,7 +7,7 @@ use lib.ListN.{length}
 use mathlib.Core.List.{List, []}
 use mathlib.Core.Path.{_≡_, refl, _∙_}
 use native.Mathlib.Omega.{arith}
-use Rattle.program.specs.DrawingParts.{Strip, strip, edgeStrip, partAt, Room, Drew}
+use Rattle.program.specs.DrawingParts.{Strip, strip, edgeStrip, partAt, Room, Ready, Drew}
 use Rattle.program.specs.declared.drawing.Construct.{Construct}
 use Rattle.program.specs.declared.drawing.Pen.{Pen}
 use Rattle.program.proofs.Strips.{firstAs, restAs, drawnAs, floor, strip-part, part-lower, strip-grows, rest-grows, first-room, second-room, both-drawn, drew-only}
@@ -20,7 +20,7 @@ use Rattle.program.proofs.drawing.construct_at.Reads as construct-at-re
 use Rattle.program.proofs.drawing.draw_edge.Reads as draw-edge-reads
 
 abbrev μ-draw-part : Measures 2 draw-part-kinds.ps ℕ
-μ-draw-part κs a = a .1 .0
+μ-draw-part κs a = a .1 .1 .0
 
 abbrev draw-part-at : ℕ → In 2 draw-part-kinds.ps
 draw-part-at t = and 2 draw-part-kinds.ps (is 2 draw-part-kinds.ps μ-draw-part t) draw-part.Pre
@@ -45,6 +45,9 @@ module _ (t : ℕ) (c : lts.After-construct-at (claims t) (draw-part-at t) draw-
   abbrev Fitting : Strip → Type 0
   Fitting x = Room x (start .args .at) (length (start .args .buffer .now))
 
+  ready : {x : Strip} {at size : ℕ} → Room x at size → Ready (start .args .s .now) (start .args .start) x at size
+  ready r = record { commands = start .pre .1 .commands; room = r }
+
   -- the entry's bytes; and by its construct the first part of them, and the rest
   abbrev whole : Strip
   whole = strip (partAt (start .args .s .now) (start .args .bound) (start .args .n)) (start .args .a) (start .args .b) (start .args .fresh)
@@ -60,7 +63,7 @@ module _ (t : ℕ) (c : lts.After-construct-at (claims t) (draw-part-at t) draw-
     same = strip-part _ _ _ (c .construct-at .ensures) told (start .args .a) (start .args .b) (start .args .fresh)
 
     room : Fitting (drawnAs (start .args .s .now) (start .args .n) k (start .args .a) (start .args .b) (start .args .fresh))
-    room = rw same at (start .pre .1)
+    room = rw same at (start .pre .1 .room)
 
     lower : floor (start .args .n) k ≤ t
     lower = omega (arith, part-lower _ _ _ (c .construct-at .ensures) told, start .pre .0)
@@ -83,7 +86,7 @@ module _ (t : ℕ) (c : lts.After-construct-at (claims t) (draw-part-at t) draw-
     only e d = rw (same, e) (drew-only front d)
 
 construct-at-requires : (t : ℕ) → lts.Need-construct-at-requires (claims t) (draw-part-at t) draw-part.Post
-construct-at-requires t c κs = search needs
+construct-at-requires t c κs = c .before .before .pre .1 .commands
 
 enum-told : (t : ℕ) → lts.Need-enum-told (claims t) (draw-part-at t) draw-part.Post
 enum-told t c = search needs
@@ -108,14 +111,14 @@ unfolding firstAs restAs floor
 draw-part-requires t c κs =
     let at = c .before .before .before .before in
     let told = c .before .before .c .given .1 in
-    (omega (arith, lower t at told), first t at told)
+    (omega (arith, lower t at told), ready t at (first t at told))
 
 draw-part-requires-2 : (t : ℕ) → lts.Need-draw-part-requires-2 (claims t) (draw-part-at t) draw-part.Post
 unfolding firstAs restAs floor
 draw-part-requires-2 t c κs =
     let at = c .before .before .before .before .before .before .before .before in
     let told = c .before .before .before .before .before .before .c .given .1 in
-    (omega (arith, lower t at told), second t at told (c .before .before .before .draw-part .ensures) (c .before .before .before .draw-part .kept .1 .1 .1 .1 .1 .1 .1 .0))
+    (omega (arith, lower t at told), ready t at (second t at told (c .before .before .before .draw-part .ensures) (c .before .before .before .draw-part .kept .1 .1 .1 .1 .1 .1 .1 .1 .0)))
 
 enum-known-c-2 : (t : ℕ) → lts.Need-enum-known-c-2 (claims t) (draw-part-at t) draw-part.Post
 enum-known-c-2 t c = search needs
@@ -125,7 +128,7 @@ unfolding firstAs restAs floor
 draw-part-requires-3 t c κs =
     let at = c .before .before .before .before in
     let told = c .before .before .c2 .given .1 in
-    (omega (arith, lower t at told), first t at told)
+    (omega (arith, lower t at told), ready t at (first t at told))
 
 enum-known-c-3 : (t : ℕ) → lts.Need-enum-known-c-3 (claims t) (draw-part-at t) draw-part.Post
 enum-known-c-3 t c = search needs
@@ -135,14 +138,14 @@ unfolding firstAs restAs floor
 draw-part-requires-4 t c κs =
     let at = c .before .before .before .before in
     let told = c .before .before .c3 .given .1 in
-    (omega (arith, lower t at told), first t at told)
+    (omega (arith, lower t at told), ready t at (first t at told))
 
 draw-edge-requires-2 : (t : ℕ) → lts.Need-draw-edge-requires-2 (claims t) (draw-part-at t) draw-part.Post
 unfolding firstAs restAs
 draw-edge-requires-2 t c κs =
     let at = c .before .before .before .before .before .before .before .before in
     let told = c .before .before .before .before .before .before .c3 .given .1 in
-    second t at told (c .before .before .before .draw-part4 .ensures) (c .before .before .before .draw-part4 .kept .1 .1 .1 .1 .1 .1 .1 .0)
+    second t at told (c .before .before .before .draw-part4 .ensures) (c .before .before .before .draw-part4 .kept .1 .1 .1 .1 .1 .1 .1 .1 .0)
 
 enum-known-c-4 : (t : ℕ) → lts.Need-enum-known-c-4 (claims t) (draw-part-at t) draw-part.Post
 enum-known-c-4 t c = search needs
@@ -166,7 +169,7 @@ unfolding firstAs restAs floor
 draw-part-requires-5 t c κs =
     let at = c .before .before .before .before .before .before .before .before in
     let told = c .before .before .before .before .before .before .c4 .given .1 in
-    (omega (arith, lower t at told), second t at told (c .before .before .before .draw-edge3 .ensures) (c .before .before .before .draw-edge3 .kept .0))
+    (omega (arith, lower t at told), ready t at (second t at told (c .before .before .before .draw-edge3 .ensures) (c .before .before .before .draw-edge3 .kept .0)))
 
 enum-known-c-5 : (t : ℕ) → lts.Need-enum-known-c-5 (claims t) (draw-part-at t) draw-part.Post
 enum-known-c-5 t c = search needs
@@ -176,14 +179,14 @@ unfolding firstAs restAs floor
 draw-part-requires-6 t c κs =
     let at = c .before .before .before .before in
     let told = c .before .before .c5 .given .1 in
-    (omega (arith, lower t at told), first t at told)
+    (omega (arith, lower t at told), ready t at (first t at told))
 
 draw-part-requires-7 : (t : ℕ) → lts.Need-draw-part-requires-7 (claims t) (draw-part-at t) draw-part.Post
 unfolding firstAs restAs floor
 draw-part-requires-7 t c κs =
     let at = c .before .before .before .before .before .before .before .before in
     let told = c .before .before .before .before .before .before .c5 .given .1 in
-    (omega (arith, lower t at told), second t at told (c .before .before .before .draw-part6 .ensures) (c .before .before .before .draw-part6 .kept .1 .1 .1 .1 .1 .1 .1 .0))
+    (omega (arith, lower t at told), ready t at (second t at told (c .before .before .before .draw-part6 .ensures) (c .before .before .before .draw-part6 .kept .1 .1 .1 .1 .1 .1 .1 .1 .0)))
 
 same-length : (t : ℕ) → lts.Need-same-length (claims t) (draw-part-at t) draw-part.Post
 same-length t c = c .before .before .draw-edge .kept .0
@@ -193,7 +196,7 @@ unfolding firstAs restAs
 returns t c = only t (c .before .before .before .before .before .before) (c .before .before .before .before .enum-told .given .1) refl (c .before .before .draw-edge .ensures)
 
 same-length-2 : (t : ℕ) → lts.Need-same-length-2 (claims t) (draw-part-at t) draw-part.Post
-same-length-2 t c = c .before .before .draw-part2 .kept .1 .1 .1 .1 .1 .1 .1 .0 ∙ c .before .before .before .before .before .before .draw-part .kept .1 .1 .1 .1 .1 .1 .1 .0
+same-length-2 t c = c .before .before .draw-part2 .kept .1 .1 .1 .1 .1 .1 .1 .1 .0 ∙ c .before .before .before .before .before .before .draw-part .kept .1 .1 .1 .1 .1 .1 .1 .1 .0
 
 returns-2 : (t : ℕ) → lts.Need-returns-2 (claims t) (draw-part-at t) draw-part.Post
 unfolding firstAs restAs
@@ -203,7 +206,7 @@ returns-2 t c =
     both t at told (c .before .before .before .before .before .before .draw-part .ensures) (c .before .before .draw-part2 .ensures)
 
 same-length-3 : (t : ℕ) → lts.Need-same-length-3 (claims t) (draw-part-at t) draw-part.Post
-same-length-3 t c = c .before .before .draw-part3 .kept .1 .1 .1 .1 .1 .1 .1 .0
+same-length-3 t c = c .before .before .draw-part3 .kept .1 .1 .1 .1 .1 .1 .1 .1 .0
 
 returns-3 : (t : ℕ) → lts.Need-returns-3 (claims t) (draw-part-at t) draw-part.Post
 unfolding firstAs restAs
@@ -213,7 +216,7 @@ returns-3 t c =
     only t at told refl (c .before .before .draw-part3 .ensures)
 
 same-length-4 : (t : ℕ) → lts.Need-same-length-4 (claims t) (draw-part-at t) draw-part.Post
-same-length-4 t c = c .before .before .draw-edge2 .kept .0 ∙ c .before .before .before .before .before .before .draw-part4 .kept .1 .1 .1 .1 .1 .1 .1 .0
+same-length-4 t c = c .before .before .draw-edge2 .kept .0 ∙ c .before .before .before .before .before .before .draw-part4 .kept .1 .1 .1 .1 .1 .1 .1 .1 .0
 
 returns-4 : (t : ℕ) → lts.Need-returns-4 (claims t) (draw-part-at t) draw-part.Post
 unfolding firstAs restAs
@@ -223,7 +226,7 @@ returns-4 t c =
     both t at told (c .before .before .before .before .before .before .draw-part4 .ensures) (c .before .before .draw-edge2 .ensures)
 
 same-length-5 : (t : ℕ) → lts.Need-same-length-5 (claims t) (draw-part-at t) draw-part.Post
-same-length-5 t c = c .before .before .draw-part5 .kept .1 .1 .1 .1 .1 .1 .1 .0 ∙ c .before .before .before .before .before .before .draw-edge3 .kept .0
+same-length-5 t c = c .before .before .draw-part5 .kept .1 .1 .1 .1 .1 .1 .1 .1 .0 ∙ c .before .before .before .before .before .before .draw-edge3 .kept .0
 
 returns-5 : (t : ℕ) → lts.Need-returns-5 (claims t) (draw-part-at t) draw-part.Post
 unfolding firstAs restAs
@@ -233,7 +236,7 @@ returns-5 t c =
     both t at told (c .before .before .before .before .before .before .draw-edge3 .ensures) (c .before .before .draw-part5 .ensures)
 
 same-length-6 : (t : ℕ) → lts.Need-same-length-6 (claims t) (draw-part-at t) draw-part.Post
-same-length-6 t c = c .before .before .draw-part7 .kept .1 .1 .1 .1 .1 .1 .1 .0 ∙ c .before .before .before .before .before .before .draw-part6 .kept .1 .1 .1 .1 .1 .1 .1 .0
+same-length-6 t c = c .before .before .draw-part7 .kept .1 .1 .1 .1 .1 .1 .1 .1 .0 ∙ c .before .before .before .before .before .before .draw-part6 .kept .1 .1 .1 .1 .1 .1 .1 .1 .0
 
 returns-6 : (t : ℕ) → lts.Need-returns-6 (claims t) (draw-part-at t) draw-part.Post
 unfolding firstAs restAs

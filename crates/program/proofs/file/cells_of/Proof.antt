@@ -10,11 +10,11 @@ long-requires c κs = search needs
 
 returns : tie.Need-returns
 unfolding cellsOf
-returns c = (simp (eq-eqb _ _ (c .if1 .taken)), search needs)
+returns c = simp (eq-eqb _ _ (c .if1 .taken))
 
 returns-2 : tie.Need-returns-2
 unfolding cellsOf
-returns-2 c = (simp (ne-eqb _ _ (c .before .if1 .left)) (c .long .ensures), search needs)
+returns-2 c = simp (ne-eqb _ _ (c .before .if1 .left)) (c .long .ensures)
 
 pub cells-of-spec : {M : Type 1} → statement M
 cells-of-spec = tie.close (tie.spec long-requires returns returns-2)

@@ -15,7 +15,7 @@ span-of-requires c κs = search needs
 
 returns : tie.Need-returns
 unfolding entryCount
-returns c = ap (λ (x : Span). x .count) (c .span-of .ensures ∙ ap (λ (l : Layout). spanOf l (c .before .before .before .args .table)) (c .before .layout .ensures .0))
+returns c = ap (λ (x : Span). x .count) (c .span-of .ensures ∙ ap (λ (l : Layout). spanOf l (c .before .before .before .args .table)) (c .before .layout .ensures))
 
 pub entry-count-spec : {M : Type 1} → statement M
 entry-count-spec = tie.close (tie.spec layout-requires span-of-requires returns)

@@ -6,6 +6,7 @@ use native.Mathlib.Numerals.{add-one}
 use native.Mathlib.Omega.{arith}
 use Rattle.program.specs.File.{nameCount, sizes, firstCell}
 use Rattle.program.proofs.Cells.{first-cell-min, first-cell-zero, first-cell-suc}
+use Rattle.program.proofs.Reading.{cells-few}
 use Rattle.program.proofs.file.first_cell.Statement.{statement}
 use Rattle.program.proofs.file.first_cell.Tie as tie
 
@@ -31,7 +32,7 @@ cells-of-requires : tie.Need-cells-of-requires Inv-loop μ-loop
 cells-of-requires c κs = search needs
 
 add-total : tie.Need-add-total Inv-loop μ-loop
-add-total c = search needs
+add-total c = omega (arith, c .cells-of .ensures, cells-few (c .before .size-at .result) (search needs))
 
 add-k : tie.Need-add-k Inv-loop μ-loop
 add-k c = search needs
@@ -44,7 +45,7 @@ loop-again c =
     let l = c .before .before .before .loop in
     let s = c .before .before .before .before .before .before .before .args .s .now in
     let h : l .k < nameCount s = omega (arith, c .before .before .before .before .before .name-count .ensures) in
-    (search needs, rw (add-one, first-cell-suc s (l .k) h) (cc), search needs)
+    (search needs, rw (add-one, first-cell-suc s (l .k) h) (cc), omega (arith, c .cells-of .ensures, cells-few (c .before .size-at .result) (search needs)))
 
 returns : tie.Need-returns Inv-loop μ-loop
 returns c =

@@ -42,7 +42,7 @@ use denote.Triple.Table.{entered, cited}
 use denote.Triple.Walked.{says, Stays, stay-none, walkOf, goes-none, Walks, ends-at, walked, walk-meets}
 use denote.Exit.{yes}
 use denote.Triple.Clauses.{ensured, lasts}
-use Rattle.program.specs.Reader.{placeAfter}
+use Rattle.program.specs.File.{placeAfter}
 use Rattle.program.specs.declared.FieldReader.{FieldReader}
 use Rattle.program.proofs.FieldReader as T
 use Rattle.program.proofs.FieldReader.Laws as T′

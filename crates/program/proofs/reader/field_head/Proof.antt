@@ -37,11 +37,9 @@ use denote.Triple.Table.{entered, cited}
 use denote.Triple.Walked.{says, Stays, stay-none, stay-none-slice, walkOf, goes-none, goes-none-slice, Walks, ends-at, walked, walk-meets}
 use denote.Exit.{yes}
 use denote.Triple.Clauses.{ensured, lasts}
-use Rattle.program.specs.File.{fieldStart}
-use Rattle.program.specs.Reader.{headAt, placeAfter}
+use Rattle.program.specs.File.{headAt, placeAfter, fieldHead}
 use Rattle.program.specs.declared.FieldReader.{FieldReader}
 use Rattle.program.specs.declared.Head.{Head}
-use Rattle.program.proofs.Heads.{head-after}
 use Rattle.program.proofs.FieldReader as T
 use Rattle.program.proofs.FieldReader.Laws as T′
 use Rattle.program.proofs.Head as S
@@ -73,12 +71,12 @@ Advanced r n r′ = (r′ .bytes ≡ r .bytes) × (r′ .at ≡ placeAfter (now 
 abbrev HeadOf : FieldReader → Head → Type 0
 HeadOf r t = t ≡ headAt (now (r .bytes)) (r .at)
 
-found-is : (s : RefT (List ℕ)) (n : ℕ) (r r′ : FieldReader) (t : Head) → Started s r → Advanced r n r′ → HeadOf r′ t → t ≡ headAt (now s) (fieldStart (now s) n)
+found-is : (s : RefT (List ℕ)) (n : ℕ) (r r′ : FieldReader) (t : Head) → Started s r → Advanced r n r′ → HeadOf r′ t → t ≡ fieldHead (now s) n
+unfolding fieldHead
 found-is s n r r′ t started advanced e =
     e
     ∙ (ap (λ (x : RefT (List ℕ)). headAt (now x) (r′ .at)) (advanced .0 ∙ started .0)
-    ∙ (ap (headAt (now s)) (advanced .1 ∙ (ap (λ (x : RefT (List ℕ)). placeAfter (now x) (r .at) n) (started .0) ∙ ap (λ (m : ℕ). placeAfter (now s) m n) (started .1)))
-    ∙ head-after (now s) n))
+    ∙ ap (headAt (now s)) (advanced .1 ∙ (ap (λ (x : RefT (List ℕ)). placeAfter (now x) (r .at) n) (started .0) ∙ ap (λ (m : ℕ). placeAfter (now s) m n) (started .1))))
 
 -- the struct's type, over the signature's lifetimes
 abbrev B : Lfts 1 → RattleType
@@ -107,7 +105,7 @@ module _ {M : Type 1} (𝓤 : URA M) (H : Heap 𝓤) (A : Atoms 𝓤) (W : Given
   vals = (v ∷ [], (vint w8 n ∷ [], tt))
 
   abbrev found : Head
-  found = headAt (now s) (fieldStart (now s) n)
+  found = fieldHead (now s) n
 
   -- the struct's type as a local of a body has it
   abbrev αᵉ : NamedLft

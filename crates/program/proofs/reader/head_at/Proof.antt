@@ -1,9 +1,8 @@
 -- `program::reader::head_at` meets its contract.
 use borrow.Author.Needs.{needs}
 use mathlib.Core.Path.{sym}
-use Rattle.program.specs.File.{contentLength, nextField}
-use Rattle.program.specs.Reader.{fieldHead}
-use Rattle.program.proofs.Heads.{head-there, head-short}
+use Rattle.program.specs.File.{headFound}
+use Rattle.program.proofs.Reading.{head-there, head-short}
 use Rattle.program.proofs.reader.head_at.Statement.{statement}
 use Rattle.program.proofs.reader.head_at.Tie as tie
 
@@ -38,7 +37,7 @@ add-t9 : tie.Need-add-t9
 add-t9 c = search needs
 
 returns-3 : tie.Need-returns-3
-unfolding fieldHead contentLength nextField
+unfolding headFound
 returns-3 c =
     let args = c .before .before .before .before .before .before .args in
     rw (head-there (args .s .now) (args .at) (search needs), c .long .ensures, c .before .byte-at .ensures, c .before .before .word-at .ensures)

@@ -4,7 +4,7 @@ use borrow.Author.Needs.{needs}
 use mathlib.Core.Path.{refl, ap, _∙_, _≡_}
 use native.Mathlib.Numerals.{add-one}
 use native.Mathlib.Omega.{arith}
-use Rattle.program.specs.Reader.{nextPlace, placeAfter}
+use Rattle.program.specs.File.{headAt, afterHead, placeAfter}
 use Rattle.program.proofs.reader.place_after.Statement.{statement}
 use Rattle.program.proofs.reader.place_after.Tie as tie
 
@@ -18,8 +18,11 @@ loop-holds : tie.Need-loop-holds Inv-loop μ-loop
 unfolding placeAfter
 loop-holds c = (search needs, refl)
 
-next-place-requires : tie.Need-next-place-requires Inv-loop μ-loop
-next-place-requires c κs = search needs
+head-at-requires : tie.Need-head-at-requires Inv-loop μ-loop
+head-at-requires c κs = search needs
+
+after-requires : tie.Need-after-requires Inv-loop μ-loop
+after-requires c κs = search needs
 
 add-i : tie.Need-add-i Inv-loop μ-loop
 add-i c = search needs
@@ -30,7 +33,9 @@ loop-less c = search needs
 loop-again : tie.Need-loop-again Inv-loop μ-loop
 unfolding placeAfter
 loop-again c =
-    (search needs, rw add-one (c .next-place .ensures ∙ ap (nextPlace (c .before .before .before .before .args .s .now)) (c .before .before .loop .inv .1)))
+    let l = c .before .before .before .loop in
+    let s = c .before .before .before .before .before .args .s .now in
+    (search needs, rw add-one (c .after .ensures ∙ ap afterHead (c .before .head-at .ensures ∙ ap (headAt s) (l .inv .1))))
 
 returns : tie.Need-returns Inv-loop μ-loop
 returns c = c .before .loop .inv .1 ∙ ap (placeAfter (c .before .before .before .args .s .now) (c .before .before .before .args .at)) (omega arith)
@@ -38,4 +43,4 @@ returns c = c .before .loop .inv .1 ∙ ap (placeAfter (c .before .before .befor
 pub place-after-spec : {M : Type 1} → statement M
 place-after-spec =
     tie.close
-    (tie.spec Inv-loop μ-loop loop-holds next-place-requires add-i loop-less loop-again returns)
+    (tie.spec Inv-loop μ-loop loop-holds head-at-requires after-requires add-i loop-less loop-again returns)

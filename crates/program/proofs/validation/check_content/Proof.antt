@@ -1,11 +1,10 @@
 -- `program::validation::check_content` meets its contract.
 use borrow.Author.Needs.{needs}
-use mathlib.Core.Path.{ap}
 use Rattle.program.specs.Asking.{inTurn}
-use Rattle.program.specs.File.{nameCount}
 use Rattle.program.specs.Questions.{contentValidity}
-use Rattle.program.specs.declared.Layout.{Layout}
 use Rattle.program.proofs.Asking.{stops, goes-on, last-asked}
+use Rattle.program.proofs.Fit.{laid-out}
+use Rattle.program.proofs.Reading.{laid-names}
 use Rattle.program.proofs.validation.check_content.Statement.{statement}
 use Rattle.program.proofs.validation.check_content.Tie as tie
 
@@ -13,79 +12,70 @@ layout-requires : tie.Need-layout-requires
 layout-requires c κs = search needs
 
 check-names-requires : tie.Need-check-names-requires
-unfolding nameCount
-check-names-requires c κs = ap (λ (l : Layout). l .names .count) (c .before .layout .ensures .0)
+check-names-requires c κs = laid-names _ _ (c .before .layout .ensures)
 
 refused-requires : tie.Need-refused-requires
 refused-requires c κs = search needs
 
 returns : tie.Need-returns
 unfolding contentValidity inTurn
-returns c = stops _ _ _ _ (c .before .before .check-names .ensures) (c .before .refused .ensures) (c .if1 .taken)
+returns c =
+    stops _ _ _ _ (c .before .before .check-names .ensures) (c .before .refused .ensures) (c .if1 .taken)
 
 check-table-requires : tie.Need-check-table-requires
-check-table-requires c κs = search needs
+check-table-requires c κs =
+    laid-out _ (c .before .before .before .before .before .before .pre) _ (c .before .before .before .before .layout .ensures)
 
 refused-requires-2 : tie.Need-refused-requires-2
 refused-requires-2 c κs = search needs
 
 returns-2 : tie.Need-returns-2
 unfolding contentValidity inTurn
-returns-2 c = goes-on _ _ _ _ _ (c .before .before .before .before .before .check-names .ensures) (c .before .before .before .before .refused .ensures) (c .before .before .before .if1 .left)
+returns-2 c =
+    goes-on _ _ _ _ _ (c .before .before .before .before .before .check-names .ensures) (c .before .before .before .before .refused .ensures) (c .before .before .before .if1 .left)
     (stops _ _ _ _ (c .before .before .check-table .ensures) (c .before .refused2 .ensures) (c .if2 .taken))
 
 check-table-requires-2 : tie.Need-check-table-requires-2
-check-table-requires-2 c κs = search needs
+check-table-requires-2 c κs =
+    laid-out _ (c .before .before .before .before .before .before .before .before .before .pre) _ (c .before .before .before .before .before .before .before .layout .ensures)
 
 refused-requires-3 : tie.Need-refused-requires-3
 refused-requires-3 c κs = search needs
 
 returns-3 : tie.Need-returns-3
 unfolding contentValidity inTurn
-returns-3 c = goes-on _ _ _ _ _ (c .before .before .before .before .before .before .before .before .check-names .ensures) (c .before .before .before .before .before .before .before .refused .ensures) (c .before .before .before .before .before .before .if1 .left)
+returns-3 c =
+    goes-on _ _ _ _ _ (c .before .before .before .before .before .before .before .before .check-names .ensures) (c .before .before .before .before .before .before .before .refused .ensures) (c .before .before .before .before .before .before .if1 .left)
     (goes-on _ _ _ _ _ (c .before .before .before .before .before .check-table .ensures) (c .before .before .before .before .refused2 .ensures) (c .before .before .before .if2 .left)
     (stops _ _ _ _ (c .before .before .check-table2 .ensures) (c .before .refused3 .ensures) (c .if3 .taken)))
 
 check-table-requires-3 : tie.Need-check-table-requires-3
-check-table-requires-3 c κs = search needs
+check-table-requires-3 c κs =
+    laid-out _ (c .before .before .before .before .before .before .before .before .before .before .before .before .pre) _ (c .before .before .before .before .before .before .before .before .before .before .layout .ensures)
 
 refused-requires-4 : tie.Need-refused-requires-4
 refused-requires-4 c κs = search needs
 
 returns-4 : tie.Need-returns-4
 unfolding contentValidity inTurn
-returns-4 c = goes-on _ _ _ _ _ (c .before .before .before .before .before .before .before .before .before .before .before .check-names .ensures) (c .before .before .before .before .before .before .before .before .before .before .refused .ensures) (c .before .before .before .before .before .before .before .before .before .if1 .left)
+returns-4 c =
+    goes-on _ _ _ _ _ (c .before .before .before .before .before .before .before .before .before .before .before .check-names .ensures) (c .before .before .before .before .before .before .before .before .before .before .refused .ensures) (c .before .before .before .before .before .before .before .before .before .if1 .left)
     (goes-on _ _ _ _ _ (c .before .before .before .before .before .before .before .before .check-table .ensures) (c .before .before .before .before .before .before .before .refused2 .ensures) (c .before .before .before .before .before .before .if2 .left)
     (goes-on _ _ _ _ _ (c .before .before .before .before .before .check-table2 .ensures) (c .before .before .before .before .refused3 .ensures) (c .before .before .before .if3 .left)
     (stops _ _ _ _ (c .before .before .check-table3 .ensures) (c .before .refused4 .ensures) (c .if4 .taken))))
 
 check-all-uses-requires : tie.Need-check-all-uses-requires
-check-all-uses-requires c κs = search needs
+check-all-uses-requires c κs =
+    laid-out _ (c .before .before .before .before .before .before .before .before .before .before .before .before .before .before .before .pre) _ (c .before .before .before .before .before .before .before .before .before .before .before .before .before .layout .ensures)
 
 returns-5 : tie.Need-returns-5
 unfolding contentValidity inTurn
-returns-5 c = goes-on _ _ _ _ _ (c .before .before .before .before .before .before .before .before .before .before .before .before .check-names .ensures) (c .before .before .before .before .before .before .before .before .before .before .before .refused .ensures) (c .before .before .before .before .before .before .before .before .before .before .if1 .left)
+returns-5 c =
+    goes-on _ _ _ _ _ (c .before .before .before .before .before .before .before .before .before .before .before .before .check-names .ensures) (c .before .before .before .before .before .before .before .before .before .before .before .refused .ensures) (c .before .before .before .before .before .before .before .before .before .before .if1 .left)
     (goes-on _ _ _ _ _ (c .before .before .before .before .before .before .before .before .before .check-table .ensures) (c .before .before .before .before .before .before .before .before .refused2 .ensures) (c .before .before .before .before .before .before .before .if2 .left)
     (goes-on _ _ _ _ _ (c .before .before .before .before .before .before .check-table2 .ensures) (c .before .before .before .before .before .refused3 .ensures) (c .before .before .before .before .if3 .left)
     (goes-on _ _ _ _ _ (c .before .before .before .check-table3 .ensures) (c .before .before .refused4 .ensures) (c .before .if4 .left)
     (last-asked _ _ (c .check-all-uses .ensures)))))
 
 pub check-content-spec : {M : Type 1} → statement M
-check-content-spec =
-    tie.close
-    (tie.spec
-    layout-requires
-    check-names-requires
-    refused-requires
-    returns
-    check-table-requires
-    refused-requires-2
-    returns-2
-    check-table-requires-2
-    refused-requires-3
-    returns-3
-    check-table-requires-3
-    refused-requires-4
-    returns-4
-    check-all-uses-requires
-    returns-5)
+check-content-spec = tie.close (tie.spec layout-requires check-names-requires refused-requires returns check-table-requires refused-requires-2 returns-2 check-table-requires-2 refused-requires-3 returns-3 check-table-requires-3 refused-requires-4 returns-4 check-all-uses-requires returns-5)

@@ -2,16 +2,25 @@
 use borrow.Author.Needs.{needs}
 use mathlib.Core.Bool.{false}
 use mathlib.Core.Path.{ap, sym, _∙_, _≡_}
+use native.Mathlib.Omega.{arith}
 use Rattle.program.specs.Asking.{ask}
-use Rattle.program.specs.File.{entryAt, entry}
+use Rattle.program.specs.File.{entry}
 use Rattle.program.specs.Kind.{shape}
 use Rattle.program.specs.Questions.{entryValidity, shapeValidity}
 use Rattle.program.specs.declared.Entry.{Entry}
+use Rattle.program.proofs.Reading.{laid-start, entry-in, entry-read}
 use Rattle.program.proofs.validation.check_entry.Statement.{statement}
 use Rattle.program.proofs.validation.check_entry.Tie as tie
 
-offset-requires : tie.Need-offset-requires
-offset-requires c κs = search needs
+long-requires : tie.Need-long-requires
+long-requires c κs = search needs
+
+mul-at : tie.Need-mul-at
+mul-at c = search needs
+
+add-at : tie.Need-add-at
+add-at c =
+    record { fits = omega (arith, c .before .before .pre .0 .inside (c .before .before .args .table), laid-start _ _ (c .before .before .pre .0 .same) (c .before .before .args .table)) }
 
 entry-at-requires : tie.Need-entry-at-requires
 entry-at-requires c κs = search needs
@@ -29,40 +38,25 @@ enum-known-roles : tie.Need-enum-known-roles
 enum-known-roles c = search needs
 
 check-operands-requires : tie.Need-check-operands-requires
-unfolding entry
 check-operands-requires c κs =
-    let a = c .before .before .before .before .before .before .before .args in
-    let e : c .before .before .before .before .entry-at .result ≡ entry (a .s .now) (a .table) (a .n) = c .before .before .before .before .entry-at .ensures ∙ ap (entryAt (a .s .now)) (c .before .before .before .before .before .offset .ensures) in
-    let pre = c .before .before .before .before .before .before .before .pre in
-    (pre .0, pre .1, e, c .before .before .before .before .before .offset .ensures)
+    let t = c .before .before .before .before .before .before .before .args .table in
+    (c .before .before .before .before .before .before .before .pre .0, entry-read _ t _ _ _ (c .before .before .before .before .entry-at .ensures) (c .before .before .before .before .before .before .before .pre .1) (c .before .before .before .before .before .long .ensures), entry-in _ t _ _ _ (c .before .before .before .before .before .before .before .pre .1) (c .before .before .before .before .before .long .ensures))
 
 returns : tie.Need-returns
-unfolding entryValidity shapeValidity entry
+unfolding entryValidity shapeValidity
 returns c =
     let a = c .before .before .before .before .before .before .before .args in
-    let e : c .before .before .before .before .entry-at .result ≡ entry (a .s .now) (a .table) (a .n) = c .before .before .before .before .entry-at .ensures ∙ ap (entryAt (a .s .now)) (c .before .before .before .before .before .offset .ensures) in
+    let e = entry-read _ (a .table) _ _ _ (c .before .before .before .before .entry-at .ensures) (c .before .before .before .before .before .before .before .pre .1) (c .before .before .before .before .before .long .ensures) in
     let told : shape (a .table) (entry (a .s .now) (a .table) (a .n) .kind) ≡ c .before .before .before .shape .result = ap (λ (x : Entry). shape (a .table) (x .kind)) (sym e) ∙ sym (c .before .before .before .shape .ensures) in
-    rw (told, c .before .enum-told .given .1) (c .ask .ensures ∙ ap (ask false 7) (c .before .before .before .before .before .offset .ensures))
+    rw (told, c .before .enum-told .given .1) (c .ask .ensures ∙ ap (ask false 7) (entry-in _ (a .table) _ _ _ (c .before .before .before .before .before .before .before .pre .1) (c .before .before .before .before .before .long .ensures)))
 
 returns-2 : tie.Need-returns-2
-unfolding entryValidity entry
+unfolding entryValidity
 returns-2 c =
     let a = c .before .before .before .before .before .before .before .before .args in
-    let d = c .before .before .before .before in
-    let e : d .before .entry-at .result ≡ entry (a .s .now) (a .table) (a .n) = d .before .entry-at .ensures ∙ ap (entryAt (a .s .now)) (d .before .before .offset .ensures) in
-    let told : shape (a .table) (entry (a .s .now) (a .table) (a .n) .kind) ≡ d .shape .result = ap (λ (x : Entry). shape (a .table) (x .kind)) (sym e) ∙ sym (d .shape .ensures) in
+    let e = entry-read _ (a .table) _ _ _ (c .before .before .before .before .before .entry-at .ensures) (c .before .before .before .before .before .before .before .before .pre .1) (c .before .before .before .before .before .before .long .ensures) in
+    let told : shape (a .table) (entry (a .s .now) (a .table) (a .n) .kind) ≡ c .before .before .before .before .shape .result = ap (λ (x : Entry). shape (a .table) (x .kind)) (sym e) ∙ sym (c .before .before .before .before .shape .ensures) in
     rw (told, c .before .before .roles .given .1) (c .check-operands .ensures)
 
 pub check-entry-spec : {M : Type 1} → statement M
-check-entry-spec =
-    tie.close
-    (tie.spec
-    offset-requires
-    entry-at-requires
-    shape-requires
-    enum-told
-    ask-requires
-    enum-known-roles
-    check-operands-requires
-    returns
-    returns-2)
+check-entry-spec = tie.close (tie.spec long-requires mul-at add-at entry-at-requires shape-requires enum-told ask-requires enum-known-roles check-operands-requires returns returns-2)

@@ -11,6 +11,7 @@ use Rattle.program.specs.Questions.{nameValidity}
 use Rattle.program.specs.declared.Validity.the-variants.{Fit}
 use Rattle.program.proofs.Asking.{each-stops, each-goes-on}
 use Rattle.program.proofs.Cells.{first-cell-zero, first-cell-suc}
+use Rattle.program.proofs.Reading.{cells-few}
 use Rattle.program.proofs.validation.check_names.Statement.{statement}
 use Rattle.program.proofs.validation.check_names.Tie as tie
 
@@ -32,7 +33,7 @@ cells-of-requires : tie.Need-cells-of-requires Inv-loop μ-loop
 cells-of-requires c κs = search needs
 
 add-total : tie.Need-add-total Inv-loop μ-loop
-add-total c = search needs
+add-total c = omega (arith, c .cells-of .ensures, cells-few (c .before .size-at .result) (search needs))
 
 in-bounds-requires : tie.Need-in-bounds-requires Inv-loop μ-loop
 in-bounds-requires c κs = search needs
@@ -63,7 +64,7 @@ asked c =
       first-cell-suc s (l .i) h,
       ← l .inv .1,
       ← c .before .before .before .before .before .size-at .ensures,
-      ← c .before .before .before .before .cells-of .ensures .0,
+      ← c .before .before .before .before .cells-of .ensures,
       ← c .before .before .before .in-bounds .ensures,
     )
     (c .before .ask .ensures ∙ ap (λ (k : ℕ). ask (c .before .before .before .in-bounds .result) 6 (3 + 2 * k)) (c .before .before .long .ensures))
@@ -85,8 +86,8 @@ loop-again c =
     let s = c .before .before .before .before .before .before .before .before .before .before .args .s .now in
     let h : l .i < nameCount s = omega arith in (
       search needs,
-      rw (add-one, first-cell-suc s (l .i) h, ← l .inv .1, ← c .before .before .before .before .before .before .size-at .ensures, ← c .before .before .before .before .before .cells-of .ensures .0) refl,
-      search needs,
+      rw (add-one, first-cell-suc s (l .i) h, ← l .inv .1, ← c .before .before .before .before .before .before .size-at .ensures, ← c .before .before .before .before .before .cells-of .ensures) refl,
+      omega (arith, c .before .before .before .before .before .cells-of .ensures, cells-few (c .before .before .before .before .before .before .size-at .result) (search needs)),
       rw add-one (each-goes-on _ (l .i) _ _ (l .inv .3) (asked (c .before)) (c .before .refused .ensures) (c .if1 .left)),
     )
 

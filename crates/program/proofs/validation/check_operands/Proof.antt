@@ -1,18 +1,15 @@
 -- `program::validation::check_operands` meets its contract.
 use borrow.Author.Needs.{needs}
 use borrow.Author.Tests.{not-true, not-false}
-use mathlib.Core.Path.{ap}
 use Rattle.program.specs.Asking.{ask, thenAsk, inTurn}
-use Rattle.program.specs.File.{nameCount}
 use Rattle.program.specs.Questions.{shapeValidity}
-use Rattle.program.specs.declared.Layout.{Layout}
 use Rattle.program.proofs.Asking.{then-fit}
+use Rattle.program.proofs.Reading.{laid-names}
 use Rattle.program.proofs.validation.check_operands.Statement.{statement}
 use Rattle.program.proofs.validation.check_operands.Tie as tie
 
 all-named-requires : tie.Need-all-named-requires
-unfolding nameCount
-all-named-requires c κs = ap (λ (x : Layout). x .names .count) (c .before .before .pre .0)
+all-named-requires c κs = laid-names _ _ (c .before .before .pre .0 .same)
 
 ask-requires : tie.Need-ask-requires
 ask-requires c κs = search needs
@@ -21,7 +18,7 @@ returns : tie.Need-returns
 unfolding shapeValidity inTurn thenAsk ask
 returns c =
     let pre = c .before .before .before .before .before .pre in
-    rw (← pre .2, ← pre .3, ← c .before .before .all-named .ensures, not-true (c .before .before .all-named .result) (c .before .if1 .taken))
+    rw (← pre .1, ← pre .2, ← c .before .before .all-named .ensures, not-true (c .before .before .all-named .result) (c .before .if1 .taken))
     (c .ask .ensures)
 
 all-point-requires : tie.Need-all-point-requires
@@ -35,8 +32,8 @@ unfolding shapeValidity inTurn thenAsk ask
 returns-2 c =
     let pre = c .before .before .before .before .before .before .pre in
     rw (
+      ← pre .1,
       ← pre .2,
-      ← pre .3,
       ← c .before .before .before .all-named .ensures,
       not-false (c .before .before .before .all-named .result) (c .before .before .if1 .left),
       ← c .before .all-point .ensures,

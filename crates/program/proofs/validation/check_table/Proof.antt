@@ -1,26 +1,25 @@
 -- `program::validation::check_table` meets its contract.
-use Prim.Native.Nat.{_≤_, _-_}
 use borrow.Author.Needs.{needs}
+use Prim.Native.Nat.{_≤_, _-_}
 use mathlib.Core.Path.{sym, refl, ap, _∙_, _≡_}
 use native.Mathlib.Numerals.{add-one}
 use native.Mathlib.Omega.{arith}
 use Rattle.program.specs.FirstSuch.{firstOf}
 use Rattle.program.specs.Asking.{askEach}
-use Rattle.program.specs.File.{spanOf, entryCount}
 use Rattle.program.specs.Questions.{tableValidity, entryValidity}
-use Rattle.program.specs.declared.Layout.{Layout}
 use Rattle.program.specs.declared.Span.{Span}
 use Rattle.program.specs.declared.Validity.the-variants.{Fit}
 use Rattle.program.proofs.Asking.{each-stops, each-goes-on}
+use Rattle.program.proofs.Reading.{laid-count, laid-start}
 use Rattle.program.proofs.validation.check_table.Statement.{statement}
 use Rattle.program.proofs.validation.check_table.Tie as tie
 
 abbrev Inv-loop : tie.InvT-loop
-Inv-loop s l table count n₀ n =
+Inv-loop s l table start count n₀ n =
     (n ≤ count) × (askEach n (entryValidity s table) ≡ Fit)
 
 abbrev μ-loop : tie.MeasureT-loop
-μ-loop s l table count n₀ n = count - n
+μ-loop s l table start count n₀ n = count - n
 
 span-of-requires : tie.Need-span-of-requires Inv-loop μ-loop
 span-of-requires c κs = search needs
@@ -30,21 +29,18 @@ unfolding askEach firstOf
 loop-holds c = (search needs, refl)
 
 check-entry-requires : tie.Need-check-entry-requires Inv-loop μ-loop
-check-entry-requires c κs = search needs
+check-entry-requires c κs =
+    (c .before .before .before .before .pre, ap (λ (x : Span). x .start) (c .before .before .span-of .ensures) ∙ laid-start _ _ (c .before .before .before .before .pre .same) (c .before .before .before .before .args .table))
 
 refused-requires : tie.Need-refused-requires Inv-loop μ-loop
 refused-requires c κs = search needs
-
--- the loop goes to the table's number of entries
-counted : (c : tie.After-span-of Inv-loop μ-loop) → c .span-of .result .count ≡ entryCount (c .before .before .args .s .now) (c .before .before .args .table)
-unfolding entryCount
-counted c = ap (λ (x : Span). x .count) (c .span-of .ensures ∙ ap (λ (l : Layout). spanOf l (c .before .before .args .table)) (c .before .before .pre .0))
 
 returns : tie.Need-returns Inv-loop μ-loop
 unfolding tableValidity
 returns c =
     let l = c .before .before .before .before .loop in
-    each-stops _ _ (l .n) _ _ (omega (arith, counted (c .before .before .before .before .before))) (l .inv .1) (c .before .before .check-entry .ensures) (c .before .refused .ensures) (c .if1 .taken)
+    let count = ap (λ (x : Span). x .count) (c .before .before .before .before .before .span-of .ensures) ∙ laid-count _ _ (c .before .before .before .before .before .before .before .pre .same) (c .before .before .before .before .before .before .before .args .table) in
+    each-stops _ _ (l .n) _ _ (omega arith) (l .inv .1) (c .before .before .check-entry .ensures) (c .before .refused .ensures) (c .if1 .taken)
 
 add-n : tie.Need-add-n Inv-loop μ-loop
 add-n c = search needs
@@ -60,22 +56,8 @@ loop-again c =
 returns-2 : tie.Need-returns-2 Inv-loop μ-loop
 unfolding tableValidity
 returns-2 c =
-    let l = c .before .loop in
-    let a = c .before .before .before .before .args in
-    sym (ap (λ n. askEach n (entryValidity (a .s .now) (a .table))) (omega (arith, counted (c .before .before))) ∙ l .inv .1)
+    let count = ap (λ (x : Span). x .count) (c .before .before .span-of .ensures) ∙ laid-count _ _ (c .before .before .before .before .pre .same) (c .before .before .before .before .args .table) in
+    sym (ap (λ n. askEach n (entryValidity (c .before .before .before .before .args .s .now) (c .before .before .before .before .args .table))) (omega arith) ∙ c .before .loop .inv .1)
 
 pub check-table-spec : {M : Type 1} → statement M
-check-table-spec =
-    tie.close
-    (tie.spec
-    Inv-loop
-    μ-loop
-    span-of-requires
-    loop-holds
-    check-entry-requires
-    refused-requires
-    returns
-    add-n
-    loop-less
-    loop-again
-    returns-2)
+check-table-spec = tie.close (tie.spec Inv-loop μ-loop span-of-requires loop-holds check-entry-requires refused-requires returns add-n loop-less loop-again returns-2)

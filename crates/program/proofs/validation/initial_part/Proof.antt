@@ -1,36 +1,38 @@
 -- `program::validation::initial_part` meets its contract.
-use Prim.Native.Nat.{_+_, _-_}
 use borrow.Author.Needs.{needs}
 use lib.ListN.{take, drop}
-use mathlib.Core.Path.{_≡_, _∙_}
-use native.Mathlib.Omega.{arith}
-use Rattle.program.specs.File.{fieldStart, contentLength}
+use mathlib.Core.Path.{_∙_}
+use Rattle.program.specs.File.{headContent}
 use Rattle.program.specs.Questions.{initialPart}
-use Rattle.program.proofs.Reading.{field-next}
 use Rattle.program.proofs.validation.initial_part.Statement.{statement}
 use Rattle.program.proofs.validation.initial_part.Tie as tie
 
-field-start-requires : tie.Need-field-start-requires
-field-start-requires c κs = search needs
+field-head-requires : tie.Need-field-head-requires
+field-head-requires c κs = search needs
 
-add-start : tie.Need-add-start
-add-start c = search needs
+enum-told : tie.Need-enum-told
+enum-told c = search needs
 
-field-start-requires-2 : tie.Need-field-start-requires-2
-field-start-requires-2 c κs = search needs
+slice-aggregate-result : tie.Need-slice-aggregate-result
+slice-aggregate-result c = search needs
+
+enum-known-found : tie.Need-enum-known-found
+enum-known-found c = search needs
+
+long-requires : tie.Need-long-requires
+long-requires c κs = search needs
 
 part-requires : tie.Need-part-requires
-part-requires c κs = omega (arith, field-next (c .before .before .before .args .s .now) 4)
+part-requires c κs = search needs
 
 returns : tie.Need-returns
-unfolding initialPart
-returns c =
-    let s = c .before .before .before .before .args .s .now in
-    let start = c .before .before .field-start .ensures .0 in
-    let size : c .before .field-start2 .result - (c .before .before .field-start .result + 3) ≡ contentLength s (fieldStart s 4) = omega (arith, field-next s 4) in
-    c .part .ensures ∙ (λ i. take (size i) (drop (start i + 3) s))
+unfolding initialPart headContent
+returns c = rw (← c .before .before .before .field-head .ensures, c .before .enum-told .given .1)
+
+returns-2 : tie.Need-returns-2
+unfolding initialPart headContent
+returns-2 c =
+    rw (← c .before .before .before .before .before .field-head .ensures, c .before .before .before .found .given .1, ← c .before .long .ensures) (c .part .ensures)
 
 pub initial-part-spec : {M : Type 1} → statement M
-initial-part-spec =
-    tie.close
-    (tie.spec field-start-requires add-start field-start-requires-2 part-requires returns)
+initial-part-spec = tie.close (tie.spec field-head-requires enum-told slice-aggregate-result enum-known-found long-requires part-requires returns returns-2)

@@ -1,7 +1,9 @@
 -- `program::validation::points_to` meets its contract.
 use borrow.Author.Needs.{needs}
 use borrow.Author.Tests.{lt-ltb, le-ltb}
+use mathlib.Core.Path.{_∙_}
 use Rattle.program.specs.Questions.{points}
+use Rattle.program.proofs.Reading.{laid-limit}
 use Rattle.program.proofs.validation.points_to.Statement.{statement}
 use Rattle.program.proofs.validation.points_to.Tie as tie
 
@@ -19,7 +21,7 @@ unfolding points
 returns c =
     rw (
       ← c .before .before .before .table-of .ensures,
-      ← c .before .before .limit .ensures,
+      ← (c .before .before .limit .ensures ∙ laid-limit _ _ (c .before .before .before .before .before .pre .same) _ _ _),
       lt-ltb _ _ (c .before .if1 .taken),
     )
     (c .of-sort .ensures)
@@ -29,7 +31,7 @@ unfolding points
 returns-2 c =
     rw (
       ← c .before .before .table-of .ensures,
-      ← c .before .limit .ensures,
+      ← (c .before .limit .ensures ∙ laid-limit _ _ (c .before .before .before .before .pre .same) _ _ _),
       le-ltb _ _ (c .if1 .left),
     )
 

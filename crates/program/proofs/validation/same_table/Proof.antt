@@ -1,103 +1,25 @@
 -- `program::validation::same_table` meets its contract.
 use borrow.Author.Needs.{needs}
+use mathlib.Core.Path.{ap, _∙_}
+use lib.Dec.{eqb}
 use Rattle.program.specs.Questions.{sameTable}
+use Rattle.program.specs.declared.Field.{Field}
+use Rattle.program.proofs.Reading.{table-tag}
 use Rattle.program.proofs.validation.same_table.Statement.{statement}
 use Rattle.program.proofs.validation.same_table.Tie as tie
 
-enum-told : tie.Need-enum-told
-enum-told c = search needs
+table-field-requires : tie.Need-table-field-requires
+table-field-requires c κs = search needs
 
-enum-told-2 : tie.Need-enum-told-2
-enum-told-2 c = search needs
-
-enum-told-3 : tie.Need-enum-told-3
-enum-told-3 c = search needs
-
-enum-told-4 : tie.Need-enum-told-4
-enum-told-4 c = search needs
-
-enum-told-5 : tie.Need-enum-told-5
-enum-told-5 c = search needs
-
-enum-told-6 : tie.Need-enum-told-6
-enum-told-6 c = search needs
-
-enum-told-7 : tie.Need-enum-told-7
-enum-told-7 c = search needs
-
-enum-told-8 : tie.Need-enum-told-8
-enum-told-8 c = search needs
-
-enum-told-9 : tie.Need-enum-told-9
-enum-told-9 c = search needs
-
-enum-told-10 : tie.Need-enum-told-10
-enum-told-10 c = search needs
-
-enum-told-11 : tie.Need-enum-told-11
-enum-told-11 c = search needs
-
-enum-told-12 : tie.Need-enum-told-12
-enum-told-12 c = search needs
+table-field-requires-2 : tie.Need-table-field-requires-2
+table-field-requires-2 c κs = search needs
 
 returns : tie.Need-returns
 unfolding sameTable
-returns c = rw (c .before .before .enum-told .given .1, c .enum-told2 .given .1)
-
-returns-2 : tie.Need-returns-2
-unfolding sameTable
-returns-2 c = rw (c .before .before .enum-told .given .1, c .enum-told3 .given .1)
-
-returns-3 : tie.Need-returns-3
-unfolding sameTable
-returns-3 c = rw (c .before .before .enum-told .given .1, c .enum-told4 .given .1)
-
-returns-4 : tie.Need-returns-4
-unfolding sameTable
-returns-4 c = rw (c .before .before .enum-told5 .given .1, c .enum-told6 .given .1)
-
-returns-5 : tie.Need-returns-5
-unfolding sameTable
-returns-5 c = rw (c .before .before .enum-told5 .given .1, c .enum-told7 .given .1)
-
-returns-6 : tie.Need-returns-6
-unfolding sameTable
-returns-6 c = rw (c .before .before .enum-told5 .given .1, c .enum-told8 .given .1)
-
-returns-7 : tie.Need-returns-7
-unfolding sameTable
-returns-7 c = rw (c .before .before .enum-told9 .given .1, c .enum-told10 .given .1)
-
-returns-8 : tie.Need-returns-8
-unfolding sameTable
-returns-8 c = rw (c .before .before .enum-told9 .given .1, c .enum-told11 .given .1)
-
-returns-9 : tie.Need-returns-9
-unfolding sameTable
-returns-9 c = rw (c .before .before .enum-told9 .given .1, c .enum-told12 .given .1)
+returns c =
+    let first = ap (λ (x : Field). x .tag) (c .before .before .before .table-field .ensures) ∙ table-tag (c .before .before .before .before .args .t) in
+    let second = ap (λ (x : Field). x .tag) (c .before .before .table-field2 .ensures) ∙ table-tag (c .before .before .before .before .args .u) in
+    λ i. eqb (first i) (second i)
 
 pub same-table-spec : {M : Type 1} → statement M
-same-table-spec =
-    tie.close
-    (tie.spec
-    enum-told
-    enum-told-2
-    enum-told-3
-    enum-told-4
-    enum-told-5
-    enum-told-6
-    enum-told-7
-    enum-told-8
-    enum-told-9
-    enum-told-10
-    enum-told-11
-    enum-told-12
-    returns
-    returns-2
-    returns-3
-    returns-4
-    returns-5
-    returns-6
-    returns-7
-    returns-8
-    returns-9)
+same-table-spec = tie.close (tie.spec table-field-requires table-field-requires-2 returns)

@@ -1,13 +1,12 @@
 -- `program::validation::validate_input` meets its contract.
-use Prim.Native.Nat.{ℕ}
 use borrow.Author.Needs.{needs}
 use mathlib.Core.Path.{sym, _∙_, ap}
 use native.Mathlib.Omega.{arith}
 use Rattle.program.specs.Asking.{inTurn}
-use Rattle.program.specs.File.{fieldStart}
-use Rattle.program.specs.Questions.{inputValidity, initialField, headValidity}
-use Rattle.program.proofs.Asking.{stops, goes-on, last-asked, not-refused}
+use Rattle.program.specs.Questions.{inputValidity, initialField}
+use Rattle.program.proofs.Asking.{stops, goes-on, last-asked, not-refused, numbered}
 use Rattle.program.proofs.Fit.{counts-allowed}
+use Rattle.program.proofs.Reading.{asked-head}
 use Rattle.program.proofs.validation.validate_input.Statement.{statement}
 use Rattle.program.proofs.validation.validate_input.Tie as tie
 
@@ -18,24 +17,31 @@ refused-requires : tie.Need-refused-requires
 refused-requires c κs = search needs
 
 returns : tie.Need-returns
-unfolding inputValidity inTurn initialField
-returns c = stops _ _ _ _ (c .before .before .check-heads .ensures) (c .before .refused .ensures) (c .if1 .taken)
+unfolding inputValidity inTurn
+returns c =
+    numbered
+    (stops _ _ _ _ (c .before .before .check-heads .ensures) (c .before .refused .ensures) (c .if1 .taken))
 
 name-count-requires : tie.Need-name-count-requires
 name-count-requires c κs = search needs
 
+field-head-requires : tie.Need-field-head-requires
+field-head-requires c κs = search needs
+
 check-head-requires : tie.Need-check-head-requires
 check-head-requires c κs =
-    let heads = sym (c .before .before .before .check-heads .ensures) ∙ not-refused _ _ (c .before .before .refused .ensures) (c .before .if1 .left) in
-    omega (arith, counts-allowed _ heads .some-name)
+    let heads = sym (c .before .before .before .before .check-heads .ensures) ∙ not-refused _ _ (c .before .before .before .refused .ensures) (c .before .before .if1 .left) in
+    omega (arith, counts-allowed _ heads .some-name, c .before .name-count .ensures)
 
 refused-requires-2 : tie.Need-refused-requires-2
 refused-requires-2 c κs = search needs
 
 returns-2 : tie.Need-returns-2
 unfolding inputValidity inTurn initialField
-returns-2 c = goes-on _ _ _ _ _ (c .before .before .before .before .before .before .check-heads .ensures) (c .before .before .before .before .before .refused .ensures) (c .before .before .before .before .if1 .left)
-    (stops _ _ _ _ (c .before .before .check-head .ensures ∙ ap (λ (w : ℕ). headValidity (c .before .before .before .before .before .before .before .before .args .s .now) (fieldStart (c .before .before .before .before .before .before .before .before .args .s .now) 4) (record { tag = 5; width = w; least = 0; most = 512 })) (c .before .before .before .name-count .ensures)) (c .before .refused2 .ensures) (c .if2 .taken))
+returns-2 c =
+    numbered
+    (goes-on _ _ _ _ _ (c .before .before .before .before .before .before .before .check-heads .ensures) (c .before .before .before .before .before .before .refused .ensures) (c .before .before .before .before .before .if1 .left)
+    (stops _ _ _ _ (asked-head _ (c .before .before .check-head .ensures) (c .before .before .before .field-head .ensures) (λ i. record { tag = 5; width = c .before .before .before .before .name-count .ensures i; least = 0; most = 512 })) (c .before .refused2 .ensures) (c .if2 .taken)))
 
 check-end-requires : tie.Need-check-end-requires
 check-end-requires c κs = search needs
@@ -45,33 +51,24 @@ refused-requires-3 c κs = search needs
 
 returns-3 : tie.Need-returns-3
 unfolding inputValidity inTurn initialField
-returns-3 c = goes-on _ _ _ _ _ (c .before .before .before .before .before .before .before .before .before .check-heads .ensures) (c .before .before .before .before .before .before .before .before .refused .ensures) (c .before .before .before .before .before .before .before .if1 .left)
-    (goes-on _ _ _ _ _ (c .before .before .before .before .before .check-head .ensures ∙ ap (λ (w : ℕ). headValidity (c .before .before .before .before .before .before .before .before .before .before .before .args .s .now) (fieldStart (c .before .before .before .before .before .before .before .before .before .before .before .args .s .now) 4) (record { tag = 5; width = w; least = 0; most = 512 })) (c .before .before .before .before .before .before .name-count .ensures)) (c .before .before .before .before .refused2 .ensures) (c .before .before .before .if2 .left)
-    (stops _ _ _ _ (c .before .before .check-end .ensures) (c .before .refused3 .ensures) (c .if3 .taken)))
+returns-3 c =
+    numbered
+    (goes-on _ _ _ _ _ (c .before .before .before .before .before .before .before .before .before .before .check-heads .ensures) (c .before .before .before .before .before .before .before .before .before .refused .ensures) (c .before .before .before .before .before .before .before .before .if1 .left)
+    (goes-on _ _ _ _ _ (asked-head _ (c .before .before .before .before .before .check-head .ensures) (c .before .before .before .before .before .before .field-head .ensures) (λ i. record { tag = 5; width = c .before .before .before .before .before .before .before .name-count .ensures i; least = 0; most = 512 })) (c .before .before .before .before .refused2 .ensures) (c .before .before .before .if2 .left)
+    (stops _ _ _ _ (c .before .before .check-end .ensures) (c .before .refused3 .ensures) (c .if3 .taken))))
 
 check-content-requires : tie.Need-check-content-requires
-check-content-requires c κs = sym (c .before .before .before .before .before .before .before .before .before .check-heads .ensures) ∙ not-refused _ _ (c .before .before .before .before .before .before .before .before .refused .ensures) (c .before .before .before .before .before .before .before .if1 .left)
+check-content-requires c κs =
+    sym (c .before .before .before .before .before .before .before .before .before .before .check-heads .ensures) ∙ not-refused _ _ (c .before .before .before .before .before .before .before .before .before .refused .ensures) (c .before .before .before .before .before .before .before .before .if1 .left)
 
 returns-4 : tie.Need-returns-4
 unfolding inputValidity inTurn initialField
-returns-4 c = goes-on _ _ _ _ _ (c .before .before .before .before .before .before .before .before .before .before .check-heads .ensures) (c .before .before .before .before .before .before .before .before .before .refused .ensures) (c .before .before .before .before .before .before .before .before .if1 .left)
-    (goes-on _ _ _ _ _ (c .before .before .before .before .before .before .check-head .ensures ∙ ap (λ (w : ℕ). headValidity (c .before .before .before .before .before .before .before .before .before .before .before .before .args .s .now) (fieldStart (c .before .before .before .before .before .before .before .before .before .before .before .before .args .s .now) 4) (record { tag = 5; width = w; least = 0; most = 512 })) (c .before .before .before .before .before .before .before .name-count .ensures)) (c .before .before .before .before .before .refused2 .ensures) (c .before .before .before .before .if2 .left)
+returns-4 c =
+    numbered
+    (goes-on _ _ _ _ _ (c .before .before .before .before .before .before .before .before .before .before .before .check-heads .ensures) (c .before .before .before .before .before .before .before .before .before .before .refused .ensures) (c .before .before .before .before .before .before .before .before .before .if1 .left)
+    (goes-on _ _ _ _ _ (asked-head _ (c .before .before .before .before .before .before .check-head .ensures) (c .before .before .before .before .before .before .before .field-head .ensures) (λ i. record { tag = 5; width = c .before .before .before .before .before .before .before .before .name-count .ensures i; least = 0; most = 512 })) (c .before .before .before .before .before .refused2 .ensures) (c .before .before .before .before .if2 .left)
     (goes-on _ _ _ _ _ (c .before .before .before .check-end .ensures) (c .before .before .refused3 .ensures) (c .before .if3 .left)
-    (last-asked _ _ (c .check-content .ensures))))
+    (last-asked _ _ (c .check-content .ensures)))))
 
 pub validate-input-spec : {M : Type 1} → statement M
-validate-input-spec =
-    tie.close
-    (tie.spec
-    check-heads-requires
-    refused-requires
-    returns
-    name-count-requires
-    check-head-requires
-    refused-requires-2
-    returns-2
-    check-end-requires
-    refused-requires-3
-    returns-3
-    check-content-requires
-    returns-4)
+validate-input-spec = tie.close (tie.spec check-heads-requires refused-requires returns name-count-requires field-head-requires check-head-requires refused-requires-2 returns-2 check-end-requires refused-requires-3 returns-3 check-content-requires returns-4)

@@ -17,11 +17,12 @@ div-count c = search needs
 
 returns-2 : tie.Need-returns-2
 unfolding wholeEntries
-returns-2 c = simp (eq-eqb _ _ (c .before .if1 .left), le-leb _ _ (c .if2 .taken))
+returns-2 c =
+    simp (eq-eqb _ _ (c .before .before .before .before .if1 .left), le-leb _ _ (c .before .if2 .taken))
 
 returns-3 : tie.Need-returns-3
 unfolding wholeEntries
-returns-3 c = simp (eq-eqb _ _ (c .before .if1 .left), lt-leb _ _ (c .if2 .left))
+returns-3 c = simp (eq-eqb _ _ (c .before .before .before .if1 .left), lt-leb _ _ (c .if2 .left))
 
 pub whole-entries-spec : {M : Type 1} → statement M
 whole-entries-spec = tie.close (tie.spec rem-if1 returns div-count returns-2 returns-3)

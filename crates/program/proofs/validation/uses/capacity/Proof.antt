@@ -1,29 +1,17 @@
 -- `program::validation::uses::capacity` meets its contract.
 use borrow.Author.Needs.{needs}
+use mathlib.Core.Path.{ap}
 use Rattle.program.specs.Counting.{capacity}
+use Rattle.program.specs.declared.Field.{Field}
 use Rattle.program.proofs.validation.uses.capacity.Statement.{statement}
 use Rattle.program.proofs.validation.uses.capacity.Tie as tie
 
-enum-told : tie.Need-enum-told
-enum-told c = search needs
-
-enum-told-2 : tie.Need-enum-told-2
-enum-told-2 c = search needs
-
-enum-told-3 : tie.Need-enum-told-3
-enum-told-3 c = search needs
+table-field-requires : tie.Need-table-field-requires
+table-field-requires c κs = search needs
 
 returns : tie.Need-returns
 unfolding capacity
-returns c = rw (c .enum-told .given .1)
-
-returns-2 : tie.Need-returns-2
-unfolding capacity
-returns-2 c = rw (c .enum-told2 .given .1)
-
-returns-3 : tie.Need-returns-3
-unfolding capacity
-returns-3 c = rw (c .enum-told3 .given .1)
+returns c = ap (λ (x : Field). x .most) (c .table-field .ensures)
 
 pub capacity-spec : {M : Type 1} → statement M
-capacity-spec = tie.close (tie.spec enum-told enum-told-2 enum-told-3 returns returns-2 returns-3)
+capacity-spec = tie.close (tie.spec table-field-requires returns)

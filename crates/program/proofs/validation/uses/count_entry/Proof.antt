@@ -1,16 +1,23 @@
 -- `program::validation::uses::count_entry` meets its contract.
 use borrow.Author.Needs.{needs}
 use mathlib.Core.Path.{_≡_, refl, ap, sym, _∙_}
-use Rattle.program.specs.File.{entry, entryAt}
+use Rattle.program.specs.File.{entry}
 use Rattle.program.specs.Kind.{shape}
 use Rattle.program.specs.Questions.{entryUses, shapeUses}
 use Rattle.program.specs.declared.Entry.{Entry}
 use Rattle.program.proofs.Counting.{counted-none}
+use Rattle.program.proofs.Reading.{entry-read}
 use Rattle.program.proofs.validation.uses.count_entry.Statement.{statement}
 use Rattle.program.proofs.validation.uses.count_entry.Tie as tie
 
-offset-requires : tie.Need-offset-requires
-offset-requires c κs = search needs
+long-requires : tie.Need-long-requires
+long-requires c κs = search needs
+
+mul-entry-at : tie.Need-mul-entry-at
+mul-entry-at c = search needs
+
+add-entry-at : tie.Need-add-entry-at
+add-entry-at c = search needs
 
 entry-at-requires : tie.Need-entry-at-requires
 entry-at-requires c κs = search needs
@@ -28,10 +35,10 @@ count-operands-requires : tie.Need-count-operands-requires
 count-operands-requires c κs = search needs
 
 returns : tie.Need-returns
-unfolding entryUses shapeUses entry
+unfolding entryUses shapeUses
 returns c =
     let a = c .before .before .before .before .before .before .before .args in
-    let e : c .before .before .before .entry-at .result ≡ entry (a .s .now) (a .table) (a .m) = c .before .before .before .entry-at .ensures ∙ ap (entryAt (a .s .now)) (c .before .before .before .before .offset .ensures) in
+    let e = entry-read _ (a .table) _ _ _ (c .before .before .before .entry-at .ensures) (c .before .before .before .before .before .before .before .pre .0) (c .before .before .before .before .long .ensures) in
     let told : shape (a .table) (entry (a .s .now) (a .table) (a .m) .kind) ≡ c .before .before .shape .result = ap (λ (x : Entry). shape (a .table) (x .kind)) (sym e) ∙ sym (c .before .before .shape .ensures) in
     simp (told, c .enum-told .given .1) (counted-none _ _ (λ u n h. refl))
 
@@ -39,23 +46,12 @@ same-length : tie.Need-same-length
 same-length c = search needs
 
 returns-2 : tie.Need-returns-2
-unfolding entryUses entry
+unfolding entryUses
 returns-2 c =
     let a = c .before .before .before .before .before .before .before .before .before .before .before .before .args in
-    let e : c .before .before .before .before .before .before .before .before .entry-at .result ≡ entry (a .s .now) (a .table) (a .m) = c .before .before .before .before .before .before .before .before .entry-at .ensures ∙ ap (entryAt (a .s .now)) (c .before .before .before .before .before .before .before .before .before .offset .ensures) in
+    let e = entry-read _ (a .table) _ _ _ (c .before .before .before .before .before .before .before .before .entry-at .ensures) (c .before .before .before .before .before .before .before .before .before .before .before .before .pre .0) (c .before .before .before .before .before .before .before .before .before .long .ensures) in
     let told : shape (a .table) (entry (a .s .now) (a .table) (a .m) .kind) ≡ c .before .before .before .before .before .before .before .shape .result = ap (λ (x : Entry). shape (a .table) (x .kind)) (sym e) ∙ sym (c .before .before .before .before .before .before .before .shape .ensures) in
     simp (told, c .before .before .before .before .before .roles .given .1, ← e) (c .before .before .count-operands .ensures)
 
 pub count-entry-spec : {M : Type 1} → statement M
-count-entry-spec =
-    tie.close
-    (tie.spec
-    offset-requires
-    entry-at-requires
-    shape-requires
-    enum-told
-    enum-known-roles
-    count-operands-requires
-    returns
-    same-length
-    returns-2)
+count-entry-spec = tie.close (tie.spec long-requires mul-entry-at add-entry-at entry-at-requires shape-requires enum-told enum-known-roles count-operands-requires returns same-length returns-2)

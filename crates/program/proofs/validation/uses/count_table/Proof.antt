@@ -1,24 +1,23 @@
 -- `program::validation::uses::count_table` meets its contract.
-use Prim.Native.Nat.{ℕ, _≤_, _-_}
 use borrow.Author.Needs.{needs}
+use Prim.Native.Nat.{ℕ, _≤_, _-_}
 use mathlib.Core.Path.{_≡_, refl, ap, _∙_, subst}
 use native.Mathlib.Numerals.{add-one}
 use native.Mathlib.Omega.{arith}
 use Rattle.program.specs.Counting.{Counted}
-use Rattle.program.specs.File.{spanOf, entryCount}
 use Rattle.program.specs.Questions.{tableUses}
-use Rattle.program.specs.declared.Layout.{Layout}
 use Rattle.program.specs.declared.Span.{Span}
 use Rattle.program.proofs.Counting.{counted-none, counted-then}
+use Rattle.program.proofs.Reading.{laid-count, laid-start}
 use Rattle.program.proofs.validation.uses.count_table.Statement.{statement}
 use Rattle.program.proofs.validation.uses.count_table.Tie as tie
 
 abbrev Inv-loop : tie.InvT-loop
-Inv-loop s l table uses₀ count m₀ uses m =
+Inv-loop s table uses₀ start count m₀ uses m =
     (m ≤ count) × Counted uses₀ uses (λ u n. tableUses s u n table m)
 
 abbrev μ-loop : tie.MeasureT-loop
-μ-loop s l table uses₀ count m₀ uses m = count - m
+μ-loop s table uses₀ start count m₀ uses m = count - m
 
 span-of-requires : tie.Need-span-of-requires Inv-loop μ-loop
 span-of-requires c κs = search needs
@@ -28,7 +27,9 @@ unfolding tableUses
 loop-holds c = (search needs, counted-none _ _ (λ u n h. refl))
 
 count-entry-requires : tie.Need-count-entry-requires Inv-loop μ-loop
-count-entry-requires c κs = search needs
+count-entry-requires c κs =
+    let start = ap (λ (x : Span). x .start) (c .before .before .before .span-of .ensures) in
+    (start ∙ laid-start _ _ (c .before .before .before .before .before .before .pre .0 .same) (c .before .before .before .before .before .before .args .table), omega (arith, c .before .before .before .before .before .before .pre .0 .inside (c .before .before .before .before .before .before .args .table)), search needs)
 
 add-m : tie.Need-add-m Inv-loop μ-loop
 add-m c = search needs
@@ -45,23 +46,10 @@ same-length : tie.Need-same-length Inv-loop μ-loop
 same-length c = search needs
 
 returns : tie.Need-returns Inv-loop μ-loop
-unfolding entryCount
 returns c =
     let a = c .before .before .before .before .before .args in
-    let counted : c .before .before .span-of .result .count ≡ entryCount (a .s .now) (a .table) = ap (λ (x : Span). x .count) (c .before .before .span-of .ensures ∙ ap (λ (l : Layout). spanOf l (a .table)) (c .before .before .before .before .before .pre .0)) in
+    let counted = ap (λ (x : Span). x .count) (c .before .before .span-of .ensures) ∙ laid-count _ _ (c .before .before .before .before .before .pre .0 .same) (a .table) in
     subst (λ (k : ℕ). Counted (a .uses .now) (c .before .loop .uses) (λ u n. tableUses (a .s .now) u n (a .table) k)) (omega arith) (c .before .loop .inv .1)
 
 pub count-table-spec : {M : Type 1} → statement M
-count-table-spec =
-    tie.close
-    (tie.spec
-    Inv-loop
-    μ-loop
-    span-of-requires
-    loop-holds
-    count-entry-requires
-    add-m
-    loop-less
-    loop-again
-    same-length
-    returns)
+count-table-spec = tie.close (tie.spec Inv-loop μ-loop span-of-requires loop-holds count-entry-requires add-m loop-less loop-again same-length returns)
