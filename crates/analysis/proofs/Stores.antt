@@ -19,11 +19,11 @@ use Rattle.signs.proofs.Laws.{has-single, single-only, same-set, has-unionAll, 
 use Rattle.signs.proofs.Lists.{or-left, or-right, anyOf-map}
 use Rattle.program.specs.File.{cellsOf, cellCount, firstCell}
 use Rattle.program.proofs.Laws.{cells-apart, cells-inside}
-use Rattle.program.proofs.Lists.{length-tabulate, getD-tabulate}
+use Rattle.program.proofs.Lists.{length-tabulate, getD-tabulate, tabulate-same}
 use Rattle.program.proofs.Tests.{passed}
 use Rattle.semantics.specs.Expression.{cellValue}
 use Rattle.analysis.specs.Abstraction.{signsOf, nameValues, abstractMemory}
-use Rattle.analysis.proofs.Tabulated.{same-test, anyOf-at, at-anyOf, tabulate-same}
+use Rattle.analysis.proofs.Tabulated.{same-test, anyOf-at, at-anyOf}
 use Rattle.analysis.proofs.Values.{has-signOf}
 
 -- a set of signs has no other signs than those of its numbers

@@ -67,9 +67,3 @@ module _ {A : Type 0} where
   allOf-below p zero f h = tt
   allOf-below p (suc n) f h =
       allOf-append p (tabulate n f) (f n ∷ []) (allOf-below p n f (λ i l. h i (omega arith))) (yes-and (p (f n)) true (h n (omega arith)) tt)
-
-  -- it depends on what is given below n alone
-  pub tabulate-same : (n : ℕ) (f g : ℕ → A) → ((i : ℕ) → i < n → f i ≡ g i) → tabulate n f ≡ tabulate n g
-  unfolding tabulate
-  tabulate-same zero f g h = refl
-  tabulate-same (suc n) f g h = rw (tabulate-same n f g (λ i l. h i (omega arith)), h n (omega arith))
