@@ -5,7 +5,7 @@ use mathlib.Core.List.{List}
 use Prim.Native.Nat.{ℕ, _+_, _<_}
 use lib.Dec.{T}
 use lib.ListN.{getD}
-use Rattle.program.specs.File.{sizes, entryCount}
+use Rattle.program.specs.File.{sizes, entryCount, entry}
 use Rattle.program.specs.Graph.{perform, leave, Edge, edge, guardAction, part, graph, edges, edgeCount, actionKind, actionEntry, actionTable, actionOf}
 use Rattle.program.specs.Questions.{validity}
 use Rattle.program.specs.Sorted.{actionNamed, actionPoints}
@@ -22,7 +22,7 @@ use Rattle.program.proofs.Trees.{boolean-entry}
 
 -- what holds of the action of an edge
 pub record Faithful (s : List ℕ) (e : Edge) : Type 0 where
-  pub same : e .action ≡ actionOf s (actionKind (e .action)) (actionEntry (e .action))
+  pub same : e .action ≡ actionOf (entry s) (actionKind (e .action)) (actionEntry (e .action))
   pub named : T (actionNamed (sizes s) (e .action))
   pub points : T (actionPoints (e .action))
   pub exists : actionEntry (e .action) < entryCount s (actionTable (actionKind (e .action)))
@@ -39,14 +39,14 @@ module _ (s : List ℕ) (fit : validity s ≡ Fit) where
         exists = rw (made-entry m) (made-at m .exists);
       }
 
-  tested : {a b : ℕ} (n : ℕ) → n < entryCount s Booleans → Faithful s (edge a (guardAction (booleanAt s n)) b)
+  tested : {a b : ℕ} (n : ℕ) → n < entryCount s Booleans → Faithful s (edge a (guardAction (booleanAt (entry s) n)) b)
   unfolding guardAction actionKind actionEntry actionTable actionOf actionNamed actionPoints
   tested n h =
       record {
-        same = rw (boolean-entry s n);
+        same = rw (boolean-entry (entry s) n);
         named = passed (boolean-sorted s fit n h .named);
         points = passed (boolean-sorted s fit n h .points);
-        exists = rw (boolean-entry s n) h;
+        exists = rw (boolean-entry (entry s) n) h;
       }
 
   left : {a b n : ℕ} {c : Command} → Made s true n c → Faithful s (edge a (leave c) b)

@@ -6,7 +6,7 @@ use Prim.Native.Nat.{ℕ, zero, suc, _+_, _*_, _≤_, _<_}
 use native.Mathlib.Nat.{zero-mul, one-mul, add-mul}
 use native.Mathlib.Omega.{arith}
 use lib.ListN.{length, length-append}
-use Rattle.program.specs.File.{entryCount}
+use Rattle.program.specs.File.{entryCount, entry}
 use Rattle.program.specs.Graph.{leave, edge, part, graph, edges, edgeCount, nodeCount}
 use Rattle.program.specs.Kind.{kinds, shape, tableOf}
 use Rattle.program.specs.Questions.{sameTable, limit, refersTo, shapeUses, entryUses, tableUses, uses, lastCommand, validity}
@@ -67,7 +67,7 @@ no-boolean-use r = by-kind _ (λ e. refl) (λ e. refl) (λ e. refl) (λ e. refl)
 module _ (s : List ℕ) where
   -- the size at an entry
   size : ℕ → ℕ
-  size n = commandSize (commandAt s n)
+  size n = commandSize (commandAt (entry s) n)
 
   -- what an operand, and an entry, has below it
   weight : Role → ℕ → ℕ
@@ -114,18 +114,18 @@ module _ (s : List ℕ) where
 
   -- a command's size: one more than what it has below it
   node-size : (n k p q r : ℕ) → Operands s Commands n (shape Commands k) (record { kind = k; p = p; q = q; r = r })
-      → commandSize (commandNode s (commandTrees s n) n (record { kind = k; p = p; q = q; r = r })) ≡ 1 + weights (shape Commands k) (record { kind = k; p = p; q = q; r = r })
+      → commandSize (commandNode (entry s) (commandTrees (entry s) n) n (record { kind = k; p = p; q = q; r = r })) ≡ 1 + weights (shape Commands k) (record { kind = k; p = p; q = q; r = r })
   unfolding shape kinds limit sameTable tableOf commandNode commandSize size weight weights
   node-size n =
       by-kind _
       (λ p q r h. refl)
       (λ p q r h. refl)
       (λ p q r h. refl)
-      (λ p q r h. rw (command-below s n p (h .0 .lower), command-below s n q (h .1 .lower)) (omega arith))
-      (λ p q r h. rw (command-below s n p (h .0 .lower)) (omega arith))
-      (λ p q r h. rw (command-below s n p (h .0 .lower)) (omega arith))
-      (λ p q r h. rw (command-below s n q (h .1 .lower)) (omega arith))
-      (λ p q r h. rw (command-below s n p (h .0 .lower), command-below s n q (h .1 .lower)) (omega arith))
+      (λ p q r h. rw (command-below (entry s) n p (h .0 .lower), command-below (entry s) n q (h .1 .lower)) (omega arith))
+      (λ p q r h. rw (command-below (entry s) n p (h .0 .lower)) (omega arith))
+      (λ p q r h. rw (command-below (entry s) n p (h .0 .lower)) (omega arith))
+      (λ p q r h. rw (command-below (entry s) n q (h .1 .lower)) (omega arith))
+      (λ p q r h. rw (command-below (entry s) n p (h .0 .lower), command-below (entry s) n q (h .1 .lower)) (omega arith))
       (λ k p q r h. absurd h)
 
   module _ (fit : validity s ≡ Fit) where

@@ -11,7 +11,7 @@ use borrow.Author.Tests.{le-leb, lt-leb}
 use Rattle.program.specs.Asking.{ask, thenAsk}
 use Rattle.program.specs.Drawing.{drawValidity, over}
 use Rattle.program.specs.DrawingParts.{strip, partAt, Room, Drew}
-use Rattle.program.specs.File.{entryCount}
+use Rattle.program.specs.File.{entryCount, entry}
 use Rattle.program.specs.Graph.{Edge, graph, edges, edgeCount, nodeCount, wordBytes, edgeBytes, graphBytes}
 use Rattle.program.specs.Questions.{lastCommand, validity}
 use Rattle.program.specs.Tree.{script}
@@ -55,7 +55,7 @@ module _ (s : List ℕ) where
     -- the program is the last command, as a part of all
     program-strip : strip (partAt s (entryCount s Commands) (entryCount s Commands - 1)) 0 1 2 ≡ record { bytes = graphBytes s; fresh = nodeCount s }
     unfolding strip graphBytes nodeCount edges graph script lastCommand
-    program-strip = rw (command-below s (entryCount s Commands) (entryCount s Commands - 1) (omega (arith, counts s fit .some-command)))
+    program-strip = rw (command-below (entry s) (entryCount s Commands) (entryCount s Commands - 1) (omega (arith, counts s fit .some-command)))
 
     -- an array for 255 edges keeps its length
     pub array-length : (edges : List ℕ) → length edges ≡ 1785 → length (over (graphBytes s) edges) ≡ 1785

@@ -6,7 +6,7 @@ use Prim.Native.Nat.{ℕ, _<_}
 use native.Mathlib.Omega.{arith}
 use lib.Dec.{ltb}
 use borrow.Author.Tests.{lt-ltb}
-use Rattle.program.specs.File.{sizes, entryCount}
+use Rattle.program.specs.File.{sizes, entryCount, entry}
 use Rattle.program.specs.Kind.{kinds, shape, tableOf}
 use Rattle.program.specs.Questions.{sameTable, limit, validity}
 use Rattle.program.specs.Sorted.{arithNamed, booleanNamed, arithPoints, booleanPoints}
@@ -30,18 +30,18 @@ pub record BooleanSorted (ns : List ℕ) (b : Boolean) : Type 0 where
   pub points : booleanPoints b ≡ true
 
 -- arithmetic entry n, where the entries below are well sorted
-module _ (s : List ℕ) (n : ℕ) (below : (m : ℕ) → m < n → ArithSorted (sizes s) (arithAt s m)) where
-  arith-names : {x : ℕ} → Reference s Arithmetic n Expression x → arithNamed (sizes s) (arithBelow (arithTrees s n) x) ≡ true
+module _ (s : List ℕ) (n : ℕ) (below : (m : ℕ) → m < n → ArithSorted (sizes s) (arithAt (entry s) m)) where
+  arith-names : {x : ℕ} → Reference s Arithmetic n Expression x → arithNamed (sizes s) (arithBelow (arithTrees (entry s) n) x) ≡ true
   unfolding limit sameTable tableOf
-  arith-names {x} h = rw (arith-below s n x (h .lower)) (below x (h .lower) .named)
+  arith-names {x} h = rw (arith-below (entry s) n x (h .lower)) (below x (h .lower) .named)
 
   arith-lower : {x : ℕ} → Reference s Arithmetic n Expression x
-      → (ltb (arithEntry (arithBelow (arithTrees s n) x)) n && arithPoints (arithBelow (arithTrees s n) x)) ≡ true
+      → (ltb (arithEntry (arithBelow (arithTrees (entry s) n) x)) n && arithPoints (arithBelow (arithTrees (entry s) n) x)) ≡ true
   unfolding limit sameTable tableOf
-  arith-lower {x} h = rw (arith-below s n x (h .lower), arith-entry s x) (both (lt-ltb _ _ (h .lower)) (below x (h .lower) .points))
+  arith-lower {x} h = rw (arith-below (entry s) n x (h .lower), arith-entry (entry s) x) (both (lt-ltb _ _ (h .lower)) (below x (h .lower) .points))
 
   arith-node : (k p q r : ℕ) → Operands s Arithmetic n (shape Arithmetic k) (record { kind = k; p = p; q = q; r = r })
-      → ArithSorted (sizes s) (arithNode (arithTrees s n) n (record { kind = k; p = p; q = q; r = r }))
+      → ArithSorted (sizes s) (arithNode (arithTrees (entry s) n) n (record { kind = k; p = p; q = q; r = r }))
   unfolding shape kinds arithNode arithNamed arithPoints
   arith-node =
       by-kind _
@@ -55,28 +55,28 @@ module _ (s : List ℕ) (n : ℕ) (below : (m : ℕ) → m < n → ArithSorted (
       (λ p q r h. record { named = both (arith-names (h .0)) (arith-names (h .1)); points = both (arith-lower (h .0)) (arith-lower (h .1)) })
       (λ k p q r h. absurd h)
 
-pub arith-sorted : (s : List ℕ) → validity s ≡ Fit → (n : ℕ) → n < entryCount s Arithmetic → ArithSorted (sizes s) (arithAt s n)
+pub arith-sorted : (s : List ℕ) → validity s ≡ Fit → (n : ℕ) → n < entryCount s Arithmetic → ArithSorted (sizes s) (arithAt (entry s) n)
 unfolding arithAt
 arith-sorted s fit =
     from-below _ (λ n below h. arith-node s n (λ m l. below m l (omega arith)) _ _ _ _ (operands-fit s fit Arithmetic n h))
 
 -- boolean entry n, where the arithmetic entries and the boolean ones below are well sorted
-module _ (s : List ℕ) (fit : validity s ≡ Fit) (n : ℕ) (below : (m : ℕ) → m < n → BooleanSorted (sizes s) (booleanAt s m)) where
-  boolean-names : {x : ℕ} → Reference s Booleans n Condition x → booleanNamed (sizes s) (booleanBelow (booleanTrees s n) x) ≡ true
+module _ (s : List ℕ) (fit : validity s ≡ Fit) (n : ℕ) (below : (m : ℕ) → m < n → BooleanSorted (sizes s) (booleanAt (entry s) m)) where
+  boolean-names : {x : ℕ} → Reference s Booleans n Condition x → booleanNamed (sizes s) (booleanBelow (booleanTrees (entry s) n) x) ≡ true
   unfolding limit sameTable tableOf
-  boolean-names {x} h = rw (boolean-below s n x (h .lower)) (below x (h .lower) .named)
+  boolean-names {x} h = rw (boolean-below (entry s) n x (h .lower)) (below x (h .lower) .named)
 
   boolean-lower : {x : ℕ} → Reference s Booleans n Condition x
-      → (ltb (booleanEntry (booleanBelow (booleanTrees s n) x)) n && booleanPoints (booleanBelow (booleanTrees s n) x)) ≡ true
+      → (ltb (booleanEntry (booleanBelow (booleanTrees (entry s) n) x)) n && booleanPoints (booleanBelow (booleanTrees (entry s) n) x)) ≡ true
   unfolding limit sameTable tableOf
-  boolean-lower {x} h = rw (boolean-below s n x (h .lower), boolean-entry s x) (both (lt-ltb _ _ (h .lower)) (below x (h .lower) .points))
+  boolean-lower {x} h = rw (boolean-below (entry s) n x (h .lower), boolean-entry (entry s) x) (both (lt-ltb _ _ (h .lower)) (below x (h .lower) .points))
 
-  side : {x : ℕ} → Reference s Booleans n Expression x → ArithSorted (sizes s) (arithAt s x)
+  side : {x : ℕ} → Reference s Booleans n Expression x → ArithSorted (sizes s) (arithAt (entry s) x)
   unfolding limit sameTable tableOf
   side {x} h = arith-sorted s fit x (h .lower)
 
   boolean-node : (k p q r : ℕ) → Operands s Booleans n (shape Booleans k) (record { kind = k; p = p; q = q; r = r })
-      → BooleanSorted (sizes s) (booleanNode s (booleanTrees s n) n (record { kind = k; p = p; q = q; r = r }))
+      → BooleanSorted (sizes s) (booleanNode (entry s) (booleanTrees (entry s) n) n (record { kind = k; p = p; q = q; r = r }))
   unfolding shape kinds booleanNode booleanNamed booleanPoints
   boolean-node =
       by-kind _
@@ -90,7 +90,7 @@ module _ (s : List ℕ) (fit : validity s ≡ Fit) (n : ℕ) (below : (m : ℕ) 
       (λ p q r h. absurd h)
       (λ k p q r h. absurd h)
 
-pub boolean-sorted : (s : List ℕ) → validity s ≡ Fit → (n : ℕ) → n < entryCount s Booleans → BooleanSorted (sizes s) (booleanAt s n)
+pub boolean-sorted : (s : List ℕ) → validity s ≡ Fit → (n : ℕ) → n < entryCount s Booleans → BooleanSorted (sizes s) (booleanAt (entry s) n)
 unfolding booleanAt
 boolean-sorted s fit =
     from-below _ (λ n below h. boolean-node s fit n (λ m l. below m l (omega arith)) _ _ _ _ (operands-fit s fit Booleans n h))

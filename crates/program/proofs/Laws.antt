@@ -15,7 +15,7 @@ use Rattle.program.specs.Kind.{isGuarded}
 use Rattle.program.specs.Questions.{validity, inputValidity, programPart, initialPart}
 use Rattle.program.specs.Sorted.{arithNamed, booleanNamed, commandNamed, arithPoints, booleanPoints, isGuardedTree, commandPoints}
 use Rattle.program.specs.Syntax.{number, arithEntry, truth, booleanEntry, skip, commandEntry}
-use Rattle.program.specs.Tree.{arithBelow, booleanBelow, commandBelow, arithNode, arithTrees, arithAt, booleanNode, booleanTrees, booleanAt, commandNode, commandTrees, commandAt, script}
+use Rattle.program.specs.Tree.{Entries, arithBelow, booleanBelow, commandBelow, arithNode, arithTrees, arithAt, booleanNode, booleanTrees, booleanAt, commandNode, commandTrees, commandAt, script}
 use Rattle.program.specs.declared.First.the-variants.{At, Nothing}
 use Rattle.program.specs.declared.Table.the-variants.{Arithmetic, Boolean, Commands}
 use Rattle.program.specs.declared.Validity.{Validity}
@@ -69,57 +69,57 @@ sizes-length = Cells.sizes-length
 pub size-at : (s : List ℕ) (i : ℕ) → i < nameCount s → getD (sizes s) i 0 ≡ sizeAt s i
 size-at = Cells.size-at
 
--- ---- Trees at entries, of every file
+-- ---- Trees at entries, of every file and every other reading of entries
 
-module _ (s : List ℕ) where
+module _ (es : Entries) where
   -- the tree at entry n is its node over the trees of the entries below
-  pub arith-at : (n : ℕ) → arithAt s n ≡ arithNode (arithTrees s n) n (entry s Arithmetic n)
-  arith-at = Trees.arith-at s
+  pub arith-at : (n : ℕ) → arithAt es n ≡ arithNode (arithTrees es n) n (es Arithmetic n)
+  arith-at = Trees.arith-at es
 
-  pub boolean-at : (n : ℕ) → booleanAt s n ≡ booleanNode s (booleanTrees s n) n (entry s Boolean n)
-  boolean-at = Trees.boolean-at s
+  pub boolean-at : (n : ℕ) → booleanAt es n ≡ booleanNode es (booleanTrees es n) n (es Boolean n)
+  boolean-at = Trees.boolean-at es
 
-  pub command-at : (n : ℕ) → commandAt s n ≡ commandNode s (commandTrees s n) n (entry s Commands n)
-  command-at = Trees.command-at s
+  pub command-at : (n : ℕ) → commandAt es n ≡ commandNode es (commandTrees es n) n (es Commands n)
+  command-at = Trees.command-at es
 
   -- an unknown kind makes a leaf
-  pub arith-unknown : (n : ℕ) → 8 ≤ entry s Arithmetic n .kind → arithAt s n ≡ number n (pos 0)
-  arith-unknown = Trees.arith-unknown s
+  pub arith-unknown : (n : ℕ) → 8 ≤ es Arithmetic n .kind → arithAt es n ≡ number n (pos 0)
+  arith-unknown = Trees.arith-unknown es
 
-  pub boolean-unknown : (n : ℕ) → 7 ≤ entry s Boolean n .kind → booleanAt s n ≡ truth n
-  boolean-unknown = Trees.boolean-unknown s
+  pub boolean-unknown : (n : ℕ) → 7 ≤ es Boolean n .kind → booleanAt es n ≡ truth n
+  boolean-unknown = Trees.boolean-unknown es
 
-  pub command-unknown : (n : ℕ) → 8 ≤ entry s Commands n .kind → commandAt s n ≡ skip n
-  command-unknown = Trees.command-unknown s
+  pub command-unknown : (n : ℕ) → 8 ≤ es Commands n .kind → commandAt es n ≡ skip n
+  command-unknown = Trees.command-unknown es
 
   -- a reference to an entry below leads to the tree at that entry, and any other to a leaf
-  pub arith-below : (n r : ℕ) → r < n → arithBelow (arithTrees s n) r ≡ arithAt s r
-  arith-below = Trees.arith-below s
+  pub arith-below : (n r : ℕ) → r < n → arithBelow (arithTrees es n) r ≡ arithAt es r
+  arith-below = Trees.arith-below es
 
-  pub arith-past : (n r : ℕ) → n ≤ r → arithBelow (arithTrees s n) r ≡ number r (pos 0)
-  arith-past = Trees.arith-past s
+  pub arith-past : (n r : ℕ) → n ≤ r → arithBelow (arithTrees es n) r ≡ number r (pos 0)
+  arith-past = Trees.arith-past es
 
-  pub boolean-below : (n r : ℕ) → r < n → booleanBelow (booleanTrees s n) r ≡ booleanAt s r
-  boolean-below = Trees.boolean-below s
+  pub boolean-below : (n r : ℕ) → r < n → booleanBelow (booleanTrees es n) r ≡ booleanAt es r
+  boolean-below = Trees.boolean-below es
 
-  pub boolean-past : (n r : ℕ) → n ≤ r → booleanBelow (booleanTrees s n) r ≡ truth r
-  boolean-past = Trees.boolean-past s
+  pub boolean-past : (n r : ℕ) → n ≤ r → booleanBelow (booleanTrees es n) r ≡ truth r
+  boolean-past = Trees.boolean-past es
 
-  pub command-below : (n r : ℕ) → r < n → commandBelow (commandTrees s n) r ≡ commandAt s r
-  command-below = Trees.command-below s
+  pub command-below : (n r : ℕ) → r < n → commandBelow (commandTrees es n) r ≡ commandAt es r
+  command-below = Trees.command-below es
 
-  pub command-past : (n r : ℕ) → n ≤ r → commandBelow (commandTrees s n) r ≡ skip r
-  command-past = Trees.command-past s
+  pub command-past : (n r : ℕ) → n ≤ r → commandBelow (commandTrees es n) r ≡ skip r
+  command-past = Trees.command-past es
 
   -- the tree at entry n has the number n
-  pub arith-entry : (n : ℕ) → arithEntry (arithAt s n) ≡ n
-  arith-entry = Trees.arith-entry s
+  pub arith-entry : (n : ℕ) → arithEntry (arithAt es n) ≡ n
+  arith-entry = Trees.arith-entry es
 
-  pub boolean-entry : (n : ℕ) → booleanEntry (booleanAt s n) ≡ n
-  boolean-entry = Trees.boolean-entry s
+  pub boolean-entry : (n : ℕ) → booleanEntry (booleanAt es n) ≡ n
+  boolean-entry = Trees.boolean-entry es
 
-  pub command-entry : (n : ℕ) → commandEntry (commandAt s n) ≡ n
-  command-entry = Trees.command-entry s
+  pub command-entry : (n : ℕ) → commandEntry (commandAt es n) ≡ n
+  command-entry = Trees.command-entry es
 
 -- ---- First such
 
@@ -245,33 +245,33 @@ module _ (s : List ℕ) (fit : validity s ≡ Fit) where
   few-edges = Counts.few-edges s fit
 
   -- "is a named name there and of the right sort?": every name, of each expression and command and of the script
-  pub arith-named : (n : ℕ) → n < entryCount s Arithmetic → T (arithNamed (sizes s) (arithAt s n))
+  pub arith-named : (n : ℕ) → n < entryCount s Arithmetic → T (arithNamed (sizes s) (arithAt (entry s) n))
   arith-named n h = passed (Expressions.arith-sorted s fit n h .named)
 
-  pub boolean-named : (n : ℕ) → n < entryCount s Boolean → T (booleanNamed (sizes s) (booleanAt s n))
+  pub boolean-named : (n : ℕ) → n < entryCount s Boolean → T (booleanNamed (sizes s) (booleanAt (entry s) n))
   boolean-named n h = passed (Expressions.boolean-sorted s fit n h .named)
 
-  pub command-named : (n : ℕ) → n < entryCount s Commands → T (commandNamed (sizes s) (commandAt s n))
+  pub command-named : (n : ℕ) → n < entryCount s Commands → T (commandNamed (sizes s) (commandAt (entry s) n))
   command-named n h = passed (Sorting.made-named s fit (made s fit n h))
 
   pub script-named : T (commandNamed (sizes s) (script s))
   script-named = passed (Sorting.made-named s fit (Sorting.script-made s fit))
 
   -- "Do all references point as above?": every reference is lower, and of the sort its rule needs
-  pub arith-points : (n : ℕ) → n < entryCount s Arithmetic → T (arithPoints (arithAt s n))
+  pub arith-points : (n : ℕ) → n < entryCount s Arithmetic → T (arithPoints (arithAt (entry s) n))
   arith-points n h = passed (Expressions.arith-sorted s fit n h .points)
 
-  pub boolean-points : (n : ℕ) → n < entryCount s Boolean → T (booleanPoints (booleanAt s n))
+  pub boolean-points : (n : ℕ) → n < entryCount s Boolean → T (booleanPoints (booleanAt (entry s) n))
   boolean-points n h = passed (Expressions.boolean-sorted s fit n h .points)
 
-  pub command-points : (n : ℕ) → n < entryCount s Commands → T (commandPoints (commandAt s n))
+  pub command-points : (n : ℕ) → n < entryCount s Commands → T (commandPoints (commandAt (entry s) n))
   command-points n h = passed (Sorting.made-points s fit (made s fit n h))
 
   pub script-points : T (commandPoints (script s))
   script-points = passed (Sorting.made-points s fit (Sorting.script-made s fit))
 
   -- a tree is a guarded command where its entry's kind is one's, and the script is a command
-  pub command-guarded : (n : ℕ) → n < entryCount s Commands → isGuardedTree (commandAt s n) ≡ isGuarded (entry s Commands n .kind)
+  pub command-guarded : (n : ℕ) → n < entryCount s Commands → isGuardedTree (commandAt (entry s) n) ≡ isGuarded (entry s Commands n .kind)
   command-guarded = Sorting.command-guarded s fit
 
   pub script-command : isGuardedTree (script s) ≡ false

@@ -22,7 +22,7 @@ use Rattle.program.proofs.Trees.{command-below}
 -- an entry of the commands that exists, with its tree
 pub record AtEntry (s : List ℕ) (n : ℕ) (c : Command) : Type 0 where
   pub exists : n < entryCount s Commands
-  pub tree : c ≡ commandAt s n
+  pub tree : c ≡ commandAt (entry s) n
 
 -- how the trees of a well-formed program's commands are made: whether it is a guarded command, the entry and the tree
 pub data Made (s : List ℕ) : Bool → ℕ → Command → Type 0 where
@@ -32,7 +32,7 @@ pub data Made (s : List ℕ) : Bool → ℕ → Command → Type 0 where
   makeSequence : {n p q : ℕ} {c d : Command} → AtEntry s n (sequence n c d) → p < n → q < n → Made s false p c → Made s false q d → Made s false n (sequence n c d)
   makeConditional : {n p : ℕ} {c : Command} → AtEntry s n (conditional n c) → p < n → Made s true p c → Made s false n (conditional n c)
   makeIteration : {n p : ℕ} {c : Command} → AtEntry s n (iteration n c) → p < n → Made s true p c → Made s false n (iteration n c)
-  makeGuarded : {n g p : ℕ} {c : Command} → AtEntry s n (guarded n (booleanAt s g) c) → g < entryCount s Booleans → p < n → Made s false p c → Made s true n (guarded n (booleanAt s g) c)
+  makeGuarded : {n g p : ℕ} {c : Command} → AtEntry s n (guarded n (booleanAt (entry s) g) c) → g < entryCount s Booleans → p < n → Made s false p c → Made s true n (guarded n (booleanAt (entry s) g) c)
   makeChoice : {n p q : ℕ} {c d : Command} → AtEntry s n (choice n c d) → p < n → q < n → Made s true p c → Made s true q d → Made s true n (choice n c d)
 
 -- a kind of command is no kind of guarded command
@@ -41,26 +41,26 @@ unfolding isCommand isGuarded
 not-guarded k e = let h = leb-true k 5 e in rw (lt-leb 6 k (omega arith))
 
 -- the entry with its tree
-here : {s : List ℕ} {n : ℕ} {c : Command} → n < entryCount s Commands → c ≡ commandAt s n → AtEntry s n c
+here : {s : List ℕ} {n : ℕ} {c : Command} → n < entryCount s Commands → c ≡ commandAt (entry s) n → AtEntry s n c
 here h e = record { exists = h; tree = e }
 
 -- command entry n, where those below are made
-module _ (s : List ℕ) (fit : validity s ≡ Fit) (n : ℕ) (exists : n < entryCount s Commands) (below : (m : ℕ) → m < n → Made s (isGuarded (entry s Commands m .kind)) m (commandAt s m)) where
-  command-part : (x : ℕ) → Reference s Commands n Commanding x → Made s false x (commandBelow (commandTrees s n) x)
+module _ (s : List ℕ) (fit : validity s ≡ Fit) (n : ℕ) (exists : n < entryCount s Commands) (below : (m : ℕ) → m < n → Made s (isGuarded (entry s Commands m .kind)) m (commandAt (entry s) m)) where
+  command-part : (x : ℕ) → Reference s Commands n Commanding x → Made s false x (commandBelow (commandTrees (entry s) n) x)
   unfolding limit sameTable tableOf ofSort
-  command-part x h = rw (command-below s n x (h .lower)) (rw (not-guarded _ (h .sorted)) at (below x (h .lower)))
+  command-part x h = rw (command-below (entry s) n x (h .lower)) (rw (not-guarded _ (h .sorted)) at (below x (h .lower)))
 
-  guarded-part : (x : ℕ) → Reference s Commands n Guarded x → Made s true x (commandBelow (commandTrees s n) x)
+  guarded-part : (x : ℕ) → Reference s Commands n Guarded x → Made s true x (commandBelow (commandTrees (entry s) n) x)
   unfolding limit sameTable tableOf ofSort
-  guarded-part x h = rw (command-below s n x (h .lower)) (rw (h .sorted) at (below x (h .lower)))
+  guarded-part x h = rw (command-below (entry s) n x (h .lower)) (rw (h .sorted) at (below x (h .lower)))
 
-  side : (x : ℕ) → Reference s Commands n Expression x → ArithSorted (sizes s) (arithAt s x)
+  side : (x : ℕ) → Reference s Commands n Expression x → ArithSorted (sizes s) (arithAt (entry s) x)
   unfolding limit sameTable tableOf
   side x h = arith-sorted s fit x (h .lower)
 
   command-node : (k p q r : ℕ) → Operands s Commands n (shape Commands k) (record { kind = k; p = p; q = q; r = r })
-      → commandNode s (commandTrees s n) n (record { kind = k; p = p; q = q; r = r }) ≡ commandAt s n
-      → Made s (isGuarded k) n (commandNode s (commandTrees s n) n (record { kind = k; p = p; q = q; r = r }))
+      → commandNode (entry s) (commandTrees (entry s) n) n (record { kind = k; p = p; q = q; r = r }) ≡ commandAt (entry s) n
+      → Made s (isGuarded k) n (commandNode (entry s) (commandTrees (entry s) n) n (record { kind = k; p = p; q = q; r = r }))
   unfolding shape kinds commandNode isGuarded limit sameTable tableOf
   command-node =
       by-kind _
@@ -74,7 +74,7 @@ module _ (s : List ℕ) (fit : validity s ≡ Fit) (n : ℕ) (exists : n < entry
       (λ p q r h e. makeChoice (here exists e) (h .0 .lower) (h .1 .lower) (guarded-part p (h .0)) (guarded-part q (h .1)))
       (λ k p q r h e. absurd h)
 
-pub made : (s : List ℕ) → validity s ≡ Fit → (n : ℕ) → n < entryCount s Commands → Made s (isGuarded (entry s Commands n .kind)) n (commandAt s n)
+pub made : (s : List ℕ) → validity s ≡ Fit → (n : ℕ) → n < entryCount s Commands → Made s (isGuarded (entry s Commands n .kind)) n (commandAt (entry s) n)
 unfolding commandAt
 made s fit =
     from-below _ (λ n below h. command-node s fit n h (λ m l. below m l (omega arith)) _ _ _ _ (operands-fit s fit Commands n h) refl)

@@ -33,7 +33,7 @@ made-at (makeGuarded e b l c) = e
 made-at (makeChoice e l m c d) = e
 
 pub made-entry : {s : List ℕ} {g : Bool} {n : ℕ} {c : Command} → Made s g n c → commandEntry c ≡ n
-made-entry {s} {n = n} m = ap commandEntry (made-at m .tree) ∙ command-entry s n
+made-entry {s} {n = n} m = ap commandEntry (made-at m .tree) ∙ command-entry (entry s) n
 
 pub made-guarded : {s : List ℕ} {g : Bool} {n : ℕ} {c : Command} → Made s g n c → isGuardedTree c ≡ g
 unfolding isGuardedTree
@@ -91,7 +91,7 @@ module _ (s : List ℕ) (fit : validity s ≡ Fit) where
   made-points (makeChoice e l m c d) =
       both (both (both (lower c l) (made-guarded c)) (made-points c)) (both (both (lower d m) (made-guarded d)) (made-points d))
 
-  pub command-guarded : (n : ℕ) → n < entryCount s Commands → isGuardedTree (commandAt s n) ≡ isGuarded (entry s Commands n .kind)
+  pub command-guarded : (n : ℕ) → n < entryCount s Commands → isGuardedTree (commandAt (entry s) n) ≡ isGuarded (entry s Commands n .kind)
   command-guarded n h = made-guarded (made s fit n h)
 
   -- the script exists

@@ -11,6 +11,7 @@ use lib.ListN.{length, take, drop, set, length-append}
 use lib.Seq.{length-take-le, set-split, take-at, drop-at, drop-drop}
 use lib.Dec.{ltb}
 use borrow.Author.Tests.{lt-ltb, le-ltb, ltb-true, ltb-false}
+use Rattle.program.specs.File.{entry}
 use Rattle.program.specs.Drawing.{over}
 use Rattle.program.specs.DrawingParts.{overAt, edgeRow, Strip, strip, edgeStrip, partAt, constructBy, constructOf, Room, Drew}
 use Rattle.program.specs.Graph.{guardAction, part, actionKind, actionEntry, wordBytes, edgeBytes}
@@ -167,15 +168,15 @@ module _ (s : List ℕ) where
   unfolding commandEntry
   part-entry n p =
       ⊎-elim
-      (λ h. ap commandEntry (command-below s n p h) ∙ command-entry s p)
-      (λ h. ap commandEntry (command-past s n p h))
+      (λ h. ap commandEntry (command-below (entry s) n p h) ∙ command-entry (entry s) p)
+      (λ h. ap commandEntry (command-past (entry s) n p h))
       (lt-or-ge p n)
 
   skip-strip : (n a b f : ℕ) → strip (skip n) a b f ≡ drawnAs s n Leaf a b f
   unfolding drawnAs firstAs restAs followed strip edgeStrip part flatMap edgeBytes edgeRow wordBytes actionKind actionEntry commandEntry
   skip-strip n a b f = refl
 
-  node-strip : (n k p q r a b f : ℕ) → strip (commandNode s (commandTrees s n) n (record { kind = k; p = p; q = q; r = r })) a b f ≡ drawnAs s n (constructBy (record { kind = k; p = p; q = q; r = r })) a b f
+  node-strip : (n k p q r a b f : ℕ) → strip (commandNode (entry s) (commandTrees (entry s) n) n (record { kind = k; p = p; q = q; r = r })) a b f ≡ drawnAs s n (constructBy (record { kind = k; p = p; q = q; r = r })) a b f
   unfolding commandNode constructBy drawnAs firstAs restAs followed strip edgeStrip part guardAction flatMap edgeBytes edgeRow wordBytes actionKind actionEntry commandEntry
   node-strip n =
       by-kind _
@@ -196,8 +197,8 @@ module _ (s : List ℕ) where
     strip-part a b f =
         rw (← told, same)
         (⊎-elim
-        (λ h. rw (command-below s bound n h, lt-ltb n bound h) (node-strip n _ _ _ _ a b f))
-        (λ h. rw (command-past s bound n h, le-ltb n bound h) (skip-strip n a b f))
+        (λ h. rw (command-below (entry s) bound n h, lt-ltb n bound h) (node-strip n _ _ _ _ a b f))
+        (λ h. rw (command-past (entry s) bound n h, le-ltb n bound h) (skip-strip n a b f))
         (lt-or-ge n bound))
 
     -- one that has parts is lower

@@ -1,84 +1,82 @@
 -- Laws of trees: how the tree at an entry is made of those at the entries below, and that it has the number of its entry.
 use mathlib.Core.Path.{_≡_, refl}
-use mathlib.Core.List.{List}
 use Prim.Native.Nat.{ℕ, _≤_, _<_}
 use lib.IntN.{pos}
 use lib.ListN.{List·getD-map}
-use Rattle.program.specs.File.{entry}
 use Rattle.program.specs.declared.Table.the-variants.{Arithmetic, Boolean as Booleans, Commands}
 use Rattle.program.specs.Syntax.{number, truth, skip, arithEntry, booleanEntry, commandEntry}
-use Rattle.program.specs.Tree.{arithBelow, booleanBelow, commandBelow, arithNode, arithTrees, arithAt, booleanNode, booleanTrees, booleanAt, commandNode, commandTrees, commandAt}
+use Rattle.program.specs.Tree.{Entries, arithBelow, booleanBelow, commandBelow, arithNode, arithTrees, arithAt, booleanNode, booleanTrees, booleanAt, commandNode, commandTrees, commandAt}
 use Rattle.program.proofs.Induction.{from-seven, from-eight}
 use Rattle.program.proofs.Lists.{grown-at, grown-past, getD-same}
 
-module _ (s : List ℕ) where
+module _ (es : Entries) where
   -- the tree that a reference to an entry below leads to
-  pub arith-below : (n r : ℕ) → r < n → arithBelow (arithTrees s n) r ≡ arithAt s r
+  pub arith-below : (n r : ℕ) → r < n → arithBelow (arithTrees es n) r ≡ arithAt es r
   unfolding arithBelow arithTrees arithAt
-  arith-below n r h = grown-at (arithTrees s) (arithAt s) refl (λ k. refl) n r _ h
+  arith-below n r h = grown-at (arithTrees es) (arithAt es) refl (λ k. refl) n r _ h
 
-  pub boolean-below : (n r : ℕ) → r < n → booleanBelow (booleanTrees s n) r ≡ booleanAt s r
+  pub boolean-below : (n r : ℕ) → r < n → booleanBelow (booleanTrees es n) r ≡ booleanAt es r
   unfolding booleanBelow booleanTrees booleanAt
-  boolean-below n r h = grown-at (booleanTrees s) (booleanAt s) refl (λ k. refl) n r _ h
+  boolean-below n r h = grown-at (booleanTrees es) (booleanAt es) refl (λ k. refl) n r _ h
 
-  pub command-below : (n r : ℕ) → r < n → commandBelow (commandTrees s n) r ≡ commandAt s r
+  pub command-below : (n r : ℕ) → r < n → commandBelow (commandTrees es n) r ≡ commandAt es r
   unfolding commandBelow commandTrees commandAt
-  command-below n r h = grown-at (commandTrees s) (commandAt s) refl (λ k. refl) n r _ h
+  command-below n r h = grown-at (commandTrees es) (commandAt es) refl (λ k. refl) n r _ h
 
   -- any other reference leads to a leaf
-  pub arith-past : (n r : ℕ) → n ≤ r → arithBelow (arithTrees s n) r ≡ number r (pos 0)
+  pub arith-past : (n r : ℕ) → n ≤ r → arithBelow (arithTrees es n) r ≡ number r (pos 0)
   unfolding arithBelow arithTrees arithAt
-  arith-past n r h = grown-past (arithTrees s) (arithAt s) refl (λ k. refl) n r _ h
+  arith-past n r h = grown-past (arithTrees es) (arithAt es) refl (λ k. refl) n r _ h
 
-  pub boolean-past : (n r : ℕ) → n ≤ r → booleanBelow (booleanTrees s n) r ≡ truth r
+  pub boolean-past : (n r : ℕ) → n ≤ r → booleanBelow (booleanTrees es n) r ≡ truth r
   unfolding booleanBelow booleanTrees booleanAt
-  boolean-past n r h = grown-past (booleanTrees s) (booleanAt s) refl (λ k. refl) n r _ h
+  boolean-past n r h = grown-past (booleanTrees es) (booleanAt es) refl (λ k. refl) n r _ h
 
-  pub command-past : (n r : ℕ) → n ≤ r → commandBelow (commandTrees s n) r ≡ skip r
+  pub command-past : (n r : ℕ) → n ≤ r → commandBelow (commandTrees es n) r ≡ skip r
   unfolding commandBelow commandTrees commandAt
-  command-past n r h = grown-past (commandTrees s) (commandAt s) refl (λ k. refl) n r _ h
+  command-past n r h = grown-past (commandTrees es) (commandAt es) refl (λ k. refl) n r _ h
 
   -- the tree at entry n is its node over the trees of the entries below
-  pub arith-at : (n : ℕ) → arithAt s n ≡ arithNode (arithTrees s n) n (entry s Arithmetic n)
+  pub arith-at : (n : ℕ) → arithAt es n ≡ arithNode (arithTrees es n) n (es Arithmetic n)
   unfolding arithAt
   arith-at n = refl
 
-  pub boolean-at : (n : ℕ) → booleanAt s n ≡ booleanNode s (booleanTrees s n) n (entry s Booleans n)
+  pub boolean-at : (n : ℕ) → booleanAt es n ≡ booleanNode es (booleanTrees es n) n (es Booleans n)
   unfolding booleanAt
   boolean-at n = refl
 
-  pub command-at : (n : ℕ) → commandAt s n ≡ commandNode s (commandTrees s n) n (entry s Commands n)
+  pub command-at : (n : ℕ) → commandAt es n ≡ commandNode es (commandTrees es n) n (es Commands n)
   unfolding commandAt
   command-at n = refl
 
   -- an unknown kind makes a leaf
-  pub arith-unknown : (n : ℕ) → 8 ≤ entry s Arithmetic n .kind → arithAt s n ≡ number n (pos 0)
+  pub arith-unknown : (n : ℕ) → 8 ≤ es Arithmetic n .kind → arithAt es n ≡ number n (pos 0)
   unfolding arithAt arithNode
   arith-unknown n h =
-      let e = entry s Arithmetic n in
-      from-eight (λ (k : ℕ). arithNode (arithTrees s n) n (record { kind = k; p = e .p; q = e .q; r = e .r }) ≡ number n (pos 0)) (λ k. refl) (e .kind) h
+      let e = es Arithmetic n in
+      from-eight (λ (k : ℕ). arithNode (arithTrees es n) n (record { kind = k; p = e .p; q = e .q; r = e .r }) ≡ number n (pos 0)) (λ k. refl) (e .kind) h
 
-  pub boolean-unknown : (n : ℕ) → 7 ≤ entry s Booleans n .kind → booleanAt s n ≡ truth n
+  pub boolean-unknown : (n : ℕ) → 7 ≤ es Booleans n .kind → booleanAt es n ≡ truth n
   unfolding booleanAt booleanNode
   boolean-unknown n h =
-      let e = entry s Booleans n in
-      from-seven (λ (k : ℕ). booleanNode s (booleanTrees s n) n (record { kind = k; p = e .p; q = e .q; r = e .r }) ≡ truth n) (λ k. refl) (e .kind) h
+      let e = es Booleans n in
+      from-seven (λ (k : ℕ). booleanNode es (booleanTrees es n) n (record { kind = k; p = e .p; q = e .q; r = e .r }) ≡ truth n) (λ k. refl) (e .kind) h
 
-  pub command-unknown : (n : ℕ) → 8 ≤ entry s Commands n .kind → commandAt s n ≡ skip n
+  pub command-unknown : (n : ℕ) → 8 ≤ es Commands n .kind → commandAt es n ≡ skip n
   unfolding commandAt commandNode
   command-unknown n h =
-      let e = entry s Commands n in
-      from-eight (λ (k : ℕ). commandNode s (commandTrees s n) n (record { kind = k; p = e .p; q = e .q; r = e .r }) ≡ skip n) (λ k. refl) (e .kind) h
+      let e = es Commands n in
+      from-eight (λ (k : ℕ). commandNode es (commandTrees es n) n (record { kind = k; p = e .p; q = e .q; r = e .r }) ≡ skip n) (λ k. refl) (e .kind) h
 
   -- the tree at entry n has the number n
-  pub arith-entry : (n : ℕ) → arithEntry (arithAt s n) ≡ n
+  pub arith-entry : (n : ℕ) → arithEntry (arithAt es n) ≡ n
   unfolding arithAt arithNode arithEntry
-  arith-entry n = rw (← List·getD-map arithEntry) (getD-same 8 n (entry s Arithmetic n .kind))
+  arith-entry n = rw (← List·getD-map arithEntry) (getD-same 8 n (es Arithmetic n .kind))
 
-  pub boolean-entry : (n : ℕ) → booleanEntry (booleanAt s n) ≡ n
+  pub boolean-entry : (n : ℕ) → booleanEntry (booleanAt es n) ≡ n
   unfolding booleanAt booleanNode booleanEntry
-  boolean-entry n = rw (← List·getD-map booleanEntry) (getD-same 7 n (entry s Booleans n .kind))
+  boolean-entry n = rw (← List·getD-map booleanEntry) (getD-same 7 n (es Booleans n .kind))
 
-  pub command-entry : (n : ℕ) → commandEntry (commandAt s n) ≡ n
+  pub command-entry : (n : ℕ) → commandEntry (commandAt es n) ≡ n
   unfolding commandAt commandNode commandEntry
-  command-entry n = rw (← List·getD-map commandEntry) (getD-same 8 n (entry s Commands n .kind))
+  command-entry n = rw (← List·getD-map commandEntry) (getD-same 8 n (es Commands n .kind))

@@ -86,4 +86,4 @@ edgeStrip a b kind k n = record { bytes = edgeRow a b kind k; fresh = n }
 
 -- the tree that entry n is as a part of entry bound
 abbrev pub partAt : List ℕ → ℕ → ℕ → Command
-partAt s bound n = commandBelow (commandTrees s bound) n
+partAt s bound n = commandBelow (commandTrees (entry s) bound) n

@@ -3,6 +3,7 @@ use Prim.Native.Nat.{ℕ}
 use mathlib.Core.List.{List, [], _∷_, _++_, flatMap}
 use lib.ListN.{length, replicate}
 use Rattle.signs.specs.Case.{Case, _gives_, row}
+use Rattle.program.specs.File.{entry}
 use Rattle.program.specs.Asking.{validityNumbers}
 use Rattle.program.specs.Drawing.{drawn, drawnBuffer, drawnNumbers}
 use Rattle.program.specs.Graph.{done, wordBytes}
@@ -104,7 +105,7 @@ graphs =
 unfoldable pub exits : List Case
 exits =
     (row (validityNumbers (validity twoGuards)) gives row (0 ∷ []))
-    ∷ (row (prefix (done (commandAt twoGuards 4))) gives row (4 ∷ 6 ∷ 0 ∷ 6 ∷ 1 ∷ []))
+    ∷ (row (prefix (done (commandAt (entry twoGuards) 4))) gives row (4 ∷ 6 ∷ 0 ∷ 6 ∷ 1 ∷ []))
     ∷ []
 
 -- "32 and 33 names; sizes 64 and 65; 512 and 513 cells"

@@ -4,8 +4,9 @@ use mathlib.Core.Bool.{cond}
 use mathlib.Core.List.{List, [], _∷_, _++_, flatMap}
 use lib.Dec.{eqb}
 use lib.ListN.{length, getD}
+use Rattle.program.specs.File.{entry}
 use Rattle.program.specs.Syntax.{Boolean, truth, conjunction, negation, booleanEntry, Command, skip, assign, store, sequence, conditional, iteration, guarded, choice, commandEntry}
-use Rattle.program.specs.Tree.{booleanAt, commandAt, script}
+use Rattle.program.specs.Tree.{Entries, booleanAt, commandAt, script}
 use Rattle.program.specs.declared.Table.{Table}
 use Rattle.program.specs.declared.Table.the-variants.{Boolean as Booleans, Commands}
 
@@ -98,10 +99,10 @@ unfoldable pub actionTable : ℕ → Table
 actionTable kind = cond (eqb kind 2) Booleans Commands
 
 -- the action of a kind and an entry; any other kind is a skip
-unfoldable pub actionOf : List ℕ → ℕ → ℕ → Action
-actionOf s kind n =
+unfoldable pub actionOf : Entries → ℕ → ℕ → Action
+actionOf es kind n =
     getD
-    (perform (skip n) ∷ perform (commandAt s n) ∷ test (booleanAt s n) ∷ leave (commandAt s n) ∷ [])
+    (perform (skip n) ∷ perform (commandAt es n) ∷ test (booleanAt es n) ∷ leave (commandAt es n) ∷ [])
     kind
     (perform (skip n))
 

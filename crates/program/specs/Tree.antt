@@ -1,4 +1,4 @@
--- The tree at an entry of a file (document 01, "The script file"). The trees of the entries below are at hand; any other reference, and an unknown kind, makes a leaf: the number 0, true, or skip.
+-- The tree at an entry, by what each table has at each number (document 01, "The script file"). The trees of the entries below are at hand; any other reference, and an unknown kind, makes a leaf: the number 0, true, or skip.
 use Prim.Native.Nat.{ℕ, zero, suc, _+_, _*_}
 use mathlib.Core.List.{List, [], _∷_, _++_}
 use lib.IntN.{pos}
@@ -8,8 +8,13 @@ use Rattle.signs.specs.declared.Operator.the-variants.{Add, Sub, Mul, Div, Pow}
 use Rattle.program.specs.File.{signed32, entry}
 use Rattle.program.specs.Questions.{lastCommand}
 use Rattle.program.specs.declared.Entry.{Entry}
+use Rattle.program.specs.declared.Table.{Table}
 use Rattle.program.specs.declared.Table.the-variants.{Arithmetic, Boolean as Booleans, Commands}
 use Rattle.program.specs.Syntax.{Arith, number, variable, element, operator, Boolean, truth, comparison, conjunction, shortCircuit, negation, Command, skip, assign, store, sequence, conditional, iteration, guarded, choice}
+
+-- what stands at each number of each table: `entry s` for a file s
+abbrev pub Entries : Type 0
+Entries = Table → ℕ → Entry
 
 -- the tree that a reference r leads to, out of the trees of the entries below
 unfoldable pub arithBelow : List Arith → ℕ → Arith
@@ -38,21 +43,21 @@ arithNode below n e =
     (number n (pos 0))
 
 -- the trees of the first n arithmetic entries, and the tree at entry n
-unfoldable pub arithTrees : List ℕ → ℕ → List Arith
-arithTrees s zero = []
-arithTrees s (suc n) = let below = arithTrees s n in below ++ (arithNode below n (entry s Arithmetic n) ∷ [])
+unfoldable pub arithTrees : Entries → ℕ → List Arith
+arithTrees es zero = []
+arithTrees es (suc n) = let below = arithTrees es n in below ++ (arithNode below n (es Arithmetic n) ∷ [])
 
-unfoldable pub arithAt : List ℕ → ℕ → Arith
-arithAt s n = arithNode (arithTrees s n) n (entry s Arithmetic n)
+unfoldable pub arithAt : Entries → ℕ → Arith
+arithAt es n = arithNode (arithTrees es n) n (es Arithmetic n)
 
 -- "0 true; 1 P = Q; 2 P > Q; 3 P ≥ Q; 4 P ∧ Q; 5 P && Q; 6 ¬P"
-unfoldable pub booleanNode : List ℕ → List Boolean → ℕ → Entry → Boolean
-booleanNode s below n e =
+unfoldable pub booleanNode : Entries → List Boolean → ℕ → Entry → Boolean
+booleanNode es below n e =
     getD
     (truth n
-    ∷ comparison n Equal (arithAt s (e .p)) (arithAt s (e .q))
-    ∷ comparison n Greater (arithAt s (e .p)) (arithAt s (e .q))
-    ∷ comparison n AtLeast (arithAt s (e .p)) (arithAt s (e .q))
+    ∷ comparison n Equal (arithAt es (e .p)) (arithAt es (e .q))
+    ∷ comparison n Greater (arithAt es (e .p)) (arithAt es (e .q))
+    ∷ comparison n AtLeast (arithAt es (e .p)) (arithAt es (e .q))
     ∷ conjunction n (booleanBelow below (e .p)) (booleanBelow below (e .q))
     ∷ shortCircuit n (booleanBelow below (e .p)) (booleanBelow below (e .q))
     ∷ negation n (booleanBelow below (e .p))
@@ -60,36 +65,36 @@ booleanNode s below n e =
     (e .kind)
     (truth n)
 
-unfoldable pub booleanTrees : List ℕ → ℕ → List Boolean
-booleanTrees s zero = []
-booleanTrees s (suc n) = let below = booleanTrees s n in below ++ (booleanNode s below n (entry s Booleans n) ∷ [])
+unfoldable pub booleanTrees : Entries → ℕ → List Boolean
+booleanTrees es zero = []
+booleanTrees es (suc n) = let below = booleanTrees es n in below ++ (booleanNode es below n (es Booleans n) ∷ [])
 
-unfoldable pub booleanAt : List ℕ → ℕ → Boolean
-booleanAt s n = booleanNode s (booleanTrees s n) n (entry s Booleans n)
+unfoldable pub booleanAt : Entries → ℕ → Boolean
+booleanAt es n = booleanNode es (booleanTrees es n) n (es Booleans n)
 
 -- "0 skip; 1 variable P := Q; 2 array P at Q := R; 3 P ; Q; 4 if P fi; 5 do P od; 6 guarded P → Q; 7 choice P [] Q"
-unfoldable pub commandNode : List ℕ → List Command → ℕ → Entry → Command
-commandNode s below n e =
+unfoldable pub commandNode : Entries → List Command → ℕ → Entry → Command
+commandNode es below n e =
     getD
     (skip n
-    ∷ assign n (e .p) (arithAt s (e .q))
-    ∷ store n (e .p) (arithAt s (e .q)) (arithAt s (e .r))
+    ∷ assign n (e .p) (arithAt es (e .q))
+    ∷ store n (e .p) (arithAt es (e .q)) (arithAt es (e .r))
     ∷ sequence n (commandBelow below (e .p)) (commandBelow below (e .q))
     ∷ conditional n (commandBelow below (e .p))
     ∷ iteration n (commandBelow below (e .p))
-    ∷ guarded n (booleanAt s (e .p)) (commandBelow below (e .q))
+    ∷ guarded n (booleanAt es (e .p)) (commandBelow below (e .q))
     ∷ choice n (commandBelow below (e .p)) (commandBelow below (e .q))
     ∷ [])
     (e .kind)
     (skip n)
 
-unfoldable pub commandTrees : List ℕ → ℕ → List Command
-commandTrees s zero = []
-commandTrees s (suc n) = let below = commandTrees s n in below ++ (commandNode s below n (entry s Commands n) ∷ [])
+unfoldable pub commandTrees : Entries → ℕ → List Command
+commandTrees es zero = []
+commandTrees es (suc n) = let below = commandTrees es n in below ++ (commandNode es below n (es Commands n) ∷ [])
 
-unfoldable pub commandAt : List ℕ → ℕ → Command
-commandAt s n = commandNode s (commandTrees s n) n (entry s Commands n)
+unfoldable pub commandAt : Entries → ℕ → Command
+commandAt es n = commandNode es (commandTrees es n) n (es Commands n)
 
 -- "The last is the script."
 unfoldable pub script : List ℕ → Command
-script s = commandAt s (lastCommand s)
+script s = commandAt (entry s) (lastCommand s)
