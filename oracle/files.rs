@@ -302,7 +302,7 @@ fn answer_sum(file: &[u8], room: usize) -> String {
             }
         }
     };
-    format!("{text} sum {}", buffer.iter().fold(1, |sum, &x| mix(sum, u64::from(x))))
+    format!("{text} sum {}", checksum(&buffer))
 }
 
 fn answer_input(file: &[u8]) -> String {
@@ -334,6 +334,35 @@ fn answer_readings(file: &[u8]) -> String {
     }
 }
 
+fn checksum(bytes: &[u8]) -> u64 {
+    bytes.iter().fold(1, |sum, &x| mix(sum, u64::from(x)))
+}
+
+/// The parts of the sheet program's input, and the heads in turn: "one-byte tag, two-byte length, content". Document 01 does not say where a reader
+/// goes from a place that has no head; here it stays.
+fn answer_parts(file: &[u8]) -> String {
+    let mut text = match read(file, 5) {
+        Err(no) => refused(no),
+        Ok(_) => {
+            let list = fields(file, 5).ok().unwrap()[4];
+            let (program, list) = (&file[..list.0 - 3], &file[list.0..list.0 + list.1]);
+            format!("program {} sum {} list {} sum {}", program.len(), checksum(program), list.len(), checksum(list))
+        }
+    };
+    let mut at = 0;
+    for _ in 0..6 {
+        if at + 3 > file.len() {
+            text += &format!("\nnone at {at}");
+        } else {
+            let (tag, length) = (file[at], usize::from(word(file, at + 1)));
+            let (content, next) = (at + 3, at + 3 + length);
+            text += &format!("\n{at} tag {tag} length {length} content {content} next {next}");
+            at = next;
+        }
+    }
+    text
+}
+
 /// The container and the expected output.
 struct Out {
     bin: Vec<u8>,
@@ -349,6 +378,7 @@ enum Mode {
     Sum(u16),
     Input,
     Readings,
+    Parts,
 }
 
 impl Out {
@@ -364,6 +394,7 @@ impl Out {
             Mode::Sum(room) => (2, room, answer_sum(file, usize::from(room))),
             Mode::Input => (3, 0, answer_input(file)),
             Mode::Readings => (4, 0, answer_readings(file)),
+            Mode::Parts => (5, 0, answer_parts(file)),
         };
         assert!(title.len() < 256 && file.len() <= 32768, "{title}");
         self.bin.push(number);
@@ -384,6 +415,7 @@ impl Out {
     fn put_known(&mut self, mode: Mode, title: &str, file: &[u8], expected: &str) {
         let got = match mode {
             Mode::Input => answer_input(file),
+            Mode::Parts => answer_parts(file),
             _ => answer_edges(file),
         };
         let first = got.lines().next().unwrap();
@@ -1352,6 +1384,45 @@ fn inputs(out: &mut Out) {
     known(out, "11, without a list", &s.bytes(), "refused 1 at 35");
 }
 
+/// The parts of the sheet program's input, and the field reader on inputs and on what is left of them.
+fn parts(out: &mut Out) {
+    out.group("parts");
+    let file = factorial().bytes();
+    for list in [vec![], vec![4, 2], vec![1, 2, 4, 4], vec![2; 1024]] {
+        let bytes = [file.clone(), field(5, &list)].concat();
+        out.put(Mode::Parts, &format!("factorial, list of {}", list.len()), &bytes);
+        out.put(Mode::Parts, &format!("factorial, list of {}, one byte more", list.len()), &[bytes.clone(), vec![5]].concat());
+    }
+    let end = file.len();
+    out.put_known(Mode::Parts, "factorial alone", &file, &format!("refused 1 at {end}"));
+    out.put(Mode::Parts, "tour", &[tour().bytes(), field(5, &[4, 2, 7, 1, 1, 1, 1, 1])].concat());
+    out.put(Mode::Parts, "six fields", &[file.clone(), field(5, &[4, 2]), field(6, &[1])].concat());
+    let whole = [file.clone(), field(5, &[4, 2])].concat();
+    for i in 0..whole.len() {
+        out.put(Mode::Parts, &format!("first {i}"), &whole[..i]);
+    }
+    // The lengths of the heads, more than there is and less.
+    for tag in 1..=5u8 {
+        let head = if tag == 5 { end } else { factorial().head(tag) };
+        for (at, to) in [(0, 9), (1, 1), (1, 255), (2, 0), (2, 1), (2, 255)] {
+            let mut bytes = whole.clone();
+            bytes[head + at] = to;
+            out.put(Mode::Parts, &format!("byte {} to {to}", head + at), &bytes);
+        }
+    }
+    let mut r = Random(20_260_115_016);
+    for k in 0..60 {
+        let s = random_script(&mut r, [3, 8, 16][k % 3]);
+        let count = r.below(9) * s.names.len();
+        let list: Vec<u8> = (0..count).map(|_| r.next() as u8).collect();
+        let mut bytes = [s.bytes(), field(5, &list)].concat();
+        if k % 3 == 2 {
+            damage_bytes(&mut r, &mut bytes);
+        }
+        out.put(Mode::Parts, &format!("random {k}"), &bytes);
+    }
+}
+
 /// Every file a byte away from the tour or the factorial.
 fn neighbours(out: &mut Out) {
     out.group("near");
@@ -1649,6 +1720,7 @@ fn main() {
     inputs(&mut out);
     neighbours(&mut out);
     random(&mut out);
+    parts(&mut out);
     fs::create_dir_all(format!("{folder}/data")).unwrap();
     fs::write(format!("{folder}/data/files.bin"), &out.bin).unwrap();
     fs::write(format!("{folder}/stdout"), &out.text).unwrap();

@@ -47,6 +47,10 @@ tableField Commands = record { tag = tableTag Commands; width = 7; least = 1; mo
 unfoldable pub programFields : List Field
 programFields = namesField ∷ tableField Arithmetic ∷ tableField Boolean ∷ tableField Commands ∷ []
 
+-- "a field of tag 5 with the start list (0 to 512 records)", a record one byte per name: the fifth field after a program with so many names
+unfoldable pub initialField : ℕ → Field
+initialField names = record { tag = 5; width = names; least = 0; most = 512 }
+
 -- "one-byte tag, two-byte length, content": the head that stands at a place, with where its content and the next field start
 unfoldable pub headFound : List ℕ → ℕ → FieldHead
 headFound s at = record { start = at; tag = byteAt s at; length = wordAt s (at + 1); content = at + 3; next = at + 3 + wordAt s (at + 1) }

@@ -5,7 +5,7 @@ use mathlib.Core.List.{List, [], _∷_}
 use lib.Dec.{eqb, leb, ltb}
 use lib.ListN.{length, take}
 use Rattle.program.specs.Asking.{ask, thenAsk, inTurn, askEach}
-use Rattle.program.specs.File.{tableTag, programFields, fieldStart, fieldHead, headContent, nameCount, nameOffset, sizeAt, sizes, entryCount, entryOffset, entry, cellCount}
+use Rattle.program.specs.File.{tableTag, programFields, initialField, fieldStart, fieldHead, headContent, nameCount, nameOffset, sizeAt, sizes, entryCount, entryOffset, entry, cellCount}
 use Rattle.program.specs.Kind.{shape, tableOf, isCommand, isGuarded}
 use Rattle.program.specs.declared.Entry.{Entry}
 use Rattle.program.specs.declared.Field.{Field}
@@ -170,16 +170,12 @@ contentValidity s =
 unfoldable pub validity : List ℕ → Validity
 validity s = inTurn (headsValidity s 0 programFields ∷ endValidity s 4 ∷ contentValidity s ∷ [])
 
--- "a field of tag 5 with the start list (0 to 512 records)", a record one byte per name
-unfoldable pub initialField : List ℕ → Field
-initialField s = record { tag = 5; width = nameCount s; least = 0; most = 512 }
-
 -- questions 1 to 11 of the sheet program's input: "Here 1 to 4 are asked of the fifth field too, and 5 after it"
 unfoldable pub inputValidity : List ℕ → Validity
 inputValidity s =
     inTurn
     (headsValidity s 0 programFields
-    ∷ headValidity (length s) (fieldHead s 4) (initialField s)
+    ∷ headValidity (length s) (fieldHead s 4) (initialField (nameCount s))
     ∷ endValidity s 5
     ∷ contentValidity s
     ∷ [])

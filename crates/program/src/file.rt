@@ -63,7 +63,7 @@ pub(crate) fn long(x: u16) -> usize
 }
 
 // What is allowed of the names.
-pub fn names_field() -> Field
+pub(crate) fn names_field() -> Field
     ensures { λ r. ⌜ r ≡ spec.namesField ⌝ }
 {
     Field {
@@ -75,7 +75,7 @@ pub fn names_field() -> Field
 }
 
 // What is allowed of a table.
-pub fn table_field(table: Table) -> Field
+pub(crate) fn table_field(table: Table) -> Field
     ensures { λ r. ⌜ r ≡ spec.tableField table ⌝ }
 {
     match table {
@@ -97,6 +97,18 @@ pub fn table_field(table: Table) -> Field
             least: 1,
             most: 256,
         },
+    }
+}
+
+// What is allowed of the start list after a program with so many names.
+pub(crate) fn initial_field(names: u16) -> Field
+    ensures { λ r. ⌜ r ≡ spec.initialField names ⌝ }
+{
+    Field {
+        tag: 5,
+        width: names,
+        least: 0,
+        most: 512,
     }
 }
 

@@ -427,12 +427,7 @@ pub fn validate_input(s: &[u8]) -> Validity
     if refused(heads) {
         return heads;
     }
-    let field = Field {
-        tag: 5,
-        width: file::name_count(s),
-        least: 0,
-        most: 512,
-    };
+    let field = file::initial_field(file::name_count(s));
     let initial = check_head(s.len(), reader::field_head(s, 4), field);
     if refused(initial) {
         return initial;

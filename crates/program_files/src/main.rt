@@ -2,16 +2,19 @@
 //
 // A record of `files.bin` is a mode, a room (two bytes), the length of a title, the length of a file (two bytes), the title and the file.
 // Numbers have the high byte first. The mode says what is asked of the file: 1 its edges, 2 its graph drawn into a buffer of so much room,
-// 3 the questions of the sheet program's input, 4 what the crates above read of a program.
+// 3 the questions of the sheet program's input, 4 what the crates above read of a program, 5 the parts of the sheet program's input and its fields' heads.
 use libc::STDOUT_FILENO;
 use program::Drawn;
 use program::EdgeBytes;
 use program::Entry;
+use program::FieldHead;
+use program::Head;
 use program::Refusal;
 use program::Table;
 use program::Validity;
 use program::drawing;
 use program::file;
+use program::reader;
 use program::validation;
 
 fn wide(x: u8) -> u64 {
@@ -93,10 +96,10 @@ fn mix(sum: u64, x: u64) -> u64 {
     (sum % 65521 * 31 + x % 65536) % 65521
 }
 
-fn mix_bytes(bytes: &[u8; 2000]) -> u64 {
+fn mix_bytes(bytes: &[u8]) -> u64 {
     let mut sum: u64 = 1;
     let mut i: usize = 0;
-    while i < 2000 {
+    while i < bytes.len() {
         sum = mix(sum, wide(bytes[i]));
         i += 1;
     }
@@ -189,12 +192,68 @@ fn answer_readings(s: &[u8]) {
     print(b"\n");
 }
 
+fn print_part(bytes: &[u8]) {
+    print_number(bytes.len() as u64);
+    print(b" sum ");
+    print_number(mix_bytes(bytes));
+}
+
+fn print_parts(s: &[u8]) {
+    print(b"program ");
+    print_part(validation::program_part(s));
+    print(b" list ");
+    print_part(validation::initial_part(s));
+}
+
+fn print_found(h: FieldHead) {
+    print_number(h.start as u64);
+    print(b" tag ");
+    print_number(wide(h.tag));
+    print(b" length ");
+    print_number(wide_word(h.length));
+    print(b" content ");
+    print_number(h.content as u64);
+    print(b" next ");
+    print_number(h.next as u64);
+}
+
+fn print_head(head: Head) {
+    match head {
+        Head::Short(at) => {
+            print(b"none at ");
+            print_number(at as u64);
+        }
+        Head::Found(h) => print_found(h),
+    }
+    print(b"\n");
+}
+
+fn print_heads(s: &[u8]) {
+    let mut k: u8 = 0;
+    while k < 6 {
+        print_head(reader::field_head(s, k));
+        k += 1;
+    }
+}
+
+// Mode 5: the parts of the sheet program's input where that is well formed, and what the field reader finds after none to five fields.
+fn answer_parts(s: &[u8]) {
+    let v = validation::validate_input(s);
+    match v {
+        Validity::Fit => print_parts(s),
+        Validity::Refused(x) => print_refusal(x),
+    }
+    print(b"\n");
+    print_heads(s);
+}
+
 fn answer(mode: u8, room: usize, s: &[u8]) {
     match mode {
         1 => answer_edges(s),
         2 => answer_sum(s, room),
         3 => answer_input(s),
         4 => answer_readings(s),
+        5 => answer_parts(s),
         _ => print(b"unknown mode\n"),
     }
 }

@@ -3,7 +3,9 @@ use borrow.Author.Needs.{needs}
 use mathlib.Core.Path.{sym, _∙_, ap}
 use native.Mathlib.Omega.{arith}
 use Rattle.program.specs.Asking.{inTurn}
-use Rattle.program.specs.Questions.{inputValidity, initialField}
+use Rattle.program.specs.File.{initialField}
+use Rattle.program.specs.Questions.{inputValidity}
+use Rattle.program.specs.declared.Field.{Field}
 use Rattle.program.proofs.Asking.{stops, goes-on, last-asked, not-refused, numbered}
 use Rattle.program.proofs.Fit.{counts-allowed}
 use Rattle.program.proofs.Reading.{asked-head}
@@ -25,23 +27,28 @@ returns c =
 name-count-requires : tie.Need-name-count-requires
 name-count-requires c κs = search needs
 
+initial-field-requires : tie.Need-initial-field-requires
+initial-field-requires c κs = search needs
+
 field-head-requires : tie.Need-field-head-requires
 field-head-requires c κs = search needs
 
 check-head-requires : tie.Need-check-head-requires
+unfolding initialField
 check-head-requires c κs =
-    let heads = sym (c .before .before .before .before .check-heads .ensures) ∙ not-refused _ _ (c .before .before .before .refused .ensures) (c .before .before .if1 .left) in
-    omega (arith, counts-allowed _ heads .some-name, c .before .name-count .ensures)
+    let heads = sym (c .before .before .before .before .before .check-heads .ensures) ∙ not-refused _ _ (c .before .before .before .before .refused .ensures) (c .before .before .before .if1 .left) in
+    omega (arith, counts-allowed _ heads .some-name, c .before .before .name-count .ensures, ap (λ (x : Field). x .width) (c .before .initial-field .ensures))
 
 refused-requires-2 : tie.Need-refused-requires-2
 refused-requires-2 c κs = search needs
 
 returns-2 : tie.Need-returns-2
-unfolding inputValidity inTurn initialField
+unfolding inputValidity inTurn
 returns-2 c =
+    let initial = asked-head _ (c .before .before .check-head .ensures) (c .before .before .before .field-head .ensures) (c .before .before .before .before .initial-field .ensures ∙ ap initialField (c .before .before .before .before .before .name-count .ensures)) in
     numbered
-    (goes-on _ _ _ _ _ (c .before .before .before .before .before .before .before .check-heads .ensures) (c .before .before .before .before .before .before .refused .ensures) (c .before .before .before .before .before .if1 .left)
-    (stops _ _ _ _ (asked-head _ (c .before .before .check-head .ensures) (c .before .before .before .field-head .ensures) (λ i. record { tag = 5; width = c .before .before .before .before .name-count .ensures i; least = 0; most = 512 })) (c .before .refused2 .ensures) (c .if2 .taken)))
+    (goes-on _ _ _ _ _ (c .before .before .before .before .before .before .before .before .check-heads .ensures) (c .before .before .before .before .before .before .before .refused .ensures) (c .before .before .before .before .before .before .if1 .left)
+    (stops _ _ _ _ initial (c .before .refused2 .ensures) (c .if2 .taken)))
 
 check-end-requires : tie.Need-check-end-requires
 check-end-requires c κs = search needs
@@ -50,25 +57,27 @@ refused-requires-3 : tie.Need-refused-requires-3
 refused-requires-3 c κs = search needs
 
 returns-3 : tie.Need-returns-3
-unfolding inputValidity inTurn initialField
+unfolding inputValidity inTurn
 returns-3 c =
+    let initial = asked-head _ (c .before .before .before .before .before .check-head .ensures) (c .before .before .before .before .before .before .field-head .ensures) (c .before .before .before .before .before .before .before .initial-field .ensures ∙ ap initialField (c .before .before .before .before .before .before .before .before .name-count .ensures)) in
     numbered
-    (goes-on _ _ _ _ _ (c .before .before .before .before .before .before .before .before .before .before .check-heads .ensures) (c .before .before .before .before .before .before .before .before .before .refused .ensures) (c .before .before .before .before .before .before .before .before .if1 .left)
-    (goes-on _ _ _ _ _ (asked-head _ (c .before .before .before .before .before .check-head .ensures) (c .before .before .before .before .before .before .field-head .ensures) (λ i. record { tag = 5; width = c .before .before .before .before .before .before .before .name-count .ensures i; least = 0; most = 512 })) (c .before .before .before .before .refused2 .ensures) (c .before .before .before .if2 .left)
+    (goes-on _ _ _ _ _ (c .before .before .before .before .before .before .before .before .before .before .before .check-heads .ensures) (c .before .before .before .before .before .before .before .before .before .before .refused .ensures) (c .before .before .before .before .before .before .before .before .before .if1 .left)
+    (goes-on _ _ _ _ _ initial (c .before .before .before .before .refused2 .ensures) (c .before .before .before .if2 .left)
     (stops _ _ _ _ (c .before .before .check-end .ensures) (c .before .refused3 .ensures) (c .if3 .taken))))
 
 check-content-requires : tie.Need-check-content-requires
 check-content-requires c κs =
-    sym (c .before .before .before .before .before .before .before .before .before .before .check-heads .ensures) ∙ not-refused _ _ (c .before .before .before .before .before .before .before .before .before .refused .ensures) (c .before .before .before .before .before .before .before .before .if1 .left)
+    sym (c .before .before .before .before .before .before .before .before .before .before .before .check-heads .ensures) ∙ not-refused _ _ (c .before .before .before .before .before .before .before .before .before .before .refused .ensures) (c .before .before .before .before .before .before .before .before .before .if1 .left)
 
 returns-4 : tie.Need-returns-4
-unfolding inputValidity inTurn initialField
+unfolding inputValidity inTurn
 returns-4 c =
+    let initial = asked-head _ (c .before .before .before .before .before .before .check-head .ensures) (c .before .before .before .before .before .before .before .field-head .ensures) (c .before .before .before .before .before .before .before .before .initial-field .ensures ∙ ap initialField (c .before .before .before .before .before .before .before .before .before .name-count .ensures)) in
     numbered
-    (goes-on _ _ _ _ _ (c .before .before .before .before .before .before .before .before .before .before .before .check-heads .ensures) (c .before .before .before .before .before .before .before .before .before .before .refused .ensures) (c .before .before .before .before .before .before .before .before .before .if1 .left)
-    (goes-on _ _ _ _ _ (asked-head _ (c .before .before .before .before .before .before .check-head .ensures) (c .before .before .before .before .before .before .before .field-head .ensures) (λ i. record { tag = 5; width = c .before .before .before .before .before .before .before .before .name-count .ensures i; least = 0; most = 512 })) (c .before .before .before .before .before .refused2 .ensures) (c .before .before .before .before .if2 .left)
+    (goes-on _ _ _ _ _ (c .before .before .before .before .before .before .before .before .before .before .before .before .check-heads .ensures) (c .before .before .before .before .before .before .before .before .before .before .before .refused .ensures) (c .before .before .before .before .before .before .before .before .before .before .if1 .left)
+    (goes-on _ _ _ _ _ initial (c .before .before .before .before .before .refused2 .ensures) (c .before .before .before .before .if2 .left)
     (goes-on _ _ _ _ _ (c .before .before .before .check-end .ensures) (c .before .before .refused3 .ensures) (c .before .if3 .left)
     (last-asked _ _ (c .check-content .ensures)))))
 
 pub validate-input-spec : {M : Type 1} → statement M
-validate-input-spec = tie.close (tie.spec check-heads-requires refused-requires returns name-count-requires field-head-requires check-head-requires refused-requires-2 returns-2 check-end-requires refused-requires-3 returns-3 check-content-requires returns-4)
+validate-input-spec = tie.close (tie.spec check-heads-requires refused-requires returns name-count-requires initial-field-requires field-head-requires check-head-requires refused-requires-2 returns-2 check-end-requires refused-requires-3 returns-3 check-content-requires returns-4)
