@@ -9,8 +9,8 @@ use lib.ListN.{length, getD, drop, length-drop}
 use lib.Seq.{length-take-le, getD-take}
 use borrow.Author.Tests.{leb-true, eqb-true, eq-eqb}
 use Rattle.program.specs.Asking.{ask, thenAsk, inTurn}
-use Rattle.program.specs.File.{byteAt, wordAt, namesField, tableField, programFields, headFound, headAt, placeAfter, fieldStart, fieldHead, headSpan, headContent, layoutOf, spanOf, nameCount, nameOffset, sizeAt, sizes, entryCount, tableStart, entryOffset, entryAt, entry}
-use Rattle.program.specs.Questions.{wholeEntries, headValidity, headsValidity, endValidity, contentValidity, validity, initialField, inputValidity, programPart, initialPart}
+use Rattle.program.specs.File.{byteAt, wordAt, namesField, tableField, programFields, initialField, headFound, headAt, placeAfter, fieldStart, fieldHead, headSpan, headContent, layoutOf, spanOf, nameCount, nameOffset, sizeAt, sizes, entryCount, tableStart, entryOffset, entryAt, entry}
+use Rattle.program.specs.Questions.{wholeEntries, headValidity, headsValidity, endValidity, contentValidity, validity, inputValidity, programPart, initialPart}
 use Rattle.program.specs.declared.Field.{Field}
 use Rattle.program.specs.declared.Layout.{Layout}
 use Rattle.program.specs.declared.Span.{Span}
@@ -127,9 +127,9 @@ module _ (s : List ℕ) (fit : inputValidity s ≡ Fit) where
   program-sizes = same-sizes (programPart s) s (part-agrees s heads)
 
   -- the start list is whole records, at most 512
-  initial-field : Whole s (fieldStart s 4) (initialField s)
+  initial-field : Whole s (fieldStart s 4) (initialField (nameCount s))
   unfolding inputValidity fieldHead
-  initial-field = whole s (fieldStart s 4) (initialField s) (turn-fit _ 1 fit)
+  initial-field = whole s (fieldStart s 4) (initialField (nameCount s)) (turn-fit _ 1 fit)
 
   initial-length : length (initialPart s) ≡ wordAt s (fieldStart s 4 + 1)
   unfolding initialPart fieldHead headContent headFound

@@ -277,7 +277,8 @@ module _ (s : List ℕ) (fit : validity s ≡ Fit) where
   pub script-command : isGuardedTree (script s) ≡ false
   script-command = Sorting.script-command s fit
 
-  -- an edge's action is that of its kind and entry, its names and references are as above, an exit's names those of its condition, and its entry exists
+  -- an edge's action is that of its kind and entry, its names and references are as above, an exit's names those of its condition, and its entry
+  -- exists
   pub edge-faithful : (k : ℕ) (d : Edge) → k < edgeCount s → Faithful s (getD (edges s) k d)
   edge-faithful = Actions.edge-faithful s fit
 

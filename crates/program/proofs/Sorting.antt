@@ -1,4 +1,5 @@
--- The command trees of a well-formed program are well sorted: every name is there and of the right sort, every reference lower and of the sort its rule needs.
+-- The command trees of a well-formed program are well sorted: every name is there and of the right sort, every reference lower and of the sort its
+-- rule needs.
 use mathlib.Core.Path.{_≡_, refl, _∙_, ap}
 use mathlib.Core.Bool.{Bool, true, false, not}
 use mathlib.Core.List.{List}

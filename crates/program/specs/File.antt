@@ -59,7 +59,8 @@ headFound s at = record { start = at; tag = byteAt s at; length = wordAt s (at +
 unfoldable pub headAt : List ℕ → ℕ → Head
 headAt s at = cond (leb (at + 3) (length s)) (Found (headFound s at)) (Short at)
 
--- where the reader goes from there. It stays where no head stands; question 1 is no there, so no answer to the questions depends on a place further on
+-- where the reader goes from there. It stays where no head stands; question 1 is no there, so no answer to the questions depends on a place
+-- further on
 unfoldable pub afterHead : Head → ℕ
 afterHead (Short at) = at
 afterHead (Found h) = h .next
@@ -76,7 +77,8 @@ fieldStart s k = placeAfter s 0 k
 unfoldable pub fieldHead : List ℕ → ℕ → Head
 fieldHead s k = headAt s (fieldStart s k)
 
--- a head in document 01's numbers: question 1's and its place where there is none, else 0, the tag and the length, and where content and next field start
+-- a head in document 01's numbers: question 1's and its place where there is none, else 0, the tag and the length, and where content and next
+-- field start
 unfoldable pub headNumbers : Head → List ℕ
 headNumbers (Short at) = 1 ∷ at ∷ []
 headNumbers (Found h) = 0 ∷ h .tag ∷ h .length ∷ h .content ∷ h .next ∷ []

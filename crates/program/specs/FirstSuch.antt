@@ -1,4 +1,5 @@
--- "First such" (document 01): the first of the answers at 0, 1, … n - 1 that settles a matter. The questions, the lowest defined edge, the verdict's 41 and 42 and the index mark are all found this way.
+-- "First such" (document 01): the first of the answers at 0, 1, … n - 1 that settles a matter. The questions, the lowest defined edge, the
+-- verdict's 41 and 42 and the index mark are all found this way.
 use Prim.Native.Nat.{ℕ, zero, suc}
 use mathlib.Core.Bool.{Bool, true, false, cond}
 use Rattle.program.specs.declared.First.{First}

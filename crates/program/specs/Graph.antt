@@ -4,7 +4,6 @@ use mathlib.Core.Bool.{cond}
 use mathlib.Core.List.{List, [], _∷_, _++_, flatMap}
 use lib.Dec.{eqb}
 use lib.ListN.{length, getD}
-use Rattle.program.specs.File.{entry}
 use Rattle.program.specs.Syntax.{Boolean, truth, conjunction, negation, booleanEntry, Command, skip, assign, store, sequence, conditional, iteration, guarded, choice, commandEntry}
 use Rattle.program.specs.Tree.{Entries, booleanAt, commandAt, script}
 use Rattle.program.specs.declared.Table.{Table}

@@ -1,4 +1,5 @@
--- The tree at an entry, by what each table has at each number (document 01, "The script file"). The trees of the entries below are at hand; any other reference, and an unknown kind, makes a leaf: the number 0, true, or skip.
+-- The tree at an entry, by what each table has at each number (document 01, "The script file"). The trees of the entries below are at hand; any
+-- other reference, and an unknown kind, makes a leaf: the number 0, true, or skip.
 use Prim.Native.Nat.{ℕ, zero, suc, _+_, _*_}
 use mathlib.Core.List.{List, [], _∷_, _++_}
 use lib.IntN.{pos}

@@ -1,7 +1,7 @@
 // Reading a program file. All of it is total: a byte past the end is 0.
 
 ghost use mathlib.Core.Path.{_≡_};
-ghost use Prim.Native.Nat.{_<_, _≤_, _+_, _*_, min};
+ghost use Prim.Native.Nat.{_<_, _+_, _*_, min};
 ghost use Rattle.program.specs.File as spec;
 use crate::Entry;
 use crate::Field;

@@ -1,7 +1,7 @@
 // Questions 1 to 11 of a program file.
 
 ghost use mathlib.Core.Path.{_≡_};
-ghost use Prim.Native.Nat.{_<_, _≤_};
+ghost use Prim.Native.Nat.{_<_};
 ghost use lib.ListN.{length, take, drop};
 ghost use mathlib.Core.Bool.{_&&_, cond};
 ghost use lib.Dec.{leb};

@@ -8,7 +8,8 @@ use Rattle.signs.specs.Sign.{has, signOf}
 use Rattle.signs.specs.declared.Operator.the-variants.{Add, Div, Pow}
 use Rattle.signs.specs.declared.Sign.the-variants.{Plus}
 
--- (P) "−7 / 2 and 7 / −2 are −3", "−2147483648 / −1: 36", "0 ^ 0 is 1; 2 ^ 30 is 1073741824; 2 ^ 31: 36", "1 ^ 2147483647 is 1"; then the order of the reasons
+-- (P) "−7 / 2 and 7 / −2 are −3", "−2147483648 / −1: 36", "0 ^ 0 is 1; 2 ^ 30 is 1073741824; 2 ^ 31: 36", "1 ^ 2147483647 is 1"; then the order of
+-- the reasons
 unfoldable pub numberCases : List Case
 numberCases =
     (valueNumbers (apply Div (minus 7) (pos 2)) gives (pos 0 ∷ minus 3 ∷ []))

@@ -14,7 +14,8 @@ use Rattle.signs.specs.declared.Reason.the-variants.{ConditionFalse, Div
 use Rattle.signs.specs.declared.Value.{Value}
 use Rattle.signs.specs.declared.Value.the-variants.{Number, Undefined}
 
--- "the reason is: 31 condition false; 32 divisor zero; 33 exponent negative; 34 index below zero; 35 index at or past the size; 36 exact result outside the range"
+-- "the reason is: 31 condition false; 32 divisor zero; 33 exponent negative; 34 index below zero; 35 index at or past the size; 36 exact result
+-- outside the range"
 unfoldable pub reasonNumber : Reason → ℕ
 reasonNumber ConditionFalse = 31
 reasonNumber DivisorZero = 32
@@ -43,7 +44,8 @@ equal (pos a) (negsuc b) = false
 equal (negsuc a) (pos b) = false
 equal (negsuc a) (negsuc b) = eqb a b
 
--- "Any number to the power 0 is 1, 0 included." By magnitude and parity, so that 1 ^ 2147483647 computes; `proofs/Power` shows that it is the repeated product
+-- "Any number to the power 0 is 1, 0 included." By magnitude and parity, so that 1 ^ 2147483647 computes; `proofs/Power` shows that it is the
+-- repeated product
 unfoldable pub power : ℤ → ℕ → ℤ
 power (pos a) n = pos (a ^ n)
 power (negsuc a) n = cond (eqb (n % 2) 0) (pos (suc a ^ n)) (negℤ (pos (suc a ^ n)))

@@ -1,7 +1,7 @@
 // Question 10: how often each entry is used, counted in one pass over the tables.
 
 ghost use mathlib.Core.Path.{_≡_};
-ghost use Prim.Native.Nat.{ℕ, _<_, _≤_, _+_, min};
+ghost use Prim.Native.Nat.{_<_, _≤_, _+_, min};
 ghost use lib.ListN.{length, getD, set};
 ghost use Rattle.program.specs.Counting as spec;
 ghost use Rattle.program.specs.File;

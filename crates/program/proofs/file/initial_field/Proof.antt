@@ -1,5 +1,4 @@
 -- `program::file::initial_field` meets its contract.
-use borrow.Author.Needs.{needs}
 use mathlib.Core.Path.{refl}
 use Rattle.program.specs.File.{initialField}
 use Rattle.program.proofs.file.initial_field.Statement.{statement}

@@ -1,5 +1,4 @@
 -- `program::file::names_field` meets its contract.
-use borrow.Author.Needs.{needs}
 use mathlib.Core.Path.{refl}
 use Rattle.program.specs.File.{namesField}
 use Rattle.program.proofs.file.names_field.Statement.{statement}

@@ -1,7 +1,5 @@
 -- `program::validation::check_heads` meets its contract.
 use borrow.Author.Needs.{needs}
-use mathlib.Core.Path.{_∙_}
-use native.Mathlib.Omega.{arith}
 use Rattle.program.specs.File.{programFields}
 use Rattle.program.specs.Questions.{headsValidity}
 use Rattle.program.proofs.Asking.{stops, goes-on, last-asked}

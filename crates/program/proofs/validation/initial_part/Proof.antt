@@ -1,7 +1,5 @@
 -- `program::validation::initial_part` meets its contract.
 use borrow.Author.Needs.{needs}
-use lib.ListN.{take, drop}
-use mathlib.Core.Path.{_∙_}
 use Rattle.program.specs.File.{headContent}
 use Rattle.program.specs.Questions.{initialPart}
 use Rattle.program.proofs.validation.initial_part.Statement.{statement}
