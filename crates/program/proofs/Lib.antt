@@ -1,4 +1,5 @@
 pub mod Tests
+pub mod Held
 pub mod Induction
 pub mod Lists
 pub mod Sums
