@@ -1,13 +1,14 @@
 -- What stands past the end of a file reads as zero; what the field reader finds; and a layout's spans.
 use mathlib.Core.Path.{_≡_, refl, ap, _∙_}
-use mathlib.Core.Bool.{cond}
+use mathlib.Core.Bool.{Bool, true, false, cond}
 use mathlib.Core.List.{List}
 use Prim.Native.Nat.{ℕ, _+_, _*_, _≤_, _<_}
 use native.Mathlib.Decide.{ℕ-discrete}
 use native.Mathlib.Omega.{arith}
-use borrow.Author.Tests.{le-leb, lt-leb, eq-eqb, ne-eqb}
+use borrow.Author.Tests.{leb-true, le-leb, lt-leb, eq-eqb, ne-eqb}
+use lib.Dec.{leb}
 use lib.ListN.{length, List·getD-eq-default}
-use Rattle.program.specs.File.{byteAt, wordAt, namesField, tableTag, tableField, headFound, headAt, entryAt, layoutOf, spanOf, nameCount, entryCount, tableStart, entryOffset, entry, cellsOf}
+use Rattle.program.specs.File.{byteAt, wordAt, namesField, tableTag, tableField, headFound, headAt, fieldStart, fieldHead, headSpan, entryAt, layoutOf, spanOf, nameCount, entryCount, tableStart, entryOffset, entry, cellsOf}
 use Rattle.program.specs.Questions.{headValidity, sameTable, limit}
 use Rattle.program.specs.declared.Entry.{Entry}
 use Rattle.program.specs.declared.Field.{Field}
@@ -39,6 +40,21 @@ head-there s at h = rw (le-leb _ _ h)
 pub head-short : (s : List ℕ) (at : ℕ) → length s < at + 3 → headAt s at ≡ Short at
 unfolding headAt
 head-short s at h = rw (lt-leb _ _ h)
+
+-- a field that has an entry starts inside the file, and so does a table
+span-inside : (s : List ℕ) (at : ℕ) (f : Field) → 0 < headSpan (headAt s at) f .count → headSpan (headAt s at) f .start ≤ length s
+unfolding headAt headFound headSpan
+span-inside s at f h = go (leb (at + 3) (length s)) refl h
+  where
+    go : (b : Bool) → leb (at + 3) (length s) ≡ b → 0 < headSpan (cond b (Found (headFound s at)) (Short at)) f .count → headSpan (cond b (Found (headFound s at)) (Short at)) f .start ≤ length s
+    go true t h = leb-true _ _ t
+    go false t h = absurd (omega arith)
+
+pub table-inside : (s : List ℕ) (t : Table) → 0 < entryCount s t → tableStart s t ≤ length s
+unfolding entryCount tableStart layoutOf spanOf fieldHead
+table-inside s Arithmetic h = span-inside s (fieldStart s 1) (tableField Arithmetic) h
+table-inside s Boolean h = span-inside s (fieldStart s 2) (tableField Boolean) h
+table-inside s Commands h = span-inside s (fieldStart s 3) (tableField Commands) h
 
 -- what a file's layout holds
 module _ (s : List ℕ) (l : Layout) (e : l ≡ layoutOf s) where

@@ -352,7 +352,7 @@ fn check_all_uses(s: &[u8], l: Layout) -> Validity
     requires { ⌜ File.LaidOut (now s) l ⌝ }
     ensures { λ r. ⌜ r ≡ spec.usesValidity (now (s .entry)) ⌝ }
 {
-    let counts = uses::count_all(s, l);
+    let counts = uses::count_all(s);
     let arithmetic = check_uses(s, l, Table::Arithmetic, &counts);
     if refused(arithmetic) {
         return arithmetic;

@@ -102,7 +102,7 @@ fn count_entry(s: &[u8], table: Table, start: usize, m: u16, uses: &mut [u8])
 
 // Counts the operands of a table's entries.
 fn count_table(s: &[u8], l: Layout, table: Table, uses: &mut [u8])
-    requires { ⌜ File.LaidOut (now s) l × (length (now uses) ≡ 1024) ⌝ }
+    requires { ⌜ (l ≡ File.layoutOf (now s)) × (length (now uses) ≡ 1024) ⌝ }
     ensures { λ _. ⌜ spec.Counted (now (uses .entry)) (now (uses .exit)) (λ u n. Questions.tableUses (now (s .entry)) u n table (File.entryCount (now (s .entry)) table)) ⌝ }
 {
     let span = file::span_of(l, table);
@@ -116,10 +116,10 @@ fn count_table(s: &[u8], l: Layout, table: Table, uses: &mut [u8])
 }
 
 // Counts the operands of all entries.
-pub(super) fn count_all(s: &[u8], l: Layout) -> [u8; 1024]
-    requires { ⌜ File.LaidOut (now s) l ⌝ }
+pub(super) fn count_all(s: &[u8]) -> [u8; 1024]
     ensures { λ r. ⌜ spec.UsesIn (now (s .entry)) r ⌝ }
 {
+    let l = file::layout(s);
     let mut uses = [0u8; 1024];
     count_table(s, l, Table::Arithmetic, &mut uses);
     count_table(s, l, Table::Boolean, &mut uses);

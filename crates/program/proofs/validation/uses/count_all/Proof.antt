@@ -9,6 +9,9 @@ use Rattle.program.proofs.Lists.{getD-same}
 use Rattle.program.proofs.validation.uses.count_all.Statement.{statement}
 use Rattle.program.proofs.validation.uses.count_all.Tie as tie
 
+layout-requires : tie.Need-layout-requires
+layout-requires c κs = search needs
+
 slice-aggregate-count-table : tie.Need-slice-aggregate-count-table
 slice-aggregate-count-table c = search needs
 
@@ -37,4 +40,4 @@ returns c =
     }
 
 pub count-all-spec : {M : Type 1} → statement M
-count-all-spec = tie.close (tie.spec slice-aggregate-count-table count-table-requires slice-aggregate-count-table-2 count-table-requires-2 slice-aggregate-count-table-3 count-table-requires-3 returns)
+count-all-spec = tie.close (tie.spec layout-requires slice-aggregate-count-table count-table-requires slice-aggregate-count-table-2 count-table-requires-2 slice-aggregate-count-table-3 count-table-requires-3 returns)

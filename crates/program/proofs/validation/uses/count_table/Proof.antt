@@ -8,7 +8,7 @@ use Rattle.program.specs.Counting.{Counted}
 use Rattle.program.specs.Questions.{tableUses}
 use Rattle.program.specs.declared.Span.{Span}
 use Rattle.program.proofs.Counting.{counted-none, counted-then}
-use Rattle.program.proofs.Reading.{laid-count, laid-start}
+use Rattle.program.proofs.Reading.{laid-count, laid-start, table-inside}
 use Rattle.program.proofs.validation.uses.count_table.Statement.{statement}
 use Rattle.program.proofs.validation.uses.count_table.Tie as tie
 
@@ -29,7 +29,12 @@ loop-holds c = (search needs, counted-none _ _ (λ u n h. refl))
 count-entry-requires : tie.Need-count-entry-requires Inv-loop μ-loop
 count-entry-requires c κs =
     let start = ap (λ (x : Span). x .start) (c .before .before .before .span-of .ensures) in
-    (start ∙ laid-start _ _ (c .before .before .before .before .before .before .pre .0 .same) (c .before .before .before .before .before .before .args .table), omega (arith, c .before .before .before .before .before .before .pre .0 .inside (c .before .before .before .before .before .before .args .table)), search needs)
+    let l = c .before .before .before .before .before .before .pre .0 in
+    let table = c .before .before .before .before .before .before .args .table in
+    let s = c .before .before .before .before .before .before .args .s .now in
+    let count = ap (λ (x : Span). x .count) (c .before .before .before .span-of .ensures) ∙ laid-count s _ l table in
+    let here = start ∙ laid-start s _ l table in
+    (here, omega (arith, table-inside s table (omega arith)), search needs)
 
 add-m : tie.Need-add-m Inv-loop μ-loop
 add-m c = search needs
@@ -48,7 +53,7 @@ same-length c = search needs
 returns : tie.Need-returns Inv-loop μ-loop
 returns c =
     let a = c .before .before .before .before .before .args in
-    let counted = ap (λ (x : Span). x .count) (c .before .before .span-of .ensures) ∙ laid-count _ _ (c .before .before .before .before .before .pre .0 .same) (a .table) in
+    let counted = ap (λ (x : Span). x .count) (c .before .before .span-of .ensures) ∙ laid-count _ _ (c .before .before .before .before .before .pre .0) (a .table) in
     subst (λ (k : ℕ). Counted (a .uses .now) (c .before .loop .uses) (λ u n. tableUses (a .s .now) u n (a .table) k)) (omega arith) (c .before .loop .inv .1)
 
 pub count-table-spec : {M : Type 1} → statement M
