@@ -1,3 +1,7 @@
 pub mod Exit
+pub mod Steps
+pub mod Runs
+pub mod Named
+pub mod Laws
 pub mod Open
 pub mod Examples
