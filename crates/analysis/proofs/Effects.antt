@@ -30,9 +30,10 @@ use Rattle.semantics.specs.declared.Truth.the-variants.{Known, Undefined as Unk
 use Rattle.analysis.specs.Abstraction.{signsOf, nameValues, abstractMemory}
 use Rattle.analysis.specs.Results.{assignedSets, setsWith, storedSets, results}
 use Rattle.analysis.specs.Signs.{mayIndex, signsIn, truthsIn}
-use Rattle.analysis.proofs.Meanings.{meaningNamed}
+use Rattle.semantics.proofs.Laws.{variable-there, array-there}
+use Rattle.semantics.proofs.Named.{meaningNamed}
 use Rattle.analysis.proofs.Stores.{only-sign, stored-set, same-cell, other-cell, abstract-stored}
-use Rattle.analysis.proofs.Values.{variable-there, array-there, may-index, cell-sign, value-sound, truth-sound}
+use Rattle.analysis.proofs.Values.{may-index, cell-sign, value-sound, truth-sound}
 
 -- what is in the list of an element is in all the lists together
 pub member-flatMap : {A B : Type 0} (f : A → List B) {x : A} {y : B} (xs : List A) → List·Memᴰ x xs → List·Memᴰ y (f x) → List·Memᴰ y (flatMap f xs)

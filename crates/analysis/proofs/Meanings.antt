@@ -1,6 +1,6 @@
--- The names of an action's meaning; and where an action is undefined for reason 34, one of its index sets has minus.
+-- Where an action is undefined for reason 34, one of its index sets has minus.
 use mathlib.Core.Path.{_≡_, refl, ap, _∙_}
-use mathlib.Core.Bool.{Bool, true, false, _&&_}
+use mathlib.Core.Bool.{true, false, _&&_}
 use mathlib.Core.List.{List, [], _∷_, _++_}
 use Prim.Native.Nat.{ℕ}
 use native.Mathlib.Omega.{arith}
@@ -10,10 +10,9 @@ use mir.Facts.{and-yes}
 use Rattle.signs.specs.Number.{reasonNumber}
 use Rattle.signs.specs.declared.Reason.the-variants.{ConditionFalse}
 use Rattle.program.specs.File.{firstCell}
-use Rattle.program.specs.Graph.{Action, perform, test, leave}
-use Rattle.program.specs.Sorted.{isVariable, isArray, arithNamed, booleanNamed, commandNamed, actionNamed}
-use Rattle.program.specs.Syntax.{Arith, Boolean, Command, skip, assign, store, sequence, conditional, iteration, guarded, choice}
-use Rattle.semantics.specs.Action.{Meaning, nothing, assigns, stores, condition, performing, meaning, pass, storeTo, effect}
+use Rattle.program.specs.Sorted.{isVariable, isArray, arithNamed, booleanNamed}
+use Rattle.program.specs.Syntax.{Arith, Boolean}
+use Rattle.semantics.specs.Action.{Meaning, nothing, assigns, stores, condition, pass, storeTo, effect}
 use Rattle.semantics.specs.Expression.{fault, faultNumber, Place, at, nowhere, placeOf, value, truthIn}
 use Rattle.semantics.specs.declared.Effect.the-variants.{Undefined as Fails, Unchanged, Stored}
 use Rattle.semantics.specs.declared.Evaluation.{Evaluation}
@@ -25,31 +24,8 @@ use Rattle.analysis.specs.Abstraction.{abstractMemory}
 use Rattle.analysis.specs.Index.{arithIndexes, booleanIndexes, indexSets, mayBeNegative}
 use Rattle.analysis.specs.Signs.{signsIn}
 use Rattle.analysis.specs.Soundness.{isNegativeIndex}
+use Rattle.semantics.proofs.Named.{meaningNamed}
 use Rattle.analysis.proofs.Negative.{SomeMinus, first-minus, second-minus, place-minus, value-minus, truth-minus}
-
--- every name of a meaning is there and of the right sort
-unfoldable pub meaningNamed : List ℕ → Meaning → Bool
-meaningNamed ns nothing = true
-meaningNamed ns (assigns x a) = isVariable ns x && arithNamed ns a
-meaningNamed ns (stores x i a) = isArray ns x && (arithNamed ns i && arithNamed ns a)
-meaningNamed ns (condition b) = booleanNamed ns b
-
-performing-named : (ns : List ℕ) (c : Command) → T (commandNamed ns c) → T (meaningNamed ns (performing c))
-unfolding commandNamed performing meaningNamed
-performing-named ns (skip k) t = tt
-performing-named ns (assign k x a) t = t
-performing-named ns (store k x i a) t = t
-performing-named ns (sequence k c d) t = tt
-performing-named ns (conditional k c) t = tt
-performing-named ns (iteration k c) t = tt
-performing-named ns (guarded k b c) t = tt
-performing-named ns (choice k c d) t = tt
-
-pub action-named : (ns : List ℕ) (x : Action) → T (actionNamed ns x) → T (meaningNamed ns (meaning x))
-unfolding actionNamed meaning meaningNamed
-action-named ns (perform c) t = performing-named ns c t
-action-named ns (test b) t = t
-action-named ns (leave c) t = t
 
 -- an effect that is defined is no fault
 pub unchanged-defined {ℓ} : {A : Type ℓ} (f : Fault) → Unchanged ≡ Fails f → A

@@ -1,32 +1,33 @@
 -- The third term (document 01; book, Propositions 4.9 and 4.31): an accepted solution has the memory's record at the node reached, after any list
 -- of step calls and any budgeted run; and a clean mark means that no call meets a negative index.
 use mathlib.Core.Path.{_≡_, refl, subst, _∙_}
-use mathlib.Core.Bool.{Bool, true, false, cond, not, _&&_}
+use mathlib.Core.Bool.{not, _&&_}
 use mathlib.Core.List.{List, [], _∷_}
-use Prim.Native.Nat.{ℕ, zero, suc, _<_}
-use lib.Dec.{T, eqb, ltb, ltb→lt}
+use Prim.Native.Nat.{ℕ, _<_}
+use native.Mathlib.Omega.{arith}
+use lib.Dec.{T}
 use lib.IntN.{ℤ}
-use lib.ListN.{length, length-set}
-use borrow.Author.Tests.{eqb-true}
+use lib.ListN.{length}
 use mir.Facts.{and-yes, yes-and, not-T}
 use Rattle.signs.specs.Lists.{allOf, indices}
 use Rattle.program.specs.File.{cellCount, sizes}
 use Rattle.program.specs.Graph.{Graph, graph, edges, edgeCount}
 use Rattle.program.specs.Questions.{validity}
 use Rattle.program.specs.Sorted.{actionNamed}
-use Rattle.program.specs.declared.First.{First}
-use Rattle.program.specs.declared.First.the-variants.{At, Nothing}
 use Rattle.program.specs.declared.Validity.{Validity}
 use Rattle.program.specs.declared.Validity.the-variants.{Fit, Refused}
-use Rattle.program.proofs.Laws.{ask-fit, turn-fit, such-first, edge-faithful}
+use Rattle.program.proofs.Laws.{ask-fit, turn-fit, edge-faithful}
 use Rattle.program.proofs.Tests.{passed}
-use Rattle.semantics.specs.Action.{meaning, effect, after, isDefined}
-use Rattle.semantics.specs.Budget.{lowestDefined, Result, ends, goesOn, runFrom, endsUnlessRefused, budgeted}
+use Rattle.semantics.specs.Action.{meaning, effect, isDefined}
+use Rattle.semantics.specs.Budget.{runFrom, budgeted}
 use Rattle.semantics.specs.Replay.{replay, outcomes}
-use Rattle.semantics.specs.Step.{Configuration, fresh, begun, edgeAt, leaves, edgeEffect, memoryValidity, stepValidity, outcomeBy, unlessRefused, outcome, along, next, step}
+use Rattle.semantics.specs.Step.{Configuration, fresh, begun, edgeAt, leaves, edgeEffect, memoryValidity, stepValidity, outcomeBy, unlessRefused, outcome, along, step}
 use Rattle.semantics.specs.declared.Effect.{Effect}
+use Rattle.semantics.specs.declared.Outcome.{Outcome}
+use Rattle.semantics.specs.declared.Outcome.the-variants.{Taken, Undefined as Stays, Refused as Refuses}
 use Rattle.semantics.specs.declared.Effect.the-variants.{Undefined as Fails, Unchanged, Stored}
-use Rattle.semantics.specs.declared.Ending.the-variants.{Arrived, Spent}
+use Rattle.semantics.proofs.Laws.{memory-fit, leaves-below, taken-takable, taken-step, untaken-step, along-length, lowest-found, run-ends, budgeted-run, refused-run, action-named}
+use Rattle.semantics.proofs.Named.{meaningNamed}
 use Rattle.analysis.specs.Abstraction.{abstractMemory}
 use Rattle.analysis.specs.Soundness.{isNegativeIndex, meetsInCall, meetsInEffect, hasConfiguration, noEdgeMeets, Sound, ThirdTerm}
 use Rattle.analysis.specs.Verdict.{judged, verdict}
@@ -35,14 +36,7 @@ use Rattle.analysis.specs.declared.Mark.the-variants.{Clean}
 use Rattle.analysis.proofs.Accepted.{Judged, accepted, not-refused-accepted, has-start, has-result, clean-index}
 use Rattle.analysis.proofs.Effects.{effect-among}
 use Rattle.analysis.proofs.Tabulated.{allOf-below}
-use Rattle.analysis.proofs.Meanings.{meaningNamed, action-named, effect-minus}
-
--- an effect leaves a memory as long as it was
-pub after-length : (m : List ℤ) (e : Effect) → length (after m e) ≡ length m
-unfolding after
-after-length m (Fails f) = refl
-after-length m Unchanged = refl
-after-length m (Stored c z) = length-set m c z
+use Rattle.analysis.proofs.Meanings.{effect-minus}
 
 -- a graph whose actions are named, and an accepted solution
 module _ (ns : List ℕ) (g : Graph) (named : (e : ℕ) → e < length (g .edges) → T (actionNamed ns (edgeAt g e .action))) (initial solution : List ℕ) (mark : Mark) (j : Judged ns g initial solution mark) where
@@ -51,8 +45,7 @@ module _ (ns : List ℕ) (g : Graph) (named : (e : ℕ) → e < length (g .edges
   Covered c = T (hasConfiguration ns solution c)
 
   edge-named : (e node : ℕ) → T (leaves g e node) → T (meaningNamed ns (meaning (edgeAt g e .action)))
-  unfolding leaves
-  edge-named e node l = action-named ns (edgeAt g e .action) (named e (ltb→lt e (length (g .edges)) (and-yes (ltb e (length (g .edges))) (eqb (edgeAt g e .source) node) l .0)))
+  edge-named e node l = action-named ns (edgeAt g e .action) (named e (leaves-below g e node l))
 
   -- along a defined edge out of the node
   covered-along : (c : Configuration) (e : ℕ) → length (c .memory) ≡ cellCount ns → Covered c → T (leaves g e (c .run .node)) → T (isDefined (edgeEffect ns g (c .memory) e)) → Covered (along ns g c e)
@@ -80,28 +73,21 @@ module _ (ns : List ℕ) (g : Graph) (named : (e : ℕ) → e < length (g .edges
       (λ e h. not-T (leaves g e (c .run .node) && meetsInEffect (edgeEffect ns g (c .memory) e))
       (λ t. let both = and-yes (leaves g e (c .run .node)) (meetsInEffect (edgeEffect ns g (c .memory) e)) t in never-meets clean c e has (both .0) (both .1)))
 
-  -- what a step's questions say where they are all answered yes
-  step-fit : (c : Configuration) (e : ℕ) → stepValidity ns g (c .run .node) (c .memory) e ≡ Fit → (length (c .memory) ≡ cellCount ns) × T (leaves g e (c .run .node))
-  unfolding stepValidity memoryValidity
-  step-fit c e p = (eqb-true (length (c .memory)) (cellCount ns) (ask-fit _ 12 0 (turn-fit _ 0 p)), passed (ask-fit _ 15 0 (turn-fit _ 2 p)))
-
-  -- a step
+  -- a step, and its answer
   covered-step : (c : Configuration) (e : ℕ) → Covered c → Covered (step ns g c e)
-  unfolding step outcome next unlessRefused outcomeBy isDefined
-  covered-step c e has = by (stepValidity ns g (c .run .node) (c .memory) e) (edgeEffect ns g (c .memory) e) refl refl
+  covered-step c e has = by (outcome ns g c e) refl
     where
-      by : (v : Validity) (x : Effect) → stepValidity ns g (c .run .node) (c .memory) e ≡ v → edgeEffect ns g (c .memory) e ≡ x → Covered (next ns g c e (unlessRefused v (outcomeBy x)))
-      by Fit (Fails f) p q = has
-      by Fit Unchanged p q = let fit = step-fit c e p in covered-along c e (fit .0) has (fit .1) (rw q tt)
-      by Fit (Stored k z) p q = let fit = step-fit c e p in covered-along c e (fit .0) has (fit .1) (rw q tt)
-      by (Refused r) x p q = has
+      by : (o : Outcome) → outcome ns g c e ≡ o → Covered (step ns g c e)
+      by Taken p = let can = taken-takable ns g c e p in rw (taken-step ns g c e p) (covered-along c e (can .room) has (can .edge-leaves) (can .edge-defined))
+      by (Stays f) p = rw (untaken-step ns g c e (λ q. let z : _≡_ {A = ℕ} 0 1 = cc in omega arith)) has
+      by (Refuses x) p = rw (untaken-step ns g c e (λ q. let z : _≡_ {A = ℕ} 0 1 = cc in omega arith)) has
 
   call-never-meets : mark ≡ Clean → (c : Configuration) (e : ℕ) → Covered c → T (not (meetsInCall (outcome ns g c e)))
-  unfolding outcome unlessRefused outcomeBy meetsInCall meetsInEffect
+  unfolding outcome unlessRefused outcomeBy meetsInCall meetsInEffect stepValidity
   call-never-meets clean c e has = by (stepValidity ns g (c .run .node) (c .memory) e) (edgeEffect ns g (c .memory) e) refl refl
     where
       by : (v : Validity) (x : Effect) → stepValidity ns g (c .run .node) (c .memory) e ≡ v → edgeEffect ns g (c .memory) e ≡ x → T (not (meetsInCall (unlessRefused v (outcomeBy x))))
-      by Fit (Fails f) p q = not-T (isNegativeIndex f) (λ t. never-meets clean c e has (step-fit c e p .1) (rw q t))
+      by Fit (Fails f) p q = not-T (isNegativeIndex f) (λ t. never-meets clean c e has (passed (ask-fit _ 15 0 (turn-fit _ 2 p))) (rw q t))
       by Fit Unchanged p q = tt
       by Fit (Stored k z) p q = tt
       by (Refused r) x p q = tt
@@ -119,32 +105,22 @@ module _ (ns : List ℕ) (g : Graph) (named : (e : ℕ) → e < length (g .edges
       yes-and (not (meetsInCall (outcome ns g c e))) _ (call-never-meets clean c e has) (calls-never-meet clean es (step ns g c e) (covered-step c e has))
 
   -- a budgeted run
-  covered-either : (b : Bool) (r s : Result) → Covered (r .final) → Covered (s .final) → Covered (cond b r s .final)
-  covered-either true r s x y = x
-  covered-either false r s x y = y
-
   covered-run : (budget : ℕ) (c : Configuration) → length (c .memory) ≡ cellCount ns → Covered c → Covered (runFrom budget ns g c .final)
-  unfolding runFrom goesOn lowestDefined along
-  covered-run zero c room has = covered-either (eqb (c .run .node) 1) (ends Arrived c) (ends Spent c) has has
-  covered-run (suc budget) c room has =
-      covered-either (eqb (c .run .node) 1) (ends Arrived c) _ has
-      (further (λ e. covered-run budget (along ns g c e)) (lowestDefined ns g (c .run .node) (c .memory)) refl)
-    where
-      further : ((e : ℕ) → length (along ns g c e .memory) ≡ cellCount ns → Covered (along ns g c e) → Covered (runFrom budget ns g (along ns g c e) .final))
-          → (x : First) → lowestDefined ns g (c .run .node) (c .memory) ≡ x → Covered (goesOn (λ e. runFrom budget ns g (along ns g c e)) c x .final)
-      further go (At e) p =
-          let first = such-first (length (g .edges)) (λ e. leaves g e (c .run .node) && isDefined (edgeEffect ns g (c .memory) e)) e p in
-          let both = and-yes (leaves g e (c .run .node)) (isDefined (edgeEffect ns g (c .memory) e)) (passed (first .passes)) in
-          go e (after-length (c .memory) (edgeEffect ns g (c .memory) e) ∙ room) (covered-along c e room has (both .0) (both .1))
-      further go Nothing p = has
+  covered-run budget c room has =
+      run-ends ns g (λ c. (length (c .memory) ≡ cellCount ns) × Covered c) (λ r. Covered (r .final))
+      (λ c e p i. let found = lowest-found ns g (c .run .node) (c .memory) e p in
+      (along-length ns g c e ∙ i .0, covered-along c e (i .0) (i .1) (found .0) (found .1)))
+      (λ c i p. i .1)
+      (λ c i p. i .1)
+      (λ c i p q. i .1)
+      budget c (room, has)
 
   covered-budgeted : (budget : ℕ) (m : List ℤ) → Covered (begun m) → Covered (budgeted ns g budget m .final)
-  unfolding budgeted endsUnlessRefused memoryValidity
   covered-budgeted budget m has = by (memoryValidity ns m) refl
     where
-      by : (v : Validity) → memoryValidity ns m ≡ v → Covered (endsUnlessRefused v m (runFrom budget ns g (begun m)) .final)
-      by Fit p = covered-run budget (begun m) (eqb-true (length m) (cellCount ns) (ask-fit _ 12 0 p)) has
-      by (Refused x) p = has
+      by : (v : Validity) → memoryValidity ns m ≡ v → Covered (budgeted ns g budget m .final)
+      by Fit p = rw (budgeted-run ns g budget m p) (covered-run budget (begun m) (memory-fit ns m p) has)
+      by (Refused x) p = rw (refused-run ns g budget m x p) has
 
   -- the third term of a graph
   pub sound : Sound ns g initial solution mark

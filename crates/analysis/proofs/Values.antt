@@ -5,10 +5,10 @@ use mathlib.Core.Bool.{Bool, true, false, cond, not, _&&_}
 use mathlib.Core.List.{List, map}
 use Prim.Native.Nat.{ℕ, zero, suc, _+_, _<_}
 use native.Mathlib.Omega.{arith}
-use lib.Dec.{T, eqb, ltb, ltb→lt, eqb→eq}
+use lib.Dec.{T, ltb}
 use lib.IntN.{ℤ, pos, negsuc}
 use lib.ListN.{length, getD}
-use borrow.Author.Tests.{ltb-true, ne-eqb}
+use borrow.Author.Tests.{ltb-true}
 use mir.Facts.{and-yes}
 use Rattle.signs.specs.Lists.{tabulate}
 use Rattle.signs.specs.Number.{apply, compares}
@@ -24,7 +24,7 @@ use Rattle.signs.specs.declared.Value.the-variants.{Number as Exactly, Undefine
 use Rattle.signs.proofs.Laws.{has-single, has-unionAll, operate-sound, compareSets-sound, among-certain, among-negated, conjoined-entry, andThen-entry}
 use Rattle.signs.proofs.Lists.{or-left, or-right, anyOf-map}
 use Rattle.program.specs.File.{cellsOf, firstCell}
-use Rattle.program.specs.Sorted.{isVariable, isArray, arithNamed, booleanNamed}
+use Rattle.program.specs.Sorted.{isArray, arithNamed, booleanNamed}
 use Rattle.program.specs.Syntax.{Arith, number, variable, element, operator, Boolean, truth, comparison, conjunction, shortCircuit, negation}
 use Rattle.program.proofs.Lists.{getD-tabulate}
 use Rattle.program.proofs.Tests.{is-true}
@@ -36,6 +36,7 @@ use Rattle.semantics.specs.declared.Truth.{Truth}
 use Rattle.semantics.specs.declared.Truth.the-variants.{Known, Undefined as Unknown}
 use Rattle.analysis.specs.Abstraction.{signsOf, nameValues, abstractMemory}
 use Rattle.analysis.specs.Signs.{mayIndex, signsIn, truthsIn}
+use Rattle.semantics.proofs.Laws.{variable-there, array-there}
 use Rattle.analysis.proofs.Tabulated.{anyOf-at}
 
 -- where an evaluation is undefined, it is no number; where a truth is, it is not known
@@ -55,20 +56,6 @@ unfolding signsOf
 has-signOf n f j h =
     rw (has-unionAll (map (λ z. single (signOf z)) (tabulate n f)) (signOf (f j)), anyOf-map (λ a. has a (signOf (f j))) (λ z. single (signOf z)) (tabulate n f))
     (anyOf-at (λ z. has (single (signOf z)) (signOf (f j))) f n j h (has-single (signOf (f j))))
-
--- a variable that is there has one cell, and an array as many as its size says
-pub variable-there : (ns : List ℕ) (x : ℕ) → T (isVariable ns x) → (x < length ns) × (cellsOf (getD ns x 0) ≡ 1)
-unfolding isVariable cellsOf
-variable-there ns x t =
-    let both = and-yes (ltb x (length ns)) (eqb (getD ns x 0) 0) t in
-    (ltb→lt _ _ (both .0), rw (eqb→eq (getD ns x 0) 0 (both .1)))
-
-pub array-there : (ns : List ℕ) (x : ℕ) → T (isArray ns x) → (x < length ns) × (getD ns x 0 ≡ cellsOf (getD ns x 0))
-unfolding isArray cellsOf
-array-there ns x t =
-    let both = and-yes (ltb x (length ns)) (ltb 0 (getD ns x 0)) t in
-    let some = ltb→lt 0 (getD ns x 0) (both .1) in
-    (ltb→lt _ _ (both .0), rw (ne-eqb (getD ns x 0) 0 (λ e. omega arith)))
 
 -- an index of a sign that is not minus can be in an array
 pub may-index : (set i : ℕ) → T (has set (signOf (pos i))) → T (mayIndex set)
