@@ -39,7 +39,8 @@ head-fit : (s : List ℕ) (at : ℕ) (f : Field) → headValidity (length s) (he
 unfolding headAt headFound headSpan headValidity wholeEntries
 head-fit s at f e = go (leb (at + 3) (length s)) refl e
   where
-    go : (b : Bool) → leb (at + 3) (length s) ≡ b → headValidity (length s) (cond b (Found (headFound s at)) (Short at)) f ≡ Fit → Allowed (length s) f (headSpan (cond b (Found (headFound s at)) (Short at)) f)
+    go : (b : Bool) → leb (at + 3) (length s) ≡ b → headValidity (length s) (cond b (Found (headFound s at)) (Short at)) f ≡ Fit
+        → Allowed (length s) f (headSpan (cond b (Found (headFound s at)) (Short at)) f)
     go true t e =
         let len = wordAt s (at + 1) in
         let whole = three (eqb (len % f .width) 0) (leb (f .least) (len / f .width)) (leb (len / f .width) (f .most)) (ask-fit _ 3 at (turn-fit _ 1 e)) in
