@@ -5,7 +5,8 @@ use lib.ListN.{length}
 use Rattle.program.specs.File.{namesField, tableField, programFields, fieldHead}
 use Rattle.program.specs.Questions.{headValidity, headsValidity}
 use Rattle.program.specs.declared.Table.the-variants.{Arithmetic, Boolean, Commands}
-use Rattle.program.proofs.Asking.{stops, goes-on, last-asked}
+use Rattle.program.specs.declared.Validity.the-variants.{Fit}
+use Rattle.program.proofs.Asking.{stops, answered, passed, last-asked}
 use Rattle.program.proofs.Reading.{names-wide, table-wide, asked-head}
 use Rattle.program.proofs.validation.check_heads.Statement.{statement}
 use Rattle.program.proofs.validation.check_heads.Tie as tie
@@ -26,6 +27,19 @@ boolean c =
 commands : (c : tie.After-check-head4) → c .check-head4 .result ≡ headValidity (length (c .before .before .before .before .before .before .before .before .before .before .before .before .before .before .before .before .before .before .before .args .s .now)) (fieldHead (c .before .before .before .before .before .before .before .before .before .before .before .before .before .before .before .before .before .before .before .args .s .now) 3) (tableField Commands)
 commands c =
     asked-head _ (c .check-head4 .ensures) (c .before .before .field-head4 .ensures) (c .before .table-field3 .ensures)
+
+-- and what is answered yes
+names-fit : (c : tie.Else1) → headValidity (length (c .before .before .before .before .before .before .args .s .now)) (fieldHead (c .before .before .before .before .before .before .args .s .now) 0) namesField ≡ Fit
+names-fit c =
+    answered (names (c .before .before)) (c .before .refused .ensures) (c .if1 .left)
+
+arithmetic-fit : (c : tie.Else2) → headValidity (length (c .before .before .before .before .before .before .before .before .before .before .before .args .s .now)) (fieldHead (c .before .before .before .before .before .before .before .before .before .before .before .args .s .now) 1) (tableField Arithmetic) ≡ Fit
+arithmetic-fit c =
+    answered (arithmetic (c .before .before)) (c .before .refused2 .ensures) (c .if2 .left)
+
+boolean-fit : (c : tie.Else3) → headValidity (length (c .before .before .before .before .before .before .before .before .before .before .before .before .before .before .before .before .args .s .now)) (fieldHead (c .before .before .before .before .before .before .before .before .before .before .before .before .before .before .before .before .args .s .now) 2) (tableField Boolean) ≡ Fit
+boolean-fit c =
+    answered (boolean (c .before .before)) (c .before .refused3 .ensures) (c .if3 .left)
 
 field-head-requires : tie.Need-field-head-requires
 field-head-requires c κs = search needs
@@ -58,8 +72,7 @@ refused-requires-2 c κs = search needs
 returns-2 : tie.Need-returns-2
 unfolding headsValidity programFields
 returns-2 c =
-    goes-on _ _ _ _ _ (names (c .before .before .before .before .before .before .before)) (c .before .before .before .before .before .before .refused .ensures) (c .before .before .before .before .before .if1 .left)
-    (stops _ _ _ _ (arithmetic (c .before .before)) (c .before .refused2 .ensures) (c .if2 .taken))
+    passed (names-fit (c .before .before .before .before .before)) (stops _ _ _ _ (arithmetic (c .before .before)) (c .before .refused2 .ensures) (c .if2 .taken))
 
 field-head-requires-3 : tie.Need-field-head-requires-3
 field-head-requires-3 c κs = search needs
@@ -76,8 +89,8 @@ refused-requires-3 c κs = search needs
 returns-3 : tie.Need-returns-3
 unfolding headsValidity programFields
 returns-3 c =
-    goes-on _ _ _ _ _ (names (c .before .before .before .before .before .before .before .before .before .before .before .before)) (c .before .before .before .before .before .before .before .before .before .before .before .refused .ensures) (c .before .before .before .before .before .before .before .before .before .before .if1 .left)
-    (goes-on _ _ _ _ _ (arithmetic (c .before .before .before .before .before .before .before)) (c .before .before .before .before .before .before .refused2 .ensures) (c .before .before .before .before .before .if2 .left)
+    passed (names-fit (c .before .before .before .before .before .before .before .before .before .before))
+    (passed (arithmetic-fit (c .before .before .before .before .before))
     (stops _ _ _ _ (boolean (c .before .before)) (c .before .refused3 .ensures) (c .if3 .taken)))
 
 field-head-requires-4 : tie.Need-field-head-requires-4
@@ -92,9 +105,9 @@ check-head-requires-4 c κs = table-wide _ (c .table-field3 .ensures)
 returns-4 : tie.Need-returns-4
 unfolding headsValidity programFields
 returns-4 c =
-    goes-on _ _ _ _ _ (names (c .before .before .before .before .before .before .before .before .before .before .before .before .before .before .before)) (c .before .before .before .before .before .before .before .before .before .before .before .before .before .before .refused .ensures) (c .before .before .before .before .before .before .before .before .before .before .before .before .before .if1 .left)
-    (goes-on _ _ _ _ _ (arithmetic (c .before .before .before .before .before .before .before .before .before .before)) (c .before .before .before .before .before .before .before .before .before .refused2 .ensures) (c .before .before .before .before .before .before .before .before .if2 .left)
-    (goes-on _ _ _ _ _ (boolean (c .before .before .before .before .before)) (c .before .before .before .before .refused3 .ensures) (c .before .before .before .if3 .left)
+    passed (names-fit (c .before .before .before .before .before .before .before .before .before .before .before .before .before))
+    (passed (arithmetic-fit (c .before .before .before .before .before .before .before .before))
+    (passed (boolean-fit (c .before .before .before))
     (last-asked _ _ (commands c))))
 
 pub check-heads-spec : {M : Type 1} → statement M
