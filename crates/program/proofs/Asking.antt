@@ -61,6 +61,14 @@ unfolding isRefused
 not-refused Fit r i f = refl
 not-refused (Refused x) r i f = absurd (false≢true (sym f ∙ i))
 
+-- the same in two steps: a question that was answered yes, and one more that is asked after it
+pub answered : {a v : Validity} {r : Bool} → v ≡ a → r ≡ isRefused v → r ≡ false → a ≡ Fit
+answered {v = v} {r = r} e i f = sym e ∙ not-refused v r i f
+
+pub passed : {a b w : Validity} → a ≡ Fit → w ≡ b → w ≡ thenAsk a b
+unfolding thenAsk
+passed e h = rw e h
+
 -- an answer that is no refusal is fit
 fit-only : (v : Validity) → isRefused v ≡ false → v ≡ Fit
 fit-only v i = not-refused v (isRefused v) refl i

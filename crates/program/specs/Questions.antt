@@ -62,8 +62,8 @@ named s (To sort) x = true
 unfoldable pub sameTable : Table → Table → Bool
 sameTable t u = eqb (tableTag t) (tableTag u)
 
--- "A reference inside one table goes to a lower entry; one to an earlier table goes to an entry that exists": from entry n of table t to table u,
--- the references below this number
+-- "A reference inside one table goes to a lower entry; one to an earlier table goes to an entry that exists":
+-- from entry n of table t to table u, the references below this number
 unfoldable pub limit : List ℕ → Table → ℕ → Table → ℕ
 limit s t n u = cond (sameTable t u) n (entryCount s u)
 
@@ -86,8 +86,8 @@ points s t n (To sort) x = ltb x (limit s t n (tableOf sort)) && ofSort s sort x
 unfoldable pub eachOperand : (Role → ℕ → Bool) → Roles → Entry → Bool
 eachOperand f x e = f (x .p) (e .p) && f (x .q) (e .q) && f (x .r) (e .r)
 
--- "Is the kind known? 7. Are unused operands zero, and is a named name there and of the right sort? 8. Do all references point as above? 9." Their
--- place is where the entry starts
+-- "Is the kind known? 7. Are unused operands zero, and is a named name there and of the right sort? 8. Do all references point as above? 9."
+-- Their place is where the entry starts
 unfoldable pub shapeValidity : List ℕ → Table → ℕ → Shape → Validity
 shapeValidity s t n Unknown = ask false 7 (entryOffset s t n)
 shapeValidity s t n (Known x) =

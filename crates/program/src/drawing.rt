@@ -5,7 +5,7 @@ ghost use mathlib.Core.List.{_∷_, []};
 ghost use Prim.Native.Nat.{_<_, _≤_, _+_, _*_, _/_, _%_};
 ghost use lib.ListN.{length, take};
 ghost use Rattle.program.specs.Drawing as spec;
-ghost use Rattle.program.specs.DrawingParts;
+ghost use Rattle.program.specs.DrawingParts as parts;
 ghost use Rattle.program.specs.Graph;
 ghost use Rattle.program.specs.Questions;
 use crate::Drawn;
@@ -51,14 +51,14 @@ fn low(x: u16) -> u8
 
 fn put_byte(buffer: &mut [u8], at: usize, x: u8)
     requires { ⌜ at + 1 ≤ length (now buffer) ⌝ }
-    ensures { λ _. ⌜ now (buffer .exit) ≡ DrawingParts.overAt at (x ∷ []) (now (buffer .entry)) ⌝ }
+    ensures { λ _. ⌜ now (buffer .exit) ≡ parts.overAt at (x ∷ []) (now (buffer .entry)) ⌝ }
 {
     buffer[at] = x;
 }
 
 fn put_word(buffer: &mut [u8], at: usize, x: u16)
     requires { ⌜ at + 2 ≤ length (now buffer) ⌝ }
-    ensures { λ _. ⌜ now (buffer .exit) ≡ DrawingParts.overAt at (Graph.wordBytes x) (now (buffer .entry)) ⌝ }
+    ensures { λ _. ⌜ now (buffer .exit) ≡ parts.overAt at (Graph.wordBytes x) (now (buffer .entry)) ⌝ }
 {
     put_byte(buffer, at, high(x));
     put_byte(buffer, at + 1, low(x));
@@ -67,7 +67,7 @@ fn put_word(buffer: &mut [u8], at: usize, x: u16)
 // An edge's seven bytes, at a place that has room for them.
 fn put_edge(buffer: &mut [u8], at: usize, source: u16, target: u16, kind: u8, entry: u16)
     requires { ⌜ at + 7 ≤ length (now buffer) ⌝ }
-    ensures { λ _. ⌜ now (buffer .exit) ≡ DrawingParts.overAt at (DrawingParts.edgeRow source target kind entry) (now (buffer .entry)) ⌝ }
+    ensures { λ _. ⌜ now (buffer .exit) ≡ parts.overAt at (parts.edgeRow source target kind entry) (now (buffer .entry)) ⌝ }
 {
     put_word(buffer, at, source);
     put_word(buffer, at + 2, target);
@@ -85,8 +85,8 @@ fn draw_edge(
     entry: u16,
     fresh: u16,
 ) -> Pen
-    requires { ⌜ DrawingParts.Room (DrawingParts.edgeStrip source target kind entry fresh) at (length (now buffer)) ⌝ }
-    ensures { λ r. ⌜ DrawingParts.Drew (DrawingParts.edgeStrip source target kind entry fresh) at (now (buffer .entry)) (now (buffer .exit)) r ⌝ }
+    requires { ⌜ parts.Room (parts.edgeStrip source target kind entry fresh) at (length (now buffer)) ⌝ }
+    ensures { λ r. ⌜ parts.Drew (parts.edgeStrip source target kind entry fresh) at (now (buffer .entry)) (now (buffer .exit)) r ⌝ }
 {
     put_edge(buffer, at, source, target, kind, entry);
     Pen { fresh, at: at + 7 }
@@ -94,8 +94,8 @@ fn draw_edge(
 
 // How entry `n` of the commands, which start at `start`, is drawn as a part of entry `bound`: a reference that is not lower is a leaf.
 fn construct_at(s: &[u8], start: usize, bound: u16, n: u16) -> Construct
-    requires { ⌜ DrawingParts.CommandsAt (now s) start ⌝ }
-    ensures { λ r. ⌜ r ≡ DrawingParts.constructOf (now (s .entry)) bound n ⌝ }
+    requires { ⌜ parts.CommandsAt (now s) start ⌝ }
+    ensures { λ r. ⌜ r ≡ parts.constructOf (now (s .entry)) bound n ⌝ }
 {
     if bound <= n {
         return Construct::Leaf;
@@ -124,8 +124,8 @@ fn draw_part(
     at: usize,
     buffer: &mut [u8],
 ) -> Pen
-    requires { ⌜ DrawingParts.Ready (now s) start (DrawingParts.strip (DrawingParts.partAt (now s) bound n) a b fresh) at (length (now buffer)) ⌝ }
-    ensures { λ r. ⌜ DrawingParts.Drew (DrawingParts.strip (DrawingParts.partAt (now (s .entry)) bound n) a b fresh) at (now (buffer .entry)) (now (buffer .exit)) r ⌝ }
+    requires { ⌜ parts.Ready (now s) start (parts.strip (parts.partAt (now s) bound n) a b fresh) at (length (now buffer)) ⌝ }
+    ensures { λ r. ⌜ parts.Drew (parts.strip (parts.partAt (now (s .entry)) bound n) a b fresh) at (now (buffer .entry)) (now (buffer .exit)) r ⌝ }
 {
     let c = construct_at(s, start, bound, n);
     match c {
@@ -161,7 +161,7 @@ fn edges_in(end: usize) -> u16
 // The edges of a well-formed program: there are at most 255.
 fn draw_program(s: &[u8], edges: &mut [u8; 1785]) -> Counts
     requires { ⌜ Questions.validity (now s) ≡ Validity.Fit ⌝ }
-    ensures { λ r. ⌜ DrawingParts.DrewAll (now (s .entry)) (now (edges .entry)) (now (edges .exit)) r ⌝ }
+    ensures { λ r. ⌜ parts.DrewAll (now (s .entry)) (now (edges .entry)) (now (edges .exit)) r ⌝ }
 {
     let l = file::layout(s);
     let commands = l.commands;
@@ -199,7 +199,8 @@ fn refused(x: Refusal) -> Drawn
 // Question 13 of a well-formed program. Its edges are drawn aside first: a buffer that is too short stays as it is.
 fn draw_fit(s: &[u8], buffer: &mut [u8]) -> Drawn
     requires { ⌜ Questions.validity (now s) ≡ Validity.Fit ⌝ }
-    ensures { λ r. ⌜ (r ≡ spec.drawn (now (s .entry)) (now (buffer .entry))) × (now (buffer .exit) ≡ spec.drawnBuffer (now (s .entry)) (now (buffer .entry))) ⌝ }
+    ensures { λ r. ⌜ (r ≡ spec.drawn (now (s .entry)) (now (buffer .entry)))
+        × (now (buffer .exit) ≡ spec.drawnBuffer (now (s .entry)) (now (buffer .entry))) ⌝ }
 {
     let mut edges = [0u8; 1785];
     let counts = draw_program(s, &mut edges);
@@ -221,7 +222,8 @@ fn draw_fit(s: &[u8], buffer: &mut [u8]) -> Drawn
 // The graph of a file of known validity, drawn into a buffer.
 fn draw_valid(s: &[u8], buffer: &mut [u8], v: Validity) -> Drawn
     requires { ⌜ v ≡ Questions.validity (now s) ⌝ }
-    ensures { λ r. ⌜ (r ≡ spec.drawn (now (s .entry)) (now (buffer .entry))) × (now (buffer .exit) ≡ spec.drawnBuffer (now (s .entry)) (now (buffer .entry))) ⌝ }
+    ensures { λ r. ⌜ (r ≡ spec.drawn (now (s .entry)) (now (buffer .entry)))
+        × (now (buffer .exit) ≡ spec.drawnBuffer (now (s .entry)) (now (buffer .entry))) ⌝ }
 {
     match v {
         Validity::Fit => draw_fit(s, buffer),
@@ -232,7 +234,8 @@ fn draw_valid(s: &[u8], buffer: &mut [u8], v: Validity) -> Drawn
 // The same into an array that every graph fits, so that 13 is not asked.
 fn draw_edges_valid(s: &[u8], edges: &mut [u8; 1785], v: Validity) -> Drawn
     requires { ⌜ v ≡ Questions.validity (now s) ⌝ }
-    ensures { λ r. ⌜ (r ≡ spec.drawnBy (now (s .entry)) (Questions.validity (now (s .entry)))) × (now (edges .exit) ≡ spec.drawnBufferBy (now (s .entry)) (now (edges .entry)) (Questions.validity (now (s .entry)))) ⌝ }
+    ensures { λ r. ⌜ (r ≡ spec.drawnBy (now (s .entry)) (Questions.validity (now (s .entry))))
+        × (now (edges .exit) ≡ spec.drawnBufferBy (now (s .entry)) (now (edges .entry)) (Questions.validity (now (s .entry)))) ⌝ }
 {
     match v {
         Validity::Fit => {
@@ -249,7 +252,8 @@ fn draw_edges_valid(s: &[u8], edges: &mut [u8; 1785], v: Validity) -> Drawn
 
 // Draws the graph of a program file: the edges' bytes over the start of the buffer.
 pub fn draw(s: &[u8], buffer: &mut [u8]) -> Drawn
-    ensures { λ r. ⌜ (r ≡ spec.drawn (now (s .entry)) (now (buffer .entry))) × (now (buffer .exit) ≡ spec.drawnBuffer (now (s .entry)) (now (buffer .entry))) ⌝ }
+    ensures { λ r. ⌜ (r ≡ spec.drawn (now (s .entry)) (now (buffer .entry)))
+        × (now (buffer .exit) ≡ spec.drawnBuffer (now (s .entry)) (now (buffer .entry))) ⌝ }
     ensures numbers { λ r. ⌜ spec.drawnNumbers r ≡ spec.drawnNumbers (spec.drawn (now (s .entry)) (now (buffer .entry))) ⌝ }
 {
     let v = validation::validate(s);
@@ -258,7 +262,8 @@ pub fn draw(s: &[u8], buffer: &mut [u8]) -> Drawn
 
 // The same into an array that every graph fits, so that 13 is not asked.
 pub fn draw_edges(s: &[u8], edges: &mut [u8; 1785]) -> Drawn
-    ensures { λ r. ⌜ (r ≡ spec.drawnBy (now (s .entry)) (Questions.validity (now (s .entry)))) × (now (edges .exit) ≡ spec.drawnBufferBy (now (s .entry)) (now (edges .entry)) (Questions.validity (now (s .entry)))) ⌝ }
+    ensures { λ r. ⌜ (r ≡ spec.drawnBy (now (s .entry)) (Questions.validity (now (s .entry))))
+        × (now (edges .exit) ≡ spec.drawnBufferBy (now (s .entry)) (now (edges .entry)) (Questions.validity (now (s .entry)))) ⌝ }
 {
     let v = validation::validate(s);
     draw_edges_valid(s, edges, v)

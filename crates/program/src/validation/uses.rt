@@ -103,7 +103,8 @@ fn count_entry(s: &[u8], table: Table, start: usize, m: u16, uses: &mut [u8])
 // Counts the operands of a table's entries.
 fn count_table(s: &[u8], l: Layout, table: Table, uses: &mut [u8])
     requires { ⌜ (l ≡ File.layoutOf (now s)) × (length (now uses) ≡ 1024) ⌝ }
-    ensures { λ _. ⌜ spec.Counted (now (uses .entry)) (now (uses .exit)) (λ u n. Questions.tableUses (now (s .entry)) u n table (File.entryCount (now (s .entry)) table)) ⌝ }
+    ensures { λ _. ⌜ spec.Counted (now (uses .entry)) (now (uses .exit))
+        (λ u n. Questions.tableUses (now (s .entry)) u n table (File.entryCount (now (s .entry)) table)) ⌝ }
 {
     let span = file::span_of(l, table);
     let start = span.start;

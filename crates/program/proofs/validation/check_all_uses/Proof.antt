@@ -1,10 +1,26 @@
 -- `program::validation::check_all_uses` meets its contract.
 use borrow.Author.Needs.{needs}
+use mathlib.Core.Path.{_≡_}
 use Rattle.program.specs.Asking.{inTurn}
-use Rattle.program.specs.Questions.{usesValidity}
-use Rattle.program.proofs.Asking.{stops, goes-on, last-asked}
+use Rattle.program.specs.Questions.{usedValidity, usesValidity}
+use Rattle.program.specs.declared.Table.the-variants.{Arithmetic, Boolean, Commands}
+use Rattle.program.specs.declared.Validity.the-variants.{Fit}
+use Rattle.program.proofs.Asking.{stops, answered, passed, last-asked}
 use Rattle.program.proofs.validation.check_all_uses.Statement.{statement}
 use Rattle.program.proofs.validation.check_all_uses.Tie as tie
+
+-- the questions that are answered yes
+arithmetic : (c : tie.Else1) → usedValidity (c .before .before .before .before .before .before .args .s .now) Arithmetic ≡ Fit
+arithmetic c =
+    answered (c .before .before .check-uses .ensures) (c .before .refused .ensures) (c .if1 .left)
+
+boolean : (c : tie.Else2) → usedValidity (c .before .before .before .before .before .before .before .before .before .before .args .s .now) Boolean ≡ Fit
+boolean c =
+    answered (c .before .before .check-uses2 .ensures) (c .before .refused2 .ensures) (c .if2 .left)
+
+commands : (c : tie.Else3) → usedValidity (c .before .before .before .before .before .before .before .before .before .before .before .before .before .before .args .s .now) Commands ≡ Fit
+commands c =
+    answered (c .before .before .check-uses3 .ensures) (c .before .refused3 .ensures) (c .if3 .left)
 
 count-all-requires : tie.Need-count-all-requires
 count-all-requires c κs = search needs
@@ -36,8 +52,7 @@ refused-requires-2 c κs = search needs
 returns-2 : tie.Need-returns-2
 unfolding usesValidity inTurn
 returns-2 c =
-    goes-on _ _ _ _ _ (c .before .before .before .before .before .before .check-uses .ensures) (c .before .before .before .before .before .refused .ensures) (c .before .before .before .before .if1 .left)
-    (stops _ _ _ _ (c .before .before .check-uses2 .ensures) (c .before .refused2 .ensures) (c .if2 .taken))
+    passed (arithmetic (c .before .before .before .before)) (stops _ _ _ _ (c .before .before .check-uses2 .ensures) (c .before .refused2 .ensures) (c .if2 .taken))
 
 slice-aggregate-check-uses-3 : tie.Need-slice-aggregate-check-uses-3
 slice-aggregate-check-uses-3 c = search needs
@@ -52,8 +67,8 @@ refused-requires-3 c κs = search needs
 returns-3 : tie.Need-returns-3
 unfolding usesValidity inTurn
 returns-3 c =
-    goes-on _ _ _ _ _ (c .before .before .before .before .before .before .before .before .before .before .check-uses .ensures) (c .before .before .before .before .before .before .before .before .before .refused .ensures) (c .before .before .before .before .before .before .before .before .if1 .left)
-    (goes-on _ _ _ _ _ (c .before .before .before .before .before .before .check-uses2 .ensures) (c .before .before .before .before .before .refused2 .ensures) (c .before .before .before .before .if2 .left)
+    passed (arithmetic (c .before .before .before .before .before .before .before .before))
+    (passed (boolean (c .before .before .before .before))
     (stops _ _ _ _ (c .before .before .check-uses3 .ensures) (c .before .refused3 .ensures) (c .if3 .taken)))
 
 check-last-requires : tie.Need-check-last-requires
@@ -62,9 +77,9 @@ check-last-requires c κs = search needs
 returns-4 : tie.Need-returns-4
 unfolding usesValidity inTurn
 returns-4 c =
-    goes-on _ _ _ _ _ (c .before .before .before .before .before .before .before .before .before .before .before .check-uses .ensures) (c .before .before .before .before .before .before .before .before .before .before .refused .ensures) (c .before .before .before .before .before .before .before .before .before .if1 .left)
-    (goes-on _ _ _ _ _ (c .before .before .before .before .before .before .before .check-uses2 .ensures) (c .before .before .before .before .before .before .refused2 .ensures) (c .before .before .before .before .before .if2 .left)
-    (goes-on _ _ _ _ _ (c .before .before .before .check-uses3 .ensures) (c .before .before .refused3 .ensures) (c .before .if3 .left)
+    passed (arithmetic (c .before .before .before .before .before .before .before .before .before))
+    (passed (boolean (c .before .before .before .before .before))
+    (passed (commands (c .before))
     (last-asked _ _ (c .check-last .ensures))))
 
 pub check-all-uses-spec : {M : Type 1} → statement M

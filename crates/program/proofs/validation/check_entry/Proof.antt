@@ -12,6 +12,12 @@ use Rattle.program.proofs.Reading.{laid-start, entry-in, entry-read}
 use Rattle.program.proofs.validation.check_entry.Statement.{statement}
 use Rattle.program.proofs.validation.check_entry.Tie as tie
 
+-- the shape is that of the entry
+told : (c : tie.After-shape) → shape (c .before .before .before .before .args .table) (entry (c .before .before .before .before .args .s .now) (c .before .before .before .before .args .table) (c .before .before .before .before .args .n) .kind) ≡ c .shape .result
+told c =
+    let e = entry-read _ (c .before .before .before .before .args .table) _ _ _ (c .before .entry-at .ensures) (c .before .before .before .before .pre .1) (c .before .before .long .ensures) in
+    ap (λ (x : Entry). shape (c .before .before .before .before .args .table) (x .kind)) (sym e) ∙ sym (c .shape .ensures)
+
 long-requires : tie.Need-long-requires
 long-requires c κs = search needs
 
@@ -45,18 +51,12 @@ check-operands-requires c κs =
 returns : tie.Need-returns
 unfolding entryValidity shapeValidity
 returns c =
-    let a = c .before .before .before .before .before .before .before .args in
-    let e = entry-read _ (a .table) _ _ _ (c .before .before .before .before .entry-at .ensures) (c .before .before .before .before .before .before .before .pre .1) (c .before .before .before .before .before .long .ensures) in
-    let told : shape (a .table) (entry (a .s .now) (a .table) (a .n) .kind) ≡ c .before .before .before .shape .result = ap (λ (x : Entry). shape (a .table) (x .kind)) (sym e) ∙ sym (c .before .before .before .shape .ensures) in
-    rw (told, c .before .enum-told .given .1) (c .ask .ensures ∙ ap (ask false 7) (entry-in _ (a .table) _ _ _ (c .before .before .before .before .before .before .before .pre .1) (c .before .before .before .before .before .long .ensures)))
+    rw (told (c .before .before .before), c .before .enum-told .given .1) (c .ask .ensures ∙ ap (ask false 7) (entry-in _ (c .before .before .before .before .before .before .before .args .table) _ _ _ (c .before .before .before .before .before .before .before .pre .1) (c .before .before .before .before .before .long .ensures)))
 
 returns-2 : tie.Need-returns-2
 unfolding entryValidity
 returns-2 c =
-    let a = c .before .before .before .before .before .before .before .before .args in
-    let e = entry-read _ (a .table) _ _ _ (c .before .before .before .before .before .entry-at .ensures) (c .before .before .before .before .before .before .before .before .pre .1) (c .before .before .before .before .before .before .long .ensures) in
-    let told : shape (a .table) (entry (a .s .now) (a .table) (a .n) .kind) ≡ c .before .before .before .before .shape .result = ap (λ (x : Entry). shape (a .table) (x .kind)) (sym e) ∙ sym (c .before .before .before .before .shape .ensures) in
-    rw (told, c .before .before .roles .given .1) (c .check-operands .ensures)
+    rw (told (c .before .before .before .before), c .before .before .roles .given .1) (c .check-operands .ensures)
 
 pub check-entry-spec : {M : Type 1} → statement M
 check-entry-spec = tie.close (tie.spec long-requires mul-at add-at entry-at-requires shape-requires enum-told ask-requires enum-known-roles check-operands-requires returns returns-2)

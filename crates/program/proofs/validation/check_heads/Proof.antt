@@ -1,11 +1,45 @@
 -- `program::validation::check_heads` meets its contract.
 use borrow.Author.Needs.{needs}
-use Rattle.program.specs.File.{programFields}
-use Rattle.program.specs.Questions.{headsValidity}
-use Rattle.program.proofs.Asking.{stops, goes-on, last-asked}
+use mathlib.Core.Path.{_≡_}
+use lib.ListN.{length}
+use Rattle.program.specs.File.{namesField, tableField, programFields, fieldHead}
+use Rattle.program.specs.Questions.{headValidity, headsValidity}
+use Rattle.program.specs.declared.Table.the-variants.{Arithmetic, Boolean, Commands}
+use Rattle.program.specs.declared.Validity.the-variants.{Fit}
+use Rattle.program.proofs.Asking.{stops, answered, passed, last-asked}
 use Rattle.program.proofs.Reading.{names-wide, table-wide, asked-head}
 use Rattle.program.proofs.validation.check_heads.Statement.{statement}
 use Rattle.program.proofs.validation.check_heads.Tie as tie
+
+-- what is asked of each field in turn
+names : (c : tie.After-check-head) → c .check-head .result ≡ headValidity (length (c .before .before .before .before .args .s .now)) (fieldHead (c .before .before .before .before .args .s .now) 0) namesField
+names c =
+    asked-head _ (c .check-head .ensures) (c .before .before .field-head .ensures) (c .before .names-field .ensures)
+
+arithmetic : (c : tie.After-check-head2) → c .check-head2 .result ≡ headValidity (length (c .before .before .before .before .before .before .before .before .before .args .s .now)) (fieldHead (c .before .before .before .before .before .before .before .before .before .args .s .now) 1) (tableField Arithmetic)
+arithmetic c =
+    asked-head _ (c .check-head2 .ensures) (c .before .before .field-head2 .ensures) (c .before .table-field .ensures)
+
+boolean : (c : tie.After-check-head3) → c .check-head3 .result ≡ headValidity (length (c .before .before .before .before .before .before .before .before .before .before .before .before .before .before .args .s .now)) (fieldHead (c .before .before .before .before .before .before .before .before .before .before .before .before .before .before .args .s .now) 2) (tableField Boolean)
+boolean c =
+    asked-head _ (c .check-head3 .ensures) (c .before .before .field-head3 .ensures) (c .before .table-field2 .ensures)
+
+commands : (c : tie.After-check-head4) → c .check-head4 .result ≡ headValidity (length (c .before .before .before .before .before .before .before .before .before .before .before .before .before .before .before .before .before .before .before .args .s .now)) (fieldHead (c .before .before .before .before .before .before .before .before .before .before .before .before .before .before .before .before .before .before .before .args .s .now) 3) (tableField Commands)
+commands c =
+    asked-head _ (c .check-head4 .ensures) (c .before .before .field-head4 .ensures) (c .before .table-field3 .ensures)
+
+-- and what is answered yes
+names-fit : (c : tie.Else1) → headValidity (length (c .before .before .before .before .before .before .args .s .now)) (fieldHead (c .before .before .before .before .before .before .args .s .now) 0) namesField ≡ Fit
+names-fit c =
+    answered (names (c .before .before)) (c .before .refused .ensures) (c .if1 .left)
+
+arithmetic-fit : (c : tie.Else2) → headValidity (length (c .before .before .before .before .before .before .before .before .before .before .before .args .s .now)) (fieldHead (c .before .before .before .before .before .before .before .before .before .before .before .args .s .now) 1) (tableField Arithmetic) ≡ Fit
+arithmetic-fit c =
+    answered (arithmetic (c .before .before)) (c .before .refused2 .ensures) (c .if2 .left)
+
+boolean-fit : (c : tie.Else3) → headValidity (length (c .before .before .before .before .before .before .before .before .before .before .before .before .before .before .before .before .args .s .now)) (fieldHead (c .before .before .before .before .before .before .before .before .before .before .before .before .before .before .before .before .args .s .now) 2) (tableField Boolean) ≡ Fit
+boolean-fit c =
+    answered (boolean (c .before .before)) (c .before .refused3 .ensures) (c .if3 .left)
 
 field-head-requires : tie.Need-field-head-requires
 field-head-requires c κs = search needs
@@ -21,8 +55,7 @@ refused-requires c κs = search needs
 
 returns : tie.Need-returns
 unfolding headsValidity programFields
-returns c =
-    stops _ _ _ _ (asked-head _ (c .before .before .check-head .ensures) (c .before .before .before .before .field-head .ensures) (c .before .before .before .names-field .ensures)) (c .before .refused .ensures) (c .if1 .taken)
+returns c = stops _ _ _ _ (names (c .before .before)) (c .before .refused .ensures) (c .if1 .taken)
 
 field-head-requires-2 : tie.Need-field-head-requires-2
 field-head-requires-2 c κs = search needs
@@ -39,8 +72,7 @@ refused-requires-2 c κs = search needs
 returns-2 : tie.Need-returns-2
 unfolding headsValidity programFields
 returns-2 c =
-    goes-on _ _ _ _ _ (asked-head _ (c .before .before .before .before .before .before .before .check-head .ensures) (c .before .before .before .before .before .before .before .before .before .field-head .ensures) (c .before .before .before .before .before .before .before .before .names-field .ensures)) (c .before .before .before .before .before .before .refused .ensures) (c .before .before .before .before .before .if1 .left)
-    (stops _ _ _ _ (asked-head _ (c .before .before .check-head2 .ensures) (c .before .before .before .before .field-head2 .ensures) (c .before .before .before .table-field .ensures)) (c .before .refused2 .ensures) (c .if2 .taken))
+    passed (names-fit (c .before .before .before .before .before)) (stops _ _ _ _ (arithmetic (c .before .before)) (c .before .refused2 .ensures) (c .if2 .taken))
 
 field-head-requires-3 : tie.Need-field-head-requires-3
 field-head-requires-3 c κs = search needs
@@ -57,9 +89,9 @@ refused-requires-3 c κs = search needs
 returns-3 : tie.Need-returns-3
 unfolding headsValidity programFields
 returns-3 c =
-    goes-on _ _ _ _ _ (asked-head _ (c .before .before .before .before .before .before .before .before .before .before .before .before .check-head .ensures) (c .before .before .before .before .before .before .before .before .before .before .before .before .before .before .field-head .ensures) (c .before .before .before .before .before .before .before .before .before .before .before .before .before .names-field .ensures)) (c .before .before .before .before .before .before .before .before .before .before .before .refused .ensures) (c .before .before .before .before .before .before .before .before .before .before .if1 .left)
-    (goes-on _ _ _ _ _ (asked-head _ (c .before .before .before .before .before .before .before .check-head2 .ensures) (c .before .before .before .before .before .before .before .before .before .field-head2 .ensures) (c .before .before .before .before .before .before .before .before .table-field .ensures)) (c .before .before .before .before .before .before .refused2 .ensures) (c .before .before .before .before .before .if2 .left)
-    (stops _ _ _ _ (asked-head _ (c .before .before .check-head3 .ensures) (c .before .before .before .before .field-head3 .ensures) (c .before .before .before .table-field2 .ensures)) (c .before .refused3 .ensures) (c .if3 .taken)))
+    passed (names-fit (c .before .before .before .before .before .before .before .before .before .before))
+    (passed (arithmetic-fit (c .before .before .before .before .before))
+    (stops _ _ _ _ (boolean (c .before .before)) (c .before .refused3 .ensures) (c .if3 .taken)))
 
 field-head-requires-4 : tie.Need-field-head-requires-4
 field-head-requires-4 c κs = search needs
@@ -73,10 +105,10 @@ check-head-requires-4 c κs = table-wide _ (c .table-field3 .ensures)
 returns-4 : tie.Need-returns-4
 unfolding headsValidity programFields
 returns-4 c =
-    goes-on _ _ _ _ _ (asked-head _ (c .before .before .before .before .before .before .before .before .before .before .before .before .before .before .before .check-head .ensures) (c .before .before .before .before .before .before .before .before .before .before .before .before .before .before .before .before .before .field-head .ensures) (c .before .before .before .before .before .before .before .before .before .before .before .before .before .before .before .before .names-field .ensures)) (c .before .before .before .before .before .before .before .before .before .before .before .before .before .before .refused .ensures) (c .before .before .before .before .before .before .before .before .before .before .before .before .before .if1 .left)
-    (goes-on _ _ _ _ _ (asked-head _ (c .before .before .before .before .before .before .before .before .before .before .check-head2 .ensures) (c .before .before .before .before .before .before .before .before .before .before .before .before .field-head2 .ensures) (c .before .before .before .before .before .before .before .before .before .before .before .table-field .ensures)) (c .before .before .before .before .before .before .before .before .before .refused2 .ensures) (c .before .before .before .before .before .before .before .before .if2 .left)
-    (goes-on _ _ _ _ _ (asked-head _ (c .before .before .before .before .before .check-head3 .ensures) (c .before .before .before .before .before .before .before .field-head3 .ensures) (c .before .before .before .before .before .before .table-field2 .ensures)) (c .before .before .before .before .refused3 .ensures) (c .before .before .before .if3 .left)
-    (last-asked _ _ (asked-head _ (c .check-head4 .ensures) (c .before .before .field-head4 .ensures) (c .before .table-field3 .ensures)))))
+    passed (names-fit (c .before .before .before .before .before .before .before .before .before .before .before .before .before))
+    (passed (arithmetic-fit (c .before .before .before .before .before .before .before .before))
+    (passed (boolean-fit (c .before .before .before))
+    (last-asked _ _ (commands c))))
 
 pub check-heads-spec : {M : Type 1} → statement M
 check-heads-spec = tie.close (tie.spec field-head-requires names-field-requires check-head-requires refused-requires returns field-head-requires-2 table-field-requires check-head-requires-2 refused-requires-2 returns-2 field-head-requires-3 table-field-requires-2 check-head-requires-3 refused-requires-3 returns-3 field-head-requires-4 table-field-requires-3 check-head-requires-4 returns-4)

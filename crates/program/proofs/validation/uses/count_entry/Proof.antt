@@ -10,6 +10,16 @@ use Rattle.program.proofs.Reading.{entry-read}
 use Rattle.program.proofs.validation.uses.count_entry.Statement.{statement}
 use Rattle.program.proofs.validation.uses.count_entry.Tie as tie
 
+-- what is read is the entry
+read : (c : tie.After-entry-at) → c .entry-at .result ≡ entry (c .before .before .before .before .args .s .now) (c .before .before .before .before .args .table) (c .before .before .before .before .args .m)
+read c =
+    entry-read _ (c .before .before .before .before .args .table) _ _ _ (c .entry-at .ensures) (c .before .before .before .before .pre .0) (c .before .long .ensures)
+
+-- and the shape is that of the entry
+told : (c : tie.After-shape) → shape (c .before .before .before .before .before .args .table) (entry (c .before .before .before .before .before .args .s .now) (c .before .before .before .before .before .args .table) (c .before .before .before .before .before .args .m) .kind) ≡ c .shape .result
+told c =
+    ap (λ (x : Entry). shape (c .before .before .before .before .before .args .table) (x .kind)) (sym (read (c .before))) ∙ sym (c .shape .ensures)
+
 long-requires : tie.Need-long-requires
 long-requires c κs = search needs
 
@@ -36,11 +46,7 @@ count-operands-requires c κs = search needs
 
 returns : tie.Need-returns
 unfolding entryUses shapeUses
-returns c =
-    let a = c .before .before .before .before .before .before .before .args in
-    let e = entry-read _ (a .table) _ _ _ (c .before .before .before .entry-at .ensures) (c .before .before .before .before .before .before .before .pre .0) (c .before .before .before .before .long .ensures) in
-    let told : shape (a .table) (entry (a .s .now) (a .table) (a .m) .kind) ≡ c .before .before .shape .result = ap (λ (x : Entry). shape (a .table) (x .kind)) (sym e) ∙ sym (c .before .before .shape .ensures) in
-    simp (told, c .enum-told .given .1) (counted-none _ _ (λ u n h. refl))
+returns c = simp (told (c .before .before), c .enum-told .given .1) (counted-none _ _ (λ u n h. refl))
 
 same-length : tie.Need-same-length
 same-length c = search needs
@@ -48,10 +54,7 @@ same-length c = search needs
 returns-2 : tie.Need-returns-2
 unfolding entryUses
 returns-2 c =
-    let a = c .before .before .before .before .before .before .before .before .before .before .before .before .args in
-    let e = entry-read _ (a .table) _ _ _ (c .before .before .before .before .before .before .before .before .entry-at .ensures) (c .before .before .before .before .before .before .before .before .before .before .before .before .pre .0) (c .before .before .before .before .before .before .before .before .before .long .ensures) in
-    let told : shape (a .table) (entry (a .s .now) (a .table) (a .m) .kind) ≡ c .before .before .before .before .before .before .before .shape .result = ap (λ (x : Entry). shape (a .table) (x .kind)) (sym e) ∙ sym (c .before .before .before .before .before .before .before .shape .ensures) in
-    simp (told, c .before .before .before .before .before .roles .given .1, ← e) (c .before .before .count-operands .ensures)
+    simp (told (c .before .before .before .before .before .before .before), c .before .before .before .before .before .roles .given .1, ← read (c .before .before .before .before .before .before .before .before)) (c .before .before .count-operands .ensures)
 
 pub count-entry-spec : {M : Type 1} → statement M
 count-entry-spec = tie.close (tie.spec long-requires mul-entry-at add-entry-at entry-at-requires shape-requires enum-told enum-known-roles count-operands-requires returns same-length returns-2)
