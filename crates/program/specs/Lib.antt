@@ -6,6 +6,7 @@ pub mod Questions
 pub mod Counting
 pub mod Syntax
 pub mod Tree
+pub mod Decoding
 pub mod Graph
 pub mod Sorted
 pub mod Drawing
