@@ -1,4 +1,5 @@
 pub mod Expression
+pub mod Coding
 pub mod Action
 pub mod Step
 pub mod Budget

@@ -1,0 +1,39 @@
+-- How the evaluators hand on what an expression or a condition gives: as one number. Document 01 has no word for it; what such a number stands for
+-- is said here, once.
+use Prim.Native.Nat.{ℕ, _-_}
+use mathlib.Core.Bool.{Bool, cond, _||_}
+use mathlib.Core.List.{[], _∷_}
+use lib.Dec.{eqb, ltb}
+use lib.IntN.{ℤ, pos, negsuc}
+use lib.ListN.{getD}
+use lib.Signed.{leZ}
+use Rattle.signs.specs.Number.{inRange}
+use Rattle.signs.specs.declared.Reason.{Reason}
+use Rattle.signs.specs.declared.Reason.the-variants.{ConditionFalse, DivisorZero, ExponentNegative, IndexNegative, IndexTooLarge, OutOfRange}
+use Rattle.semantics.specs.Expression.{fault}
+use Rattle.semantics.specs.declared.Evaluation.{Evaluation}
+use Rattle.semantics.specs.declared.Evaluation.the-variants.{Number, Undefined}
+use Rattle.semantics.specs.declared.Truth.{Truth}
+use Rattle.semantics.specs.declared.Truth.the-variants.{Known, Undefined as Unknown}
+
+-- the reason with a number of document 01
+unfoldable pub reasonNumbered : ℕ → Reason
+reasonNumbered k =
+    getD
+    (ConditionFalse ∷ DivisorZero ∷ ExponentNegative ∷ IndexNegative ∷ IndexTooLarge ∷ OutOfRange ∷ [])
+    (k - 31)
+    OutOfRange
+
+-- what a number stands for: below 2^32 itself, else the reason whose number is over 2^32
+unfoldable pub evaluated : ℤ → Evaluation
+evaluated (pos n) = cond (ltb n 4294967296) (Number (pos n)) (Undefined (fault (reasonNumbered (n - 4294967296))))
+evaluated (negsuc n) = Number (negsuc n)
+
+-- and as a truth value: 1 for true, any other number below 2^32 for false
+unfoldable pub decided : ℤ → Truth
+decided (pos n) = cond (ltb n 4294967296) (Known (eqb n 1)) (Unknown (fault (reasonNumbered (n - 4294967296))))
+decided (negsuc n) = Known (eqb 0 1)
+
+-- a number that is handed on: a value, or a reason
+unfoldable pub isCode : ℤ → Bool
+isCode z = inRange z || leZ (pos 4294967296) z
