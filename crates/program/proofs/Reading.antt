@@ -104,9 +104,9 @@ table-tag Commands = refl
 pub table-wide : {f : Field} (t : Table) → f ≡ tableField t → 0 < f .width
 table-wide t e = omega (arith, ap (λ (x : Field). x .width) e, table-width t)
 
--- questions 1 to 4 of a head that was found and a field that was made
-pub asked-head : (end : ℕ) {h g : Head} {f k : Field} {v : Validity} → v ≡ headValidity end h f → h ≡ g → f ≡ k → v ≡ headValidity end g k
-asked-head end e p q = e ∙ (λ i. headValidity end (p i) (q i))
+-- questions 1 to 4 by a field that was made
+pub asked-field : (end : ℕ) (h : Head) {f k : Field} {v : Validity} → v ≡ headValidity end h f → f ≡ k → v ≡ headValidity end h k
+asked-field end h e q = e ∙ ap (headValidity end h) q
 
 -- a name whose size is a number of two bytes has fewer cells than there are such numbers
 pub cells-few : (n : ℕ) → n < 65536 → cellsOf n < 65536

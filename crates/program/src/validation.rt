@@ -85,6 +85,14 @@ fn check_head(end: usize, head: Head, field: Field) -> Validity
     }
 }
 
+// Questions 1 to 4 of the field with `k` fields before it.
+fn check_field(s: &[u8], k: u8, field: Field) -> Validity
+    requires { ⌜ 0 < field .width ⌝ }
+    ensures { λ r. ⌜ r ≡ spec.headValidity (length (now (s .entry))) (File.fieldHead (now (s .entry)) k) field ⌝ }
+{
+    check_head(s.len(), reader::field_head(s, k), field)
+}
+
 // Whether operand `x` is zero where it is unused, and names a name of its sort where it is a name.
 fn named(s: &[u8], names: u16, role: Role, x: u16) -> bool
     requires { ⌜ names ≡ File.nameCount (now s) ⌝ }
@@ -103,32 +111,19 @@ fn named(s: &[u8], names: u16, role: Role, x: u16) -> bool
 fn check_heads(s: &[u8]) -> Validity
     ensures { λ r. ⌜ r ≡ spec.headsValidity (now (s .entry)) 0 File.programFields ⌝ }
 {
-    let end = s.len();
-    let names = check_head(end, reader::field_head(s, 0), file::names_field());
+    let names = check_field(s, 0, file::names_field());
     if refused(names) {
         return names;
     }
-    let arithmetic = check_head(
-        end,
-        reader::field_head(s, 1),
-        file::table_field(Table::Arithmetic),
-    );
+    let arithmetic = check_field(s, 1, file::table_field(Table::Arithmetic));
     if refused(arithmetic) {
         return arithmetic;
     }
-    let boolean = check_head(
-        end,
-        reader::field_head(s, 2),
-        file::table_field(Table::Boolean),
-    );
+    let boolean = check_field(s, 2, file::table_field(Table::Boolean));
     if refused(boolean) {
         return boolean;
     }
-    check_head(
-        end,
-        reader::field_head(s, 3),
-        file::table_field(Table::Commands),
-    )
+    check_field(s, 3, file::table_field(Table::Commands))
 }
 
 // Whether a size is 0 to 64 and a cell total at most 512.
@@ -428,7 +423,7 @@ pub fn validate_input(s: &[u8]) -> Validity
         return heads;
     }
     let field = file::initial_field(file::name_count(s));
-    let initial = check_head(s.len(), reader::field_head(s, 4), field);
+    let initial = check_field(s, 4, field);
     if refused(initial) {
         return initial;
     }
