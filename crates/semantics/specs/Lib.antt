@@ -1,5 +1,6 @@
 pub mod Expression
 pub mod Coding
+pub mod Cells
 pub mod Action
 pub mod Step
 pub mod Budget
