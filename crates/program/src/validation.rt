@@ -29,7 +29,7 @@ use crate::kinds;
 use crate::reader;
 
 // One question: its answer, and its number and place when that is no.
-fn ask(yes: bool, number: u8, offset: usize) -> Validity
+pub fn ask(yes: bool, number: u8, offset: usize) -> Validity
     ensures { λ r. ⌜ r ≡ Asking.ask yes number offset ⌝ }
 {
     if yes {
@@ -39,7 +39,7 @@ fn ask(yes: bool, number: u8, offset: usize) -> Validity
     }
 }
 
-fn refused(v: Validity) -> bool
+pub fn refused(v: Validity) -> bool
     ensures { λ r. ⌜ r ≡ Asking.isRefused v ⌝ }
 {
     match v {

@@ -1,5 +1,5 @@
 -- A step moves along an edge or changes nothing, and a memory keeps its length.
-use mathlib.Core.Path.{_≡_, refl, _∙_}
+use mathlib.Core.Path.{_≡_, refl, sym, _∙_}
 use mathlib.Core.Logic.{_≢_}
 use mathlib.Core.List.{List, [], _∷_}
 use Prim.Native.Nat.{ℕ, _<_}
@@ -143,3 +143,8 @@ module _ (s : List ℕ) where
   pub program-step-length : (c : Configuration) (e : ℕ) → length (programStep s c e .memory) ≡ length (c .memory)
   unfolding programStep
   program-step-length c e = next-length (sizes s) (graph s) c e (programOutcome s c e)
+
+-- question 12 as it is asked of numbers
+pub asked-cells : (ns : List ℕ) (m : List ℤ) (cells count : ℕ) → length m ≡ cells → count ≡ cellCount ns → ask (eqb cells count) 12 0 ≡ memoryValidity ns m
+unfolding memoryValidity
+asked-cells ns m cells count e p = rw (sym e, p)

@@ -5,4 +5,5 @@ pub mod Action
 pub mod Step
 pub mod Budget
 pub mod Replay
+pub mod Stepping
 pub mod Examples

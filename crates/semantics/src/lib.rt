@@ -1,6 +1,7 @@
 // Steps: the values of expressions, the effects of actions, a run and its step, and the budgeted run.
 
 mod memory;
+mod stepping;
 
 use program::Refusal;
 use signs::Reason;

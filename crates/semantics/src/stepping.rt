@@ -1,0 +1,57 @@
+// The questions of a step.
+
+ghost use mathlib.Core.Path.{_≡_};
+ghost use mathlib.Core.List.{List};
+ghost use lib.IntN.{ℤ};
+ghost use lib.ListN.{length};
+ghost use Rattle.program.specs.File;
+ghost use Rattle.program.specs.Graph;
+ghost use Rattle.semantics.specs.Step as spec;
+ghost use Rattle.semantics.specs.Stepping;
+use program::Validity;
+use program::drawing;
+use program::file;
+use program::validation;
+
+// Whether an edge of a drawn graph exists and leaves a node.
+pub(crate) fn leaves(
+    program: &[u8],
+    edges: &[u8],
+    nodes: u16,
+    count: u16,
+    edge: u16,
+    node: u16,
+) -> bool
+    requires { ⌜ Stepping.DrawnInto (now program) (now edges) nodes count ⌝ }
+    ensures { λ r. ⌜ r ≡ spec.leaves (Graph.graph (now (program .entry))) edge node ⌝ }
+{
+    if count <= edge {
+        return false;
+    }
+    let e = drawing::edge_at(edges, edge);
+    e.source == node
+}
+
+// Questions 12, 14 and 15 of a well-formed program whose graph is drawn, of a node, an edge and a memory of so many cells.
+pub(crate) fn check_step(
+    program: &[u8],
+    edges: &[u8],
+    nodes: u16,
+    count: u16,
+    node: u16,
+    edge: u16,
+    cells: usize,
+) -> Validity
+    requires { ⌜ Stepping.DrawnInto (now program) (now edges) nodes count ⌝ }
+    ensures { λ r. ⌜ ((m : List ℤ) → length m ≡ cells → r ≡ spec.stepValidity (File.sizes (now (program .entry))) (Graph.graph (now (program .entry))) node m edge) ⌝ }
+{
+    let enough = validation::ask(cells == file::cell_count(program), 12, 0);
+    if validation::refused(enough) {
+        return enough;
+    }
+    let inside = validation::ask(node < nodes, 14, 0);
+    if validation::refused(inside) {
+        return inside;
+    }
+    validation::ask(leaves(program, edges, nodes, count, edge, node), 15, 0)
+}
