@@ -1,12 +1,19 @@
 -- What the functions of the step and the budgeted run ask of each other. No public contract cites these.
 use mathlib.Core.Path.{_≡_}
 use mathlib.Core.List.{List}
-use Prim.Native.Nat.{ℕ}
+use Prim.Native.Nat.{ℕ, _+_, min}
+use lib.IntN.{ℤ}
 use lib.ListN.{length}
 use Rattle.program.specs.Drawing.{over}
 use Rattle.program.specs.Graph.{graph, graphBytes}
 use Rattle.program.specs.Questions.{validity}
 use Rattle.program.specs.declared.Validity.the-variants.{Fit}
+use Rattle.semantics.specs.Action.{after}
+use Rattle.semantics.specs.Step.{outcomeBy}
+use Rattle.semantics.specs.declared.Effect.{Effect}
+use Rattle.semantics.specs.declared.Effect.the-variants.{Undefined as Fails, Unchanged, Stored}
+use Rattle.semantics.specs.declared.Run.{Run}
+use Rattle.semantics.specs.declared.Stepped.{Stepped}
 
 -- a well-formed program whose graph was drawn: its edges' bytes over what was in the buffer, and its counts
 pub record DrawnInto (s bytes : List ℕ) (nodes count : ℕ) : Type 0 where
@@ -15,3 +22,15 @@ pub record DrawnInto (s bytes : List ℕ) (nodes count : ℕ) : Type 0 where
   pub drawn : bytes ≡ over (graphBytes s) buffer
   pub node-count : nodes ≡ graph s .fresh
   pub edge-count : count ≡ length (graph s .edges)
+
+-- the run after an edge to a node whose effect is this: "An action is undefined, the memory and the run stay"
+unfoldable pub runAfter : Run → ℕ → Effect → Run
+runAfter run target (Fails f) = run
+runAfter run target Unchanged = record { node = target; count = min (run .count + 1) 65535 }
+runAfter run target (Stored c z) = record { node = target; count = min (run .count + 1) 65535 }
+
+-- the reply and the memory of a step whose edge has this effect
+pub record Settled (run : Run) (target : ℕ) (x : Effect) (before after-it : List ℤ) (r : Stepped) : Type 0 where
+  pub handed-back : r .run ≡ runAfter run target x
+  pub answer : r .outcome ≡ outcomeBy x
+  pub memory : after-it ≡ after before x

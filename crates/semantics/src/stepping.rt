@@ -3,11 +3,16 @@
 ghost use mathlib.Core.Path.{_≡_};
 ghost use mathlib.Core.List.{List};
 ghost use lib.IntN.{ℤ};
+ghost use Prim.Native.Nat.{ℕ, _<_, _+_, min};
 ghost use lib.ListN.{length};
 ghost use Rattle.program.specs.File;
 ghost use Rattle.program.specs.Graph;
 ghost use Rattle.semantics.specs.Step as spec;
 ghost use Rattle.semantics.specs.Stepping;
+use crate::Effect;
+use crate::Outcome;
+use crate::Run;
+use crate::Stepped;
 use program::Validity;
 use program::drawing;
 use program::file;
@@ -54,4 +59,46 @@ pub(crate) fn check_step(
         return inside;
     }
     validation::ask(leaves(program, edges, nodes, count, edge, node), 15, 0)
+}
+
+// The run that has taken an edge to a node: past 65,535 edges the count stays.
+pub(crate) fn moved(run: Run, target: u16) -> Run
+    ensures { λ r. ⌜ r ≡ record { node = target; count = min (run .count + 1) 65535 } ⌝ }
+{
+    let count = run.count;
+    if count < 65535 {
+        Run {
+            node: target,
+            count: count + 1,
+        }
+    } else {
+        Run {
+            node: target,
+            count: 65535,
+        }
+    }
+}
+
+// What a step replies whose edge to `target` has this effect, and the memory after it.
+pub(crate) fn settled(run: Run, target: u16, effect: Effect, memory: &mut [i32]) -> Stepped
+    requires { ⌜ ((k : ℕ) (z : ℤ) → effect ≡ Effect.Stored k z → k < length (now memory)) ⌝ }
+    ensures { λ r. ⌜ Stepping.Settled run target effect (now (memory .entry)) (now (memory .exit)) r ⌝ }
+{
+    match effect {
+        Effect::Undefined(fault) => Stepped {
+            run,
+            outcome: Outcome::Undefined(fault),
+        },
+        Effect::Unchanged => Stepped {
+            run: moved(run, target),
+            outcome: Outcome::Taken,
+        },
+        Effect::Stored { cell, value } => {
+            memory[cell] = value;
+            Stepped {
+                run: moved(run, target),
+                outcome: Outcome::Taken,
+            }
+        }
+    }
 }
