@@ -1,5 +1,7 @@
 // Steps: the values of expressions, the effects of actions, a run and its step, and the budgeted run.
 
+mod coding;
+
 use program::Refusal;
 use signs::Reason;
 
