@@ -3,6 +3,7 @@ pub mod Steps
 pub mod Runs
 pub mod Named
 pub mod Coded
+pub mod Valued
 pub mod Laws
 pub mod Open
 pub mod Examples
