@@ -7,15 +7,20 @@ use lib.Dec.{T}
 use lib.IntN.{pos}
 use lib.ListN.{length, getD}
 use Rattle.program.specs.Asking.{ask, thenAsk, isRefused, inTurn, askEach}
+use Rattle.program.specs.Decoding.{decodedEntry}
 use Rattle.program.specs.Drawing.{over, edgeRead, edgeNumbers}
 use Rattle.program.specs.File.{nameCount, sizeAt, sizes, entryCount, entry, cellsOf, cellCount, firstCell}
 use Rattle.program.specs.FirstSuch.{firstOf, firstSuch}
 use Rattle.program.specs.Graph.{Edge, edges, edgeCount, nodeCount, graphBytes}
 use Rattle.program.specs.Kind.{isGuarded}
+use Rattle.program.specs.Node.{arithForm, arithTree, booleanForm, booleanTree, commandForm, commandTree}
 use Rattle.program.specs.Questions.{validity, inputValidity, programPart, initialPart}
 use Rattle.program.specs.Sorted.{arithNamed, booleanNamed, commandNamed, arithPoints, booleanPoints, isGuardedTree, commandPoints}
 use Rattle.program.specs.Syntax.{number, arithEntry, truth, booleanEntry, skip, commandEntry}
 use Rattle.program.specs.Tree.{Entries, arithBelow, booleanBelow, commandBelow, arithNode, arithTrees, arithAt, booleanNode, booleanTrees, booleanAt, commandNode, commandTrees, commandAt, script}
+use Rattle.program.specs.declared.ArithNode.{ArithNode}
+use Rattle.program.specs.declared.BooleanNode.{BooleanNode}
+use Rattle.program.specs.declared.CommandNode.{CommandNode}
 use Rattle.program.specs.declared.First.the-variants.{At, Nothing}
 use Rattle.program.specs.declared.Table.the-variants.{Arithmetic, Boolean, Commands}
 use Rattle.program.specs.declared.Validity.{Validity}
@@ -25,12 +30,15 @@ use Rattle.program.proofs.Actions.{Faithful}
 use Rattle.program.proofs.Asking
 use Rattle.program.proofs.Cells
 use Rattle.program.proofs.Counts
+use Rattle.program.proofs.Decoded
 use Rattle.program.proofs.EdgeReading
 use Rattle.program.proofs.Expressions
 use Rattle.program.proofs.FirstSuch
 use Rattle.program.proofs.FirstSuch.{Foremost, FirstPassing}
 use Rattle.program.proofs.Fit as Fitness
 use Rattle.program.proofs.Fit.{Counts as Allowed}
+use Rattle.program.proofs.Forms
+use Rattle.program.proofs.Forms.{ArithParts, BooleanParts, CommandParts}
 use Rattle.program.proofs.Inputs
 use Rattle.program.proofs.Made.{made}
 use Rattle.program.proofs.Nodes
@@ -120,6 +128,38 @@ module _ (es : Entries) where
 
   pub command-entry : (n : ℕ) → commandEntry (commandAt es n) ≡ n
   command-entry = Trees.command-entry es
+
+  -- the tree of entry n as a part of entry bound, by what the entry is; one that has parts in its own table is lower
+  pub arith-form : (bound n : ℕ) → arithBelow (arithTrees es bound) n ≡ arithTree es n (arithForm es bound n)
+  arith-form = Forms.arith-form es
+
+  pub arith-lower : (bound n : ℕ) {x : ArithNode} → arithForm es bound n ≡ x → ArithParts x → n < bound
+  arith-lower = Forms.arith-lower es
+
+  pub boolean-form : (bound n : ℕ) → booleanBelow (booleanTrees es bound) n ≡ booleanTree es n (booleanForm es bound n)
+  boolean-form = Forms.boolean-form es
+
+  pub boolean-lower : (bound n : ℕ) {x : BooleanNode} → booleanForm es bound n ≡ x → BooleanParts x → n < bound
+  boolean-lower = Forms.boolean-lower es
+
+  pub command-form : (bound n : ℕ) → commandBelow (commandTrees es bound) n ≡ commandTree es n (commandForm es bound n)
+  command-form = Forms.command-form es
+
+  pub command-lower : (bound n : ℕ) {x : CommandNode} → commandForm es bound n ≡ x → CommandParts x → n < bound
+  command-lower = Forms.command-lower es
+
+-- ---- Decoded entries
+
+-- past a table's capacity every entry is a leaf, so the tree at an entry is the one below the capacity
+module _ (d : List ℕ) where
+  pub arith-any : (n : ℕ) → arithAt (decodedEntry d) n ≡ arithBelow (arithTrees (decodedEntry d) 512) n
+  arith-any = Decoded.arith-any d
+
+  pub boolean-any : (n : ℕ) → booleanAt (decodedEntry d) n ≡ booleanBelow (booleanTrees (decodedEntry d) 256) n
+  boolean-any = Decoded.boolean-any d
+
+  pub command-any : (n : ℕ) → commandAt (decodedEntry d) n ≡ commandBelow (commandTrees (decodedEntry d) 256) n
+  command-any = Decoded.command-any d
 
 -- ---- First such
 

@@ -13,6 +13,8 @@ pub mod Counting
 pub mod Fit
 pub mod Operands
 pub mod Trees
+pub mod Forms
+pub mod Decoded
 pub mod Expressions
 pub mod Made
 pub mod Sorting

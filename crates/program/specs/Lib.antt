@@ -7,6 +7,7 @@ pub mod Counting
 pub mod Syntax
 pub mod Tree
 pub mod Decoding
+pub mod Node
 pub mod Graph
 pub mod Sorted
 pub mod Drawing

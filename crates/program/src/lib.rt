@@ -1,10 +1,14 @@
 // Script and graph: a program file read and validated, its syntax trees, and its program graph.
 
+pub mod decoding;
 pub mod drawing;
 pub mod file;
 pub mod kinds;
 pub mod reader;
 pub mod validation;
+
+use signs::Comparison;
+use signs::Operator;
 
 // The three tables of entries of a file.
 pub enum Table {
@@ -88,6 +92,35 @@ pub struct Drawn {
     pub validity: Validity,
     pub nodes: u16,
     pub edges: u16,
+}
+
+// What an arithmetic entry is: a number, a variable, an element of an array at an index entry, or an operator on two entries.
+pub enum ArithNode {
+    Number(i32),
+    Variable(u16),
+    Element(u16, u16),
+    Operator(Operator, u16, u16),
+}
+
+// What a boolean entry is: true, a comparison of two arithmetic entries, b ∧ b, b && b, or ¬ b.
+pub enum BooleanNode {
+    True,
+    Comparison(Comparison, u16, u16),
+    Both(u16, u16),
+    AndThen(u16, u16),
+    Not(u16),
+}
+
+// What a command entry is.
+pub enum CommandNode {
+    Skip,
+    Assign(u16, u16),
+    Store(u16, u16, u16),
+    Sequence(u16, u16),
+    Conditional(u16),
+    Iteration(u16),
+    Guarded(u16, u16),
+    Choice(u16, u16),
 }
 
 // The four numbers of an edge, as its bytes give them: source and target, the action's kind and its entry.

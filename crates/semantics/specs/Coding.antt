@@ -1,16 +1,20 @@
 -- How the evaluators hand on what an expression or a condition gives: as one number. Document 01 has no word for it; what such a number stands for
 -- is said here, once.
+use mathlib.Core.Path.{_≡_}
 use Prim.Native.Nat.{ℕ, _-_}
 use mathlib.Core.Bool.{Bool, cond, _||_}
-use mathlib.Core.List.{[], _∷_}
-use lib.Dec.{eqb, ltb}
+use mathlib.Core.List.{List, [], _∷_}
+use lib.Dec.{T, eqb, ltb}
 use lib.IntN.{ℤ, pos, negsuc}
 use lib.ListN.{getD}
 use lib.Signed.{leZ}
 use Rattle.signs.specs.Number.{inRange}
 use Rattle.signs.specs.declared.Reason.{Reason}
 use Rattle.signs.specs.declared.Reason.the-variants.{ConditionFalse, DivisorZero, ExponentNegative, IndexNegative, IndexTooLarge, OutOfRange}
-use Rattle.semantics.specs.Expression.{fault}
+use Rattle.program.specs.Decoding.{NamesIn}
+use Rattle.program.specs.Sorted.{arithNamed, booleanNamed}
+use Rattle.program.specs.Syntax.{Arith, Boolean}
+use Rattle.semantics.specs.Expression.{fault, value, truthIn}
 use Rattle.semantics.specs.declared.Evaluation.{Evaluation}
 use Rattle.semantics.specs.declared.Evaluation.the-variants.{Number, Undefined}
 use Rattle.semantics.specs.declared.Truth.{Truth}
@@ -37,3 +41,12 @@ decided (negsuc n) = Known (eqb 0 1)
 -- a number that is handed on: a value, or a reason
 unfoldable pub isCode : ℤ → Bool
 isCode z = inRange z || leZ (pos 4294967296) z
+
+-- a number that stands for the value of a tree in a memory, whatever names are decoded to these sizes and first cells
+pub record ValueIn (szs cells : List ℕ) (m : List ℤ) (a : Arith) (r : ℤ) : Type 0 where
+  pub code : T (isCode r)
+  pub gives : (ns : List ℕ) → NamesIn ns szs cells → T (arithNamed ns a) → evaluated r ≡ value ns m a
+
+-- and one that stands for the truth of a tree
+pub record TruthIn (szs cells : List ℕ) (m : List ℤ) (b : Boolean) (r : ℤ) : Type 0 where
+  pub gives : (ns : List ℕ) → NamesIn ns szs cells → T (booleanNamed ns b) → decided r ≡ truthIn ns m b

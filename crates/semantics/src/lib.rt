@@ -1,5 +1,7 @@
 // Steps: the values of expressions, the effects of actions, a run and its step, and the budgeted run.
 
+mod arithmetic;
+mod coding;
 mod memory;
 mod stepping;
 

@@ -1,0 +1,148 @@
+-- The tree at an entry, by what the entry is; and an entry that has parts in its own table is lower than the one that it is a part of.
+use mathlib.Core.Path.{_≡_, refl, _∙_}
+use Prim.Native.Nat.{ℕ, _≤_, _<_}
+use native.Mathlib.Decide.{decLe}
+use native.Mathlib.Omega.{arith}
+use lib.IntN.{pos}
+use borrow.Author.Tests.{lt-ltb, le-ltb}
+use Rattle.program.specs.Node.{arithKind, arithForm, arithTree, booleanKind, booleanForm, booleanTree, commandKind, commandForm, commandTree}
+use Rattle.program.specs.Tree.{Entries, arithBelow, arithNode, arithTrees, arithAt, booleanBelow, booleanNode, booleanTrees, booleanAt, commandBelow, commandNode, commandTrees, commandAt}
+use Rattle.program.specs.declared.ArithNode.{ArithNode}
+use Rattle.program.specs.declared.ArithNode.the-variants.{Number, Variable, Element, Operator}
+use Rattle.program.specs.declared.BooleanNode.{BooleanNode}
+use Rattle.program.specs.declared.BooleanNode.the-variants.{True, Comparison, Both, AndThen, Not}
+use Rattle.program.specs.declared.CommandNode.{CommandNode}
+use Rattle.program.specs.declared.CommandNode.the-variants.{Skip, Assign, Store, Sequence, Conditional, Iteration, Guarded, Choice}
+use Rattle.program.proofs.Induction.{by-kind, from-seven, from-eight}
+use Rattle.program.proofs.Trees.{arith-below, arith-past, boolean-below, boolean-past, command-below, command-past}
+
+-- it has parts in its own table
+abbrev pub ArithParts : ArithNode → Type 0
+ArithParts (Number z) = ⊥
+ArithParts (Variable x) = ⊥
+ArithParts (Element x i) = Unit
+ArithParts (Operator o p q) = Unit
+
+abbrev pub BooleanParts : BooleanNode → Type 0
+BooleanParts True = ⊥
+BooleanParts (Comparison o p q) = ⊥
+BooleanParts (Both p q) = Unit
+BooleanParts (AndThen p q) = Unit
+BooleanParts (Not p) = Unit
+
+abbrev pub CommandParts : CommandNode → Type 0
+CommandParts Skip = ⊥
+CommandParts (Assign x a) = ⊥
+CommandParts (Store x i a) = ⊥
+CommandParts (Sequence p q) = Unit
+CommandParts (Conditional p) = Unit
+CommandParts (Iteration p) = Unit
+CommandParts (Guarded g p) = Unit
+CommandParts (Choice p q) = Unit
+
+-- a kind that is none of the first seven, or eight
+abbrev NoneOfSeven : ℕ → Type 0
+NoneOfSeven k =
+    ((((((Unit {0} × (k ≡ 0 → ⊥)) × (k ≡ 1 → ⊥)) × (k ≡ 2 → ⊥)) × (k ≡ 3 → ⊥)) × (k ≡ 4 → ⊥)) × (k ≡ 5 → ⊥)) × (k ≡ 6 → ⊥)
+
+from-seven-on : (k : ℕ) → NoneOfSeven k → 7 ≤ k
+from-seven-on =
+    by-kind (λ (k : ℕ). NoneOfSeven k → 7 ≤ k)
+    (λ h. absurd (h .0 .0 .0 .0 .0 .0 .1 refl)) (λ h. absurd (h .0 .0 .0 .0 .0 .1 refl)) (λ h. absurd (h .0 .0 .0 .0 .1 refl)) (λ h. absurd (h .0 .0 .0 .1 refl))
+    (λ h. absurd (h .0 .0 .1 refl)) (λ h. absurd (h .0 .1 refl)) (λ h. absurd (h .1 refl)) (λ h. omega arith)
+    (λ k h. omega arith)
+
+from-eight-on : (k : ℕ) → NoneOfSeven k × (k ≡ 7 → ⊥) → 8 ≤ k
+from-eight-on k h = more (from-seven-on k (h .0)) (h .1)
+  where
+    more : 7 ≤ k → (k ≡ 7 → ⊥) → 8 ≤ k
+    more l f = omega arith
+
+module _ (k p q r : ℕ) where
+  pub arith-other : NoneOfSeven k × (k ≡ 7 → ⊥) → Number (pos 0) ≡ arithKind (record { kind = k; p = p; q = q; r = r })
+  unfolding arithKind
+  arith-other h = from-eight (λ (k : ℕ). Number (pos 0) ≡ arithKind (record { kind = k; p = p; q = q; r = r })) (λ k. refl) k (from-eight-on k h)
+
+  pub boolean-other : NoneOfSeven k → True ≡ booleanKind (record { kind = k; p = p; q = q; r = r })
+  unfolding booleanKind
+  boolean-other h = from-seven (λ (k : ℕ). True ≡ booleanKind (record { kind = k; p = p; q = q; r = r })) (λ k. refl) k (from-seven-on k h)
+
+  pub command-other : NoneOfSeven k × (k ≡ 7 → ⊥) → Skip ≡ commandKind (record { kind = k; p = p; q = q; r = r })
+  unfolding commandKind
+  command-other h = from-eight (λ (k : ℕ). Skip ≡ commandKind (record { kind = k; p = p; q = q; r = r })) (λ k. refl) k (from-eight-on k h)
+
+module _ (es : Entries) where
+  arith-kind : (n k p q r : ℕ) → arithNode (arithTrees es n) n (record { kind = k; p = p; q = q; r = r }) ≡ arithTree es n (arithKind (record { kind = k; p = p; q = q; r = r }))
+  unfolding arithNode arithKind arithTree
+  arith-kind n =
+      by-kind _
+      (λ p q r. refl) (λ p q r. refl) (λ p q r. refl) (λ p q r. refl)
+      (λ p q r. refl) (λ p q r. refl) (λ p q r. refl) (λ p q r. refl)
+      (λ k p q r. refl)
+
+  boolean-kind : (n k p q r : ℕ) → booleanNode es (booleanTrees es n) n (record { kind = k; p = p; q = q; r = r }) ≡ booleanTree es n (booleanKind (record { kind = k; p = p; q = q; r = r }))
+  unfolding booleanNode booleanKind booleanTree
+  boolean-kind n =
+      by-kind _
+      (λ p q r. refl) (λ p q r. refl) (λ p q r. refl) (λ p q r. refl)
+      (λ p q r. refl) (λ p q r. refl) (λ p q r. refl) (λ p q r. refl)
+      (λ k p q r. refl)
+
+  command-kind : (n k p q r : ℕ) → commandNode es (commandTrees es n) n (record { kind = k; p = p; q = q; r = r }) ≡ commandTree es n (commandKind (record { kind = k; p = p; q = q; r = r }))
+  unfolding commandNode commandKind commandTree
+  command-kind n =
+      by-kind _
+      (λ p q r. refl) (λ p q r. refl) (λ p q r. refl) (λ p q r. refl)
+      (λ p q r. refl) (λ p q r. refl) (λ p q r. refl) (λ p q r. refl)
+      (λ k p q r. refl)
+
+  module _ (bound n : ℕ) where
+    -- the tree of entry n as a part of entry bound
+    pub arith-form : arithBelow (arithTrees es bound) n ≡ arithTree es n (arithForm es bound n)
+    unfolding arithForm arithTree arithAt
+    arith-form =
+        elim (decLe bound n) [
+          | yes h ↦ rw (le-ltb n bound h) (arith-past es bound n h)
+          | no h ↦ rw (lt-ltb n bound (omega arith)) (arith-below es bound n (omega arith) ∙ arith-kind n _ _ _ _)
+        ]
+
+    pub boolean-form : booleanBelow (booleanTrees es bound) n ≡ booleanTree es n (booleanForm es bound n)
+    unfolding booleanForm booleanTree booleanAt
+    boolean-form =
+        elim (decLe bound n) [
+          | yes h ↦ rw (le-ltb n bound h) (boolean-past es bound n h)
+          | no h ↦ rw (lt-ltb n bound (omega arith)) (boolean-below es bound n (omega arith) ∙ boolean-kind n _ _ _ _)
+        ]
+
+    pub command-form : commandBelow (commandTrees es bound) n ≡ commandTree es n (commandForm es bound n)
+    unfolding commandForm commandTree commandAt
+    command-form =
+        elim (decLe bound n) [
+          | yes h ↦ rw (le-ltb n bound h) (command-past es bound n h)
+          | no h ↦ rw (lt-ltb n bound (omega arith)) (command-below es bound n (omega arith) ∙ command-kind n _ _ _ _)
+        ]
+
+    -- one that has parts is lower
+    pub arith-lower : {x : ArithNode} → arithForm es bound n ≡ x → ArithParts x → n < bound
+    unfolding arithForm
+    arith-lower e parts =
+        elim (decLe bound n) [
+          | yes h ↦ absurd (rw (← e, le-ltb n bound h) at parts)
+          | no h ↦ omega arith
+        ]
+
+    pub boolean-lower : {x : BooleanNode} → booleanForm es bound n ≡ x → BooleanParts x → n < bound
+    unfolding booleanForm
+    boolean-lower e parts =
+        elim (decLe bound n) [
+          | yes h ↦ absurd (rw (← e, le-ltb n bound h) at parts)
+          | no h ↦ omega arith
+        ]
+
+    pub command-lower : {x : CommandNode} → commandForm es bound n ≡ x → CommandParts x → n < bound
+    unfolding commandForm
+    command-lower e parts =
+        elim (decLe bound n) [
+          | yes h ↦ absurd (rw (← e, le-ltb n bound h) at parts)
+          | no h ↦ omega arith
+        ]

@@ -1,0 +1,48 @@
+-- `program::decoding::command_node` meets its contract.
+use borrow.Author.Needs.{needs}
+use borrow.Author.Tests.{lt-ltb, le-ltb}
+use mathlib.Core.Path.{refl, _∙_, ap}
+use Rattle.program.specs.Counting.{capacity, slot}
+use Rattle.program.specs.Decoding.{decodedEntry}
+use Rattle.program.specs.File.{tableField}
+use Rattle.program.specs.Node.{commandKind, commandForm}
+use Rattle.program.specs.declared.Table.the-variants.{Commands}
+use Rattle.program.proofs.Decoded.{slot-read}
+use Rattle.program.proofs.decoding.command_node.Statement.{statement}
+use Rattle.program.proofs.decoding.command_node.Tie as tie
+
+returns : tie.Need-returns
+unfolding commandForm
+returns c = rw (le-ltb _ _ (c .if1 .taken))
+
+returns-2 : tie.Need-returns-2
+unfolding commandForm commandKind decodedEntry capacity tableField
+returns-2 c = rw (lt-ltb _ _ (c .before .if1 .left), le-ltb _ _ (c .if2 .taken))
+
+add-slot : tie.Need-add-slot
+add-slot c = search needs
+
+number-at-requires : tie.Need-number-at-requires
+number-at-requires c κs = search needs
+
+number-at-requires-2 : tie.Need-number-at-requires-2
+number-at-requires-2 c κs = search needs
+
+number-at-requires-3 : tie.Need-number-at-requires-3
+number-at-requires-3 c κs = search needs
+
+number-at-requires-4 : tie.Need-number-at-requires-4
+number-at-requires-4 c κs = search needs
+
+command-kind-requires : tie.Need-command-kind-requires
+command-kind-requires c κs = search needs
+
+returns-3 : tie.Need-returns-3
+unfolding commandForm commandKind capacity tableField slot
+returns-3 c =
+    rw (lt-ltb _ _ (c .before .before .before .before .before .before .if1 .left))
+    (c .command-kind .ensures
+    ∙ ap commandKind (slot-read _ Commands _ _ (c .before .before .before .before .before .if2 .left) refl (c .before .before .before .before .number-at .ensures) (c .before .before .before .number-at2 .ensures) (c .before .before .number-at3 .ensures) (c .before .number-at4 .ensures)))
+
+pub command-node-spec : {M : Type 1} → statement M
+command-node-spec = tie.close (tie.spec returns returns-2 add-slot number-at-requires number-at-requires-2 number-at-requires-3 number-at-requires-4 command-kind-requires returns-3)

@@ -1,0 +1,197 @@
+-- What a number stands for that the evaluators hand on, by whether it is a fault; and what becomes of such numbers.
+use mathlib.Core.Path.{_≡_, refl, sym, _∙_, subst}
+use mathlib.Core.Bool.{Bool, true, false, not, _&&_, true≢false}
+use mathlib.Core.List.{List}
+use mathlib.Core.Logic.{⊎-elim}
+use Prim.Native.Nat.{ℕ, _+_, _-_, _≤_, _<_}
+use native.Mathlib.Omega.{arith}
+use borrow.Author.Tests.{lt-ltb, le-ltb, ltb-true, leb-true, leb-false, le-leb, lt-leb, eq-eqb, ne-eqb}
+use lib.Dec.{T, leb, leb→le}
+use lib.IntN.{ℤ, pos, negsuc, natAbs}
+use lib.ListN.{length, getD}
+use lib.Signed.{mag, nonNeg, leZ, ltZ}
+use mir.Facts.{or-yes, and-yes, sfits-widen}
+use mir.Syntax.{w32, w64}
+use mir.Val.{Fits, SFits, toZ, ofZ}
+use mir.ValLaws.{toZ-ofZ}
+use Rattle.signs.proofs.Signed.{wide, wide-is}
+use Rattle.signs.specs.Number.{inRange, equal, apply, compares}
+use Rattle.signs.specs.declared.Comparison.{Comparison}
+use Rattle.signs.specs.declared.Operator.{Operator}
+use Rattle.signs.specs.declared.Reason.the-variants.{IndexNegative, IndexTooLarge}
+use Rattle.program.specs.Decoding.{NamesIn}
+use Rattle.semantics.specs.Coding.{reasonNumbered, evaluated, decided, isCode}
+use Rattle.semantics.specs.Expression.{fault, cellValue, placeOf, valueAt, operated, combine, compareValues, conjoin, negate}
+use Rattle.semantics.specs.declared.Evaluation.the-variants.{Number, Undefined}
+use Rattle.semantics.specs.declared.Fault.{Fault}
+use Rattle.semantics.specs.declared.Truth.the-variants.{Known, Undefined as Unknown}
+
+-- the test for a fault, and the fault
+abbrev pub isFault : ℤ → Bool
+isFault z = leZ (pos 4294967296) z
+
+abbrev pub faultIn : ℤ → Fault
+faultIn z = fault (reasonNumbered (natAbs z - 4294967296))
+
+-- the test of a number that the machine passes
+pub tested : (z : ℤ) {r b : Bool} → SFits w64 z → r ≡ isFault (toZ w64 (ofZ w64 z)) → r ≡ b → isFault z ≡ b
+tested z f e t = sym (rw (toZ-ofZ w64 z f) at e) ∙ t
+
+-- and a number that a function returned
+pub handed : (z : ℤ) → mag z < 9223372036854775808 → toZ w64 (ofZ w64 z) ≡ z
+handed z h = toZ-ofZ w64 z record { sfits = h }
+
+-- ---- what a number stands for
+
+pub fault-evaluated : (z : ℤ) → isFault z ≡ true → evaluated z ≡ Undefined (faultIn z)
+unfolding evaluated
+fault-evaluated (pos n) h = rw (le-ltb n 4294967296 (leb-true 4294967296 n h))
+fault-evaluated (negsuc n) h = absurd (true≢false (sym h))
+
+pub fault-decided : (z : ℤ) → isFault z ≡ true → decided z ≡ Unknown (faultIn z)
+unfolding decided
+fault-decided (pos n) h = rw (le-ltb n 4294967296 (leb-true 4294967296 n h))
+fault-decided (negsuc n) h = absurd (true≢false (sym h))
+
+pub number-evaluated : (z : ℤ) → isFault z ≡ false → evaluated z ≡ Number z
+unfolding evaluated
+number-evaluated (pos n) h = rw (lt-ltb n 4294967296 (leb-false 4294967296 n h))
+number-evaluated (negsuc n) h = refl
+
+pub truth-decided : (z : ℤ) → isFault z ≡ false → decided z ≡ Known (equal z (pos 1))
+unfolding decided equal
+truth-decided (pos n) h = rw (lt-ltb n 4294967296 (leb-false 4294967296 n h))
+truth-decided (negsuc n) h = refl
+
+-- ---- numbers of 32 bits
+
+pub small-number : (z : ℤ) → SFits w32 z → isFault z ≡ false
+small-number (pos n) f = lt-leb 4294967296 n (omega (arith, f .sfits))
+small-number (negsuc n) f = refl
+
+pub small-evaluated : (z : ℤ) → SFits w32 z → evaluated z ≡ Number z
+small-evaluated z f = number-evaluated z (small-number z f)
+
+pub small-code : (z : ℤ) → SFits w32 z → T (isCode z)
+unfolding isCode inRange
+small-code (pos n) f = rw (le-leb n 2147483647 (omega (arith, f .sfits))) tt
+small-code (negsuc n) f = rw (le-leb n 2147483647 (omega (arith, f .sfits))) tt
+
+pub code-small : (z : ℤ) → T (isCode z) → isFault z ≡ false → SFits w32 z
+unfolding isCode inRange
+code-small (pos n) t h =
+    ⊎-elim
+    (λ y. record { sfits = omega (arith, leb→le n 2147483647 y) })
+    (λ y. absurd (subst T h y))
+    (or-yes (leb n 2147483647) (leb 4294967296 n) t)
+code-small (negsuc n) t h =
+    ⊎-elim
+    (λ y. record { sfits = omega (arith, leb→le n 2147483647 (and-yes (leb n 2147483647) true y .0)) })
+    (λ y. absurd y)
+    (or-yes (leb n 2147483647 && true) false t)
+
+-- such a number widened, as the machine hands it on
+pub small-handed : (x : ℤ) → SFits w32 x → T (isCode (wide x)) × (evaluated (wide x) ≡ Number x)
+small-handed x f = rw (wide-is x f) (small-code x f, small-evaluated x f)
+
+-- cast to 32 bits and back
+pub narrow : (z : ℤ) → SFits w32 z → toZ w32 (ofZ w32 (toZ w64 (ofZ w64 z))) ≡ z
+narrow z f = rw (toZ-ofZ w64 z (sfits-widen tt f)) (toZ-ofZ w32 z f)
+
+-- ---- truth values: the machine compares the bits with 1
+
+pub one-bits : (z : ℤ) → SFits w64 z → ofZ w64 z ≡ 1 → equal z (pos 1) ≡ true
+unfolding equal
+one-bits (pos n) f e = eq-eqb n 1 e
+one-bits (negsuc n) f e = absurd (omega (arith, f .sfits))
+
+pub other-bits : (z : ℤ) → (ofZ w64 z ≡ 1 → ⊥) → equal z (pos 1) ≡ false
+unfolding equal
+other-bits (pos n) h = ne-eqb n 1 h
+other-bits (negsuc n) h = refl
+
+pub negate-fault : (a : ℤ) → isFault a ≡ true → decided a ≡ negate (decided a)
+unfolding negate
+negate-fault a h = rw (fault-decided a h)
+
+pub negate-truth : (a : ℤ) {t : Bool} → isFault a ≡ false → equal a (pos 1) ≡ t → negate (decided a) ≡ Known (not t)
+unfolding negate
+negate-truth a h e = rw (truth-decided a h, e)
+
+-- ---- two of them
+
+module _ (a b : ℤ) where
+  -- the left is a fault
+  module _ (h : isFault a ≡ true) where
+    pub combine-left : (o : Operator) → evaluated a ≡ combine o (evaluated a) (evaluated b)
+    unfolding combine
+    combine-left o = rw (fault-evaluated a h)
+
+    pub compare-left : (c : Comparison) → decided a ≡ compareValues c (evaluated a) (evaluated b)
+    unfolding compareValues
+    compare-left c = rw (fault-decided a h, fault-evaluated a h)
+
+    pub conjoin-left : decided a ≡ conjoin (decided a) (decided b)
+    unfolding conjoin
+    conjoin-left = rw (fault-decided a h)
+
+  module _ (h : isFault a ≡ false) where
+    -- the right alone is
+    module _ (k : isFault b ≡ true) where
+      pub combine-right : (o : Operator) → evaluated b ≡ combine o (evaluated a) (evaluated b)
+      unfolding combine
+      combine-right o = rw (number-evaluated a h, fault-evaluated b k)
+
+      pub compare-right : (c : Comparison) → decided b ≡ compareValues c (evaluated a) (evaluated b)
+      unfolding compareValues
+      compare-right c = rw (fault-decided b k, number-evaluated a h, fault-evaluated b k)
+
+      pub conjoin-right : decided b ≡ conjoin (decided a) (decided b)
+      unfolding conjoin
+      conjoin-right = rw (truth-decided a h, fault-decided b k)
+
+    -- neither is
+    module _ (k : isFault b ≡ false) where
+      pub combine-both : (o : Operator) → combine o (evaluated a) (evaluated b) ≡ operated (apply o a b)
+      unfolding combine
+      combine-both o = rw (number-evaluated a h, number-evaluated b k)
+
+      pub compare-both : (c : Comparison) → compareValues c (evaluated a) (evaluated b) ≡ Known (compares c a b)
+      unfolding compareValues
+      compare-both c = rw (number-evaluated a h, number-evaluated b k)
+
+      pub conjoin-true : equal a (pos 1) ≡ true → decided b ≡ conjoin (decided a) (decided b)
+      unfolding conjoin
+      conjoin-true e = rw (truth-decided a h, truth-decided b k, e)
+
+      pub conjoin-false : equal a (pos 1) ≡ false → conjoin (decided a) (decided b) ≡ Known false
+      unfolding conjoin
+      conjoin-false e = rw (truth-decided a h, truth-decided b k, e)
+
+-- ---- an index
+
+-- one that is not below zero is cast to a natural number
+pub natural : (z : ℤ) → SFits w64 z → ltZ z (pos 0) ≡ false → T (nonNeg z) × Fits w64 (natAbs z)
+natural (pos n) f e = (tt, record { fits = omega (arith, f .sfits) })
+natural (negsuc n) f e = absurd (true≢false e)
+
+module _ (ns : List ℕ) (m : List ℤ) (x : ℕ) where
+  pub index-fault : (v : ℤ) → isFault v ≡ true → evaluated v ≡ valueAt m (placeOf ns x (evaluated v))
+  unfolding placeOf valueAt
+  index-fault v h = rw (fault-evaluated v h)
+
+  pub index-negative : (v : ℤ) → isFault v ≡ false → ltZ v (pos 0) ≡ true → valueAt m (placeOf ns x (evaluated v)) ≡ Undefined (fault IndexNegative)
+  unfolding placeOf valueAt
+  index-negative (pos n) h e = absurd (omega (arith, ltb-true n 0 e))
+  index-negative (negsuc n) h e = rw (number-evaluated (negsuc n) h)
+
+  module _ (szs cells : List ℕ) (names : NamesIn ns szs cells) (there : x < length ns) where
+    pub index-large : (v : ℤ) → isFault v ≡ false → ltZ v (pos 0) ≡ false → getD szs x 0 ≤ natAbs v → valueAt m (placeOf ns x (evaluated v)) ≡ Undefined (fault IndexTooLarge)
+    unfolding placeOf valueAt
+    index-large (pos n) h e k = rw (number-evaluated (pos n) h, le-ltb n (getD ns x 0) (rw (names .size x there) at k))
+    index-large (negsuc n) h e k = absurd (true≢false e)
+
+    pub index-inside : (v : ℤ) → isFault v ≡ false → ltZ v (pos 0) ≡ false → natAbs v < getD szs x 0 → valueAt m (placeOf ns x (evaluated v)) ≡ Number (cellValue m (getD cells x 0 + natAbs v))
+    unfolding placeOf valueAt
+    index-inside (pos n) h e k = rw (number-evaluated (pos n) h, lt-ltb n (getD ns x 0) (rw (names .size x there) at k), names .cell x there)
+    index-inside (negsuc n) h e k = absurd (true≢false e)
