@@ -14,6 +14,7 @@ pub mod Fit
 pub mod Operands
 pub mod Trees
 pub mod Forms
+pub mod Filling
 pub mod Decoded
 pub mod Expressions
 pub mod Made
