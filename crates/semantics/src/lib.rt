@@ -2,6 +2,7 @@
 
 mod arithmetic;
 mod coding;
+mod condition;
 
 use program::Refusal;
 use signs::Reason;
