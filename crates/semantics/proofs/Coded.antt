@@ -21,9 +21,10 @@ use Rattle.signs.specs.declared.Operator.{Operator}
 use Rattle.signs.specs.declared.Reason.the-variants.{IndexNegative, IndexTooLarge}
 use Rattle.program.specs.Decoding.{NamesIn}
 use Rattle.semantics.specs.Coding.{reasonNumbered, evaluated, decided, isCode}
-use Rattle.semantics.specs.Expression.{fault, cellValue, placeOf, valueAt, operated, combine, compareValues, conjoin, negate}
+use Rattle.semantics.specs.Expression.{fault, cellValue, placeOf, valueAt, operated, combine, compareValues, conjoin, andThen, negate}
 use Rattle.semantics.specs.declared.Evaluation.the-variants.{Number, Undefined}
 use Rattle.semantics.specs.declared.Fault.{Fault}
+use Rattle.semantics.specs.declared.Truth.{Truth}
 use Rattle.semantics.specs.declared.Truth.the-variants.{Known, Undefined as Unknown}
 
 -- the test for a fault, and the fault
@@ -109,6 +110,20 @@ pub other-bits : (z : ℤ) → (ofZ w64 z ≡ 1 → ⊥) → equal z (pos 1) ≡
 unfolding equal
 other-bits (pos n) h = ne-eqb n 1 h
 other-bits (negsuc n) h = refl
+
+pub one-decided : (z : ℤ) → SFits w64 z → ofZ w64 z ≡ 1 → decided z ≡ Known true
+unfolding decided
+one-decided (pos n) f e = rw e
+one-decided (negsuc n) f e = absurd (omega (arith, f .sfits))
+
+-- && asks the right side where the left is 1, and else gives the left
+pub other-decided : (z : ℤ) (b : Truth) → (ofZ w64 z ≡ 1 → ⊥) → decided z ≡ andThen (decided z) b
+unfolding andThen
+other-decided z b h = by (isFault z) refl
+  where
+    by : (t : Bool) → isFault z ≡ t → decided z ≡ andThen (decided z) b
+    by true e = rw (fault-decided z e)
+    by false e = rw (truth-decided z e, other-bits z h)
 
 pub negate-fault : (a : ℤ) → isFault a ≡ true → decided a ≡ negate (decided a)
 unfolding negate

@@ -2,6 +2,7 @@
 
 mod arithmetic;
 mod coding;
+mod condition;
 mod memory;
 mod stepping;
 
