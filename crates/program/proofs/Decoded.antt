@@ -31,7 +31,7 @@ module _ (d : List ℕ) where
       (ap (λ (k : ℕ). record { kind = getD d k 0; p = getD d (4 * i + 1) 0; q = getD d (4 * i + 2) 0; r = getD d (4 * i + 3) 0 }) (omega arith))
 
   -- numbers of a slot without an entry
-  pub slot-none : (k i : ℕ) → slotRead d k ≡ noEntry → 4 * k ≤ i → i < 4 * k + 4 → getD d i 0 ≡ 0
+  slot-none : (k i : ℕ) → slotRead d k ≡ noEntry → 4 * k ≤ i → i < 4 * k + 4 → getD d i 0 ≡ 0
   unfolding slotRead
   slot-none k i e l h = ap (λ (j : ℕ). getD d j 0) (omega arith) ∙ by (i - 4 * k) (omega arith)
     where
@@ -123,7 +123,7 @@ module _ (s : List ℕ) where
     unfolding entryOrNone
     slot-there h = entry-at-slot (slot t n) (slot-few t n room) ∙ slot-entry t n room ∙ rw (lt-ltb n (entryCount s t) h)
 
-    pub slot-empty : entryCount s t ≤ n → slotRead (decodedEntries s) (slot t n) ≡ noEntry
+    slot-empty : entryCount s t ≤ n → slotRead (decodedEntries s) (slot t n) ≡ noEntry
     unfolding entryOrNone
     slot-empty h = entry-at-slot (slot t n) (slot-few t n room) ∙ slot-entry t n room ∙ rw (le-ltb n (entryCount s t) h)
 
