@@ -3,7 +3,6 @@
 mod arithmetic;
 mod coding;
 mod condition;
-mod memory;
 mod stepping;
 
 use program::Refusal;

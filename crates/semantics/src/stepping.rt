@@ -1,12 +1,13 @@
-// The questions of a step.
+// A run and its step.
 
 ghost use mathlib.Core.Path.{_≡_};
 ghost use mathlib.Core.List.{List};
 ghost use lib.IntN.{ℤ};
-ghost use Prim.Native.Nat.{ℕ, _<_, _+_, min};
+ghost use Prim.Native.Nat.{ℕ, _<_, _≤_, _+_, min};
 ghost use lib.ListN.{length};
 ghost use Rattle.program.specs.File;
 ghost use Rattle.program.specs.Graph;
+ghost use Rattle.semantics.specs.Cells;
 ghost use Rattle.semantics.specs.Step as spec;
 ghost use Rattle.semantics.specs.Stepping;
 use crate::Effect;
@@ -18,15 +19,40 @@ use program::drawing;
 use program::file;
 use program::validation;
 
+fn least(a: usize, b: usize) -> usize
+    ensures { λ r. ⌜ r ≡ min a b ⌝ }
+{
+    if a < b { a } else { b }
+}
+
+// A memory's first 512 cells, and zeros after the last.
+fn copied(memory: &[i32]) -> [i32; 512]
+    ensures { λ r. ⌜ r ≡ Cells.front 512 (now (memory .entry)) ⌝ }
+{
+    let end = least(memory.len(), 512);
+    let mut cells = [0i32; 512];
+    let mut i: usize = 0;
+    while i < end {
+        cells[i] = memory[i];
+        i += 1;
+    }
+    cells
+}
+
+// The array's first cells over a memory of at most 512.
+fn copy_back(memory: &mut [i32], cells: &[i32; 512])
+    requires { ⌜ length (now memory) ≤ 512 ⌝ }
+    ensures { λ _. ⌜ now (memory .exit) ≡ Cells.front (length (now (memory .entry))) (now (cells .entry)) ⌝ }
+{
+    let mut i: usize = 0;
+    while i < memory.len() {
+        memory[i] = cells[i];
+        i += 1;
+    }
+}
+
 // Whether an edge of a drawn graph exists and leaves a node.
-pub(crate) fn leaves(
-    program: &[u8],
-    edges: &[u8],
-    nodes: u16,
-    count: u16,
-    edge: u16,
-    node: u16,
-) -> bool
+fn leaves(program: &[u8], edges: &[u8], nodes: u16, count: u16, edge: u16, node: u16) -> bool
     requires { ⌜ Stepping.DrawnInto (now program) (now edges) nodes count ⌝ }
     ensures { λ r. ⌜ r ≡ spec.leaves (Graph.graph (now (program .entry))) edge node ⌝ }
 {
@@ -38,7 +64,7 @@ pub(crate) fn leaves(
 }
 
 // Questions 12, 14 and 15 of a well-formed program whose graph is drawn, of a node, an edge and a memory of so many cells.
-pub(crate) fn check_step(
+fn check_step(
     program: &[u8],
     edges: &[u8],
     nodes: u16,
@@ -62,7 +88,7 @@ pub(crate) fn check_step(
 }
 
 // The run that has taken an edge to a node: past 65,535 edges the count stays.
-pub(crate) fn moved(run: Run, target: u16) -> Run
+fn moved(run: Run, target: u16) -> Run
     ensures { λ r. ⌜ r ≡ record { node = target; count = min (run .count + 1) 65535 } ⌝ }
 {
     let count = run.count;
@@ -80,7 +106,7 @@ pub(crate) fn moved(run: Run, target: u16) -> Run
 }
 
 // What a step replies whose edge to `target` has this effect, and the memory after it.
-pub(crate) fn settled(run: Run, target: u16, effect: Effect, memory: &mut [i32]) -> Stepped
+fn settled(run: Run, target: u16, effect: Effect, memory: &mut [i32]) -> Stepped
     requires { ⌜ ((k : ℕ) (z : ℤ) → effect ≡ Effect.Stored k z → k < length (now memory)) ⌝ }
     ensures { λ r. ⌜ Stepping.Settled run target effect (now (memory .entry)) (now (memory .exit)) r ⌝ }
 {

@@ -1,4 +1,4 @@
--- `memory::copied`: the cells passed are the memory's, and the others are still zero.
+-- `stepping::copied`: the cells passed are the memory's, and the others are still zero.
 use Prim.Native.Nat.{_≤_, _-_}
 use borrow.Author.Needs.{needs}
 use native.Mathlib.Omega.{arith}
@@ -6,8 +6,8 @@ use mir.Syntax.{w32}
 use mir.ValLaws.{toZ-ofZ}
 use Rattle.semantics.specs.Expression.{cellValue}
 use Rattle.semantics.proofs.Padding.{Filled, filled-none, filled-more, filled-all}
-use Rattle.semantics.proofs.memory.copied.Statement.{statement}
-use Rattle.semantics.proofs.memory.copied.Tie as tie
+use Rattle.semantics.proofs.stepping.copied.Statement.{statement}
+use Rattle.semantics.proofs.stepping.copied.Tie as tie
 
 abbrev Inv-loop : tie.InvT-loop
 Inv-loop memory end cells₀ i₀ cells i = (i ≤ end) × Filled memory cells i
