@@ -4,6 +4,8 @@ pub mod Runs
 pub mod Named
 pub mod Coded
 pub mod Valued
+pub mod Keys
+pub mod Effects
 pub mod Laws
 pub mod Open
 pub mod Examples

@@ -1,6 +1,6 @@
 pub mod Expression
-pub mod Coding
 pub mod Action
+pub mod Coding
 pub mod Step
 pub mod Budget
 pub mod Replay

@@ -145,7 +145,7 @@ pub(crate) fn first_cell(cells: &[usize], x: u16) -> usize
 }
 
 // The size of a name.
-fn size_of(sizes: &[u16], x: u16) -> usize
+pub(crate) fn size_of(sizes: &[u16], x: u16) -> usize
     ensures { λ r. ⌜ r ≡ getD (now (sizes .entry)) x 0 ⌝ }
 {
     let i = x as usize;

@@ -1,7 +1,6 @@
 -- The cycle of calls {`semantics::condition::exit`}: a part is lower than what it is a part of, so the measure is `bound`.
 use mathlib.Core.Path.{_≡_, refl, sym, _∙_, ap}
 use mathlib.Core.List.{[], _∷_}
-use mathlib.Core.Logic.{inl, inr}
 use Prim.Native.Nat.{ℕ, _<_}
 use native.Mathlib.Omega.{arith}
 use borrow.Author.Needs.{needs}
@@ -20,6 +19,7 @@ use Rattle.program.proofs.CommandNode.{the-type}
 use Rattle.program.proofs.Forms.{CommandParts}
 use Rattle.program.proofs.Laws.{command-form, command-lower, boolean-any}
 use Rattle.semantics.proofs.Coded.{handed}
+use Rattle.semantics.proofs.Keys.{isKey, one-key}
 use Rattle.semantics.proofs.Valued.{true-holds, negation-holds, conjunction-holds}
 use Rattle.semantics.proofs.condition.exit.Reads as reads
 use Rattle.semantics.proofs.condition.exit.Kinds as kinds
@@ -44,25 +44,17 @@ abbrev claims : ℕ → lts.Claims
 claims t =
     (command-node-reads.Asked, command-node-reads.Learnt, truth-reads.Asked, truth-reads.Learnt, negated-reads.Asked, negated-reads.Learnt, exit-below t, reads.Post, both-reads.Asked, both-reads.Learnt)
 
--- the kinds of commands that are no guarded commands; a do of one is left at once
-none : (x : ℕ) → 5 < x → OneOf (0 ∷ 1 ∷ 2 ∷ 3 ∷ 4 ∷ 5 ∷ []) x → ⊥
-none x h (inl e) = omega arith
-none x h (inr (inl e)) = omega arith
-none x h (inr (inr (inl e))) = omega arith
-none x h (inr (inr (inr (inl e)))) = omega arith
-none x h (inr (inr (inr (inr (inl e))))) = omega arith
-none x h (inr (inr (inr (inr (inr e))))) = omega arith
-
+-- a do of what is no guarded command is left at once
 plain : (es : Entries) (n : ℕ) (x : CommandNode) → OneOf (0 ∷ 1 ∷ 2 ∷ 3 ∷ 4 ∷ 5 ∷ []) (tagOf the-type x) → done (commandTree es n x) ≡ truth n
-unfolding commandTree done
+unfolding commandTree done isKey
 plain es n Skip k = refl
 plain es n (Assign x a) k = refl
 plain es n (Store x i a) k = refl
 plain es n (Sequence p q) k = refl
 plain es n (Conditional p) k = refl
 plain es n (Iteration p) k = refl
-plain es n (Guarded g p) k = absurd (none 6 (omega arith) k)
-plain es n (Choice p q) k = absurd (none 7 (omega arith) k)
+plain es n (Guarded g p) k = absurd (one-key 0 (1 ∷ 2 ∷ 3 ∷ 4 ∷ 5 ∷ []) 6 k)
+plain es n (Choice p q) k = absurd (one-key 0 (1 ∷ 2 ∷ 3 ∷ 4 ∷ 5 ∷ []) 7 k)
 
 -- where it is known what the entry is
 module _ (t : ℕ) (c : lts.After-command-node (claims t) (exit-at t) reads.Post) where
