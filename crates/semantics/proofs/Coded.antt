@@ -21,7 +21,7 @@ use Rattle.signs.specs.declared.Operator.{Operator}
 use Rattle.signs.specs.declared.Reason.the-variants.{IndexNegative, IndexTooLarge}
 use Rattle.program.specs.Decoding.{NamesIn}
 use Rattle.semantics.specs.Coding.{reasonNumbered, evaluated, decided, isCode}
-use Rattle.semantics.specs.Expression.{fault, cellValue, placeOf, valueAt, operated, combine, compareValues, conjoin, andThen, negate}
+use Rattle.semantics.specs.Expression.{fault, at, nowhere, placeOf, operated, combine, compareValues, conjoin, andThen, negate}
 use Rattle.semantics.specs.declared.Evaluation.the-variants.{Number, Undefined}
 use Rattle.semantics.specs.declared.Fault.{Fault}
 use Rattle.semantics.specs.declared.Truth.{Truth}
@@ -190,23 +190,33 @@ pub natural : (z : ℤ) → SFits w64 z → ltZ z (pos 0) ≡ false → T (nonNe
 natural (pos n) f e = (tt, record { fits = omega (arith, f .sfits) })
 natural (negsuc n) f e = absurd (true≢false e)
 
-module _ (ns : List ℕ) (m : List ℤ) (x : ℕ) where
-  pub index-fault : (v : ℤ) → isFault v ≡ true → evaluated v ≡ valueAt m (placeOf ns x (evaluated v))
-  unfolding placeOf valueAt
+-- a fault's number is a natural one
+pub fault-natural : (z : ℤ) → SFits w64 z → isFault z ≡ true → T (nonNeg z) × Fits w64 (natAbs z)
+fault-natural (pos n) f e = (tt, record { fits = omega (arith, f .sfits) })
+fault-natural (negsuc n) f e = absurd (true≢false (sym e))
+
+pub fault-above : (z : ℤ) → isFault z ≡ true → 4294967296 ≤ natAbs z
+fault-above (pos n) e = leb-true 4294967296 n e
+fault-above (negsuc n) e = absurd (true≢false (sym e))
+
+-- the place that an index gives
+module _ (ns : List ℕ) (x : ℕ) where
+  pub index-fault : (v : ℤ) → isFault v ≡ true → placeOf ns x (evaluated v) ≡ nowhere (faultIn v)
+  unfolding placeOf
   index-fault v h = rw (fault-evaluated v h)
 
-  pub index-negative : (v : ℤ) → isFault v ≡ false → ltZ v (pos 0) ≡ true → valueAt m (placeOf ns x (evaluated v)) ≡ Undefined (fault IndexNegative)
-  unfolding placeOf valueAt
+  pub index-negative : (v : ℤ) → isFault v ≡ false → ltZ v (pos 0) ≡ true → placeOf ns x (evaluated v) ≡ nowhere (fault IndexNegative)
+  unfolding placeOf
   index-negative (pos n) h e = absurd (omega (arith, ltb-true n 0 e))
   index-negative (negsuc n) h e = rw (number-evaluated (negsuc n) h)
 
   module _ (szs cells : List ℕ) (names : NamesIn ns szs cells) (there : x < length ns) where
-    pub index-large : (v : ℤ) → isFault v ≡ false → ltZ v (pos 0) ≡ false → getD szs x 0 ≤ natAbs v → valueAt m (placeOf ns x (evaluated v)) ≡ Undefined (fault IndexTooLarge)
-    unfolding placeOf valueAt
+    pub index-large : (v : ℤ) → isFault v ≡ false → ltZ v (pos 0) ≡ false → getD szs x 0 ≤ natAbs v → placeOf ns x (evaluated v) ≡ nowhere (fault IndexTooLarge)
+    unfolding placeOf
     index-large (pos n) h e k = rw (number-evaluated (pos n) h, le-ltb n (getD ns x 0) (rw (names .size x there) at k))
     index-large (negsuc n) h e k = absurd (true≢false e)
 
-    pub index-inside : (v : ℤ) → isFault v ≡ false → ltZ v (pos 0) ≡ false → natAbs v < getD szs x 0 → valueAt m (placeOf ns x (evaluated v)) ≡ Number (cellValue m (getD cells x 0 + natAbs v))
-    unfolding placeOf valueAt
+    pub index-inside : (v : ℤ) → isFault v ≡ false → ltZ v (pos 0) ≡ false → natAbs v < getD szs x 0 → placeOf ns x (evaluated v) ≡ at (getD cells x 0 + natAbs v)
+    unfolding placeOf
     index-inside (pos n) h e k = rw (number-evaluated (pos n) h, lt-ltb n (getD ns x 0) (rw (names .size x there) at k), names .cell x there)
     index-inside (negsuc n) h e k = absurd (true≢false e)

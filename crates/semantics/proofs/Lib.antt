@@ -6,6 +6,8 @@ pub mod Padding
 pub mod Drawn
 pub mod Coded
 pub mod Valued
+pub mod Keys
+pub mod Effects
 pub mod Laws
 pub mod Open
 pub mod Examples

@@ -1,7 +1,7 @@
 -- How the evaluators hand on what an expression or a condition gives: as one number. Document 01 has no word for it; what such a number stands for
 -- is said here, once.
 use mathlib.Core.Path.{_≡_}
-use Prim.Native.Nat.{ℕ, _-_}
+use Prim.Native.Nat.{ℕ, _-_, _≤_}
 use mathlib.Core.Bool.{Bool, cond, _||_}
 use mathlib.Core.List.{List, [], _∷_}
 use lib.Dec.{T, eqb, ltb}
@@ -12,9 +12,13 @@ use Rattle.signs.specs.Number.{inRange}
 use Rattle.signs.specs.declared.Reason.{Reason}
 use Rattle.signs.specs.declared.Reason.the-variants.{ConditionFalse, DivisorZero, ExponentNegative, IndexNegative, IndexTooLarge, OutOfRange}
 use Rattle.program.specs.Decoding.{NamesIn}
-use Rattle.program.specs.Sorted.{arithNamed, booleanNamed}
+use Rattle.program.specs.File.{cellCount}
+use Rattle.program.specs.Graph.{Action}
+use Rattle.program.specs.Sorted.{arithNamed, booleanNamed, actionNamed}
 use Rattle.program.specs.Syntax.{Arith, Boolean}
+use Rattle.semantics.specs.Action.{meaning, effect}
 use Rattle.semantics.specs.Expression.{fault, value, truthIn}
+use Rattle.semantics.specs.declared.Effect.{Effect}
 use Rattle.semantics.specs.declared.Evaluation.{Evaluation}
 use Rattle.semantics.specs.declared.Evaluation.the-variants.{Number, Undefined}
 use Rattle.semantics.specs.declared.Truth.{Truth}
@@ -50,3 +54,7 @@ pub record ValueIn (szs cells : List ℕ) (m : List ℤ) (a : Arith) (r : ℤ) :
 -- and one that stands for the truth of a tree
 pub record TruthIn (szs cells : List ℕ) (m : List ℤ) (b : Boolean) (r : ℤ) : Type 0 where
   pub gives : (ns : List ℕ) → NamesIn ns szs cells → T (booleanNamed ns b) → decided r ≡ truthIn ns m b
+
+-- and the effect of an action, where the names' cells are at most 512
+pub record EffectIn (szs cells : List ℕ) (m : List ℤ) (x : Action) (r : Effect) : Type 0 where
+  pub gives : (ns : List ℕ) → NamesIn ns szs cells → cellCount ns ≤ 512 → T (actionNamed ns x) → r ≡ effect ns m (meaning x)

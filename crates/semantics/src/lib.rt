@@ -1,8 +1,6 @@
 // Steps: the values of expressions, the effects of actions, a run and its step, and the budgeted run.
 
-mod arithmetic;
-mod coding;
-mod condition;
+mod evaluator;
 mod stepping;
 
 use program::Refusal;

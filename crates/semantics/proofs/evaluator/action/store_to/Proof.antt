@@ -1,0 +1,74 @@
+-- `evaluator::action::store_to`: a fault is handed on, then the index is tested below and above, and the cell is one of 512.
+use mathlib.Core.Path.{_≡_, sym, _∙_}
+use mathlib.Core.Bool.{false}
+use borrow.Author.Needs.{needs}
+use lib.IntN.{pos}
+use lib.Signed.{ltZ}
+use mir.Facts.{sfits-lit}
+use mir.Syntax.{w64}
+use mir.ValLaws.{toZ-ofZ}
+use Rattle.signs.proofs.Signed.{less}
+use Rattle.semantics.specs.Action.{storeTo}
+use Rattle.semantics.proofs.Coded.{isFault, tested, natural, index-fault, index-negative, index-large}
+use Rattle.semantics.proofs.Effects.{stored-inside}
+use Rattle.semantics.proofs.Named.{array-there}
+use Rattle.semantics.proofs.evaluator.action.store_to.Statement.{statement}
+use Rattle.semantics.proofs.evaluator.action.store_to.Tie as tie
+
+failure-requires : tie.Need-failure-requires
+failure-requires c κs = sym (c .before .is-fault .ensures) ∙ c .if1 .taken
+
+returns : tie.Need-returns
+unfolding storeTo
+returns c =
+    let s = c .before .before .before in
+    let fault = tested (s .args .v) (s .fits .v) (c .before .before .is-fault .ensures) (c .before .if1 .taken) in
+    λ ns names few t. rw (index-fault ns (s .args .x) (s .args .v) fault) (rw (toZ-ofZ w64 (s .args .v) (s .fits .v)) at (c .failure .ensures))
+
+-- the index is no fault, and then not below zero
+no-fault : (c : tie.Else1) → isFault (c .before .before .args .v) ≡ false
+no-fault c = let s = c .before .before in tested (s .args .v) (s .fits .v) (c .before .is-fault .ensures) (c .if1 .left)
+
+not-negative : (c : tie.Else2) → ltZ (c .before .before .before .args .v) (pos 0) ≡ false
+not-negative c = let s = c .before .before .before in less w64 (s .args .v) (pos 0) (s .fits .v) (sfits-lit tt) (c .if2 .left)
+
+returns-2 : tie.Need-returns-2
+unfolding storeTo
+returns-2 c =
+    let s = c .before .before .before .before in
+    let below = less w64 (s .args .v) (pos 0) (s .fits .v) (sfits-lit tt) (c .before .if2 .taken) in
+    λ ns names few t. rw (index-negative ns (s .args .x) (s .args .v) (no-fault (c .before .before)) below) (c .undefined .ensures)
+
+cast-i : tie.Need-cast-i
+cast-i c =
+    let s = c .before .before .before in
+    rw (toZ-ofZ w64 (s .args .v) (s .fits .v)) (natural (s .args .v) (s .fits .v) (not-negative c))
+
+returns-3 : tie.Need-returns-3
+unfolding storeTo
+returns-3 c =
+    let e = c .before .before .before .before in
+    let s = e .before .before .before in
+    let above = rw (c .before .before .size-of .ensures, toZ-ofZ w64 (s .args .v) (s .fits .v)) at (c .before .if3 .taken) in
+    λ ns names few t.
+    rw (index-large ns (s .args .x) _ _ names (array-there ns (s .args .x) t .0) (s .args .v) (no-fault (e .before)) (not-negative e) above)
+    (c .undefined2 .ensures)
+
+stored-requires : tie.Need-stored-requires
+stored-requires c κs = search needs
+
+returns-4 : tie.Need-returns-4
+returns-4 c =
+    let f = c .before .before .before .before in
+    let e = f .before .before .before in
+    let s = e .before .before .before in
+    let inside = rw (f .before .size-of .ensures, toZ-ofZ w64 (s .args .v) (s .fits .v)) at (f .if3 .left) in
+    let sum = rw (c .before .before .first-cell .ensures, toZ-ofZ w64 (s .args .v) (s .fits .v)) at (c .before .shifted .ensures) in
+    λ ns names few t.
+    rw (toZ-ofZ w64 (s .args .w) (s .fits .w)) at (c .stored .ensures)
+    ∙ stored-inside ns (s .args .x) names few t (s .args .v) (no-fault (e .before)) (not-negative e) inside sum _
+
+pub store-to-spec : {M : Type 1} → statement M
+store-to-spec =
+    tie.close
+    (tie.spec (λ c κs. tt) failure-requires returns (λ c κs. tt) returns-2 cast-i (λ c κs. tt) (λ c κs. tt) returns-3 (λ c κs. tt) (λ c κs. tt) stored-requires returns-4)

@@ -1,0 +1,124 @@
+-- The cycle of calls {`semantics::evaluator::condition::exit`}: a part is lower than what it is a part of, so the measure is `bound`.
+use mathlib.Core.Path.{_≡_, refl, sym, _∙_, ap}
+use mathlib.Core.List.{[], _∷_}
+use Prim.Native.Nat.{ℕ, _<_}
+use native.Mathlib.Omega.{arith}
+use borrow.Author.Needs.{needs}
+use borrow.Fn.Kinds.{In}
+use borrow.Fn.PlainCycle.{Measures, is, falls, and}
+use denote.Enum.Declared.{tagOf}
+use types.Run.{OneOf}
+use Rattle.program.specs.Decoding.{decodedEntry}
+use Rattle.program.specs.Graph.{done}
+use Rattle.program.specs.Node.{commandTree}
+use Rattle.program.specs.Syntax.{truth}
+use Rattle.program.specs.Tree.{Entries, commandBelow, commandTrees}
+use Rattle.program.specs.declared.CommandNode.{CommandNode}
+use Rattle.program.specs.declared.CommandNode.the-variants.{Skip, Assign, Store, Sequence, Conditional, Iteration, Guarded, Choice}
+use Rattle.program.proofs.CommandNode.{the-type}
+use Rattle.program.proofs.Forms.{CommandParts}
+use Rattle.program.proofs.Laws.{command-form, command-lower, boolean-any}
+use Rattle.semantics.proofs.Coded.{handed}
+use Rattle.semantics.proofs.Keys.{isKey, one-key}
+use Rattle.semantics.proofs.Valued.{true-holds, negation-holds, conjunction-holds}
+use Rattle.semantics.proofs.evaluator.condition.exit.Reads as reads
+use Rattle.semantics.proofs.evaluator.condition.exit.Kinds as kinds
+use Rattle.semantics.proofs.evaluator.condition.+exit.Lts-exit as lts
+use Rattle.program.proofs.decoding.command_node.Reads as command-node-reads
+use Rattle.semantics.proofs.evaluator.both.Reads as both-reads
+use Rattle.semantics.proofs.evaluator.negated.Reads as negated-reads
+use Rattle.semantics.proofs.evaluator.condition.truth.Reads as truth-reads
+use Rattle.semantics.proofs.evaluator.condition.+exit.{statement}
+use Rattle.semantics.proofs.evaluator.condition.+exit.Tie.{close}
+
+abbrev μ-exit : Measures 4 kinds.ps ℕ
+μ-exit κs a = a .1 .1 .1 .1 .0
+
+abbrev exit-at : ℕ → In 4 kinds.ps
+exit-at t = and 4 kinds.ps (is 4 kinds.ps μ-exit t) reads.Pre
+
+abbrev exit-below : ℕ → In 4 kinds.ps
+exit-below t = and 4 kinds.ps (falls 4 kinds.ps _<_ μ-exit t) reads.Pre
+
+abbrev claims : ℕ → lts.Claims
+claims t =
+    (command-node-reads.Asked, command-node-reads.Learnt, truth-reads.Asked, truth-reads.Learnt, negated-reads.Asked, negated-reads.Learnt, exit-below t, reads.Post, both-reads.Asked, both-reads.Learnt)
+
+-- a do of what is no guarded command is left at once
+plain : (es : Entries) (n : ℕ) (x : CommandNode) → OneOf (0 ∷ 1 ∷ 2 ∷ 3 ∷ 4 ∷ 5 ∷ []) (tagOf the-type x) → done (commandTree es n x) ≡ truth n
+unfolding commandTree done isKey
+plain es n Skip k = refl
+plain es n (Assign x a) k = refl
+plain es n (Store x i a) k = refl
+plain es n (Sequence p q) k = refl
+plain es n (Conditional p) k = refl
+plain es n (Iteration p) k = refl
+plain es n (Guarded g p) k = absurd (one-key 0 (1 ∷ 2 ∷ 3 ∷ 4 ∷ 5 ∷ []) 6 k)
+plain es n (Choice p q) k = absurd (one-key 0 (1 ∷ 2 ∷ 3 ∷ 4 ∷ 5 ∷ []) 7 k)
+
+-- where it is known what the entry is
+module _ (t : ℕ) (c : lts.After-command-node (claims t) (exit-at t) reads.Post) where
+  abbrev entries : Entries
+  entries = decodedEntry (c .before .args .entries .now)
+
+  module _ {k : CommandNode} (told : c .command-node .result ≡ k) where
+    same : commandBelow (commandTrees entries (c .before .args .bound)) (c .before .args .n) ≡ commandTree entries (c .before .args .n) k
+    same = command-form entries (c .before .args .bound) (c .before .args .n) ∙ ap (commandTree entries (c .before .args .n)) (sym (c .command-node .ensures) ∙ told)
+
+    lower : CommandParts k → c .before .args .n < t
+    lower p = omega (arith, command-lower entries (c .before .args .bound) (c .before .args .n) (sym (c .command-node .ensures) ∙ told) p, c .before .pre .0)
+
+enum-known-node : (t : ℕ) → lts.Need-enum-known-node (claims t) (exit-at t) reads.Post
+enum-known-node t c = search needs
+
+enum-known-node-2 : (t : ℕ) → lts.Need-enum-known-node-2 (claims t) (exit-at t) reads.Post
+enum-known-node-2 t c = search needs
+
+exit-requires : (t : ℕ) → lts.Need-exit-requires (claims t) (exit-at t) reads.Post
+exit-requires t c κs = (lower t (c .before .before .before) (c .before .node2 .given .1) tt, tt)
+
+exit-requires-2 : (t : ℕ) → lts.Need-exit-requires-2 (claims t) (exit-at t) reads.Post
+exit-requires-2 t c κs = let k = c .before in (lower t (k .before .before .before) (k .before .node2 .given .1) tt, tt)
+
+returns : (t : ℕ) → lts.Need-returns (claims t) (exit-at t) reads.Post
+unfolding commandTree done
+returns t c =
+    let a = c .before in
+    let k = a .before in
+    let at = k .before .before .before in
+    rw (handed (c .negated .result) (c .negated .ok), same t at (k .before .node .given .1), boolean-any (at .before .args .entries .now))
+    (negation-holds _ (a .truth .ensures) (rw (handed (a .truth .result) (a .truth .ok)) at (c .negated .ensures)))
+
+returns-2 : (t : ℕ) → lts.Need-returns-2 (claims t) (exit-at t) reads.Post
+unfolding commandTree done
+returns-2 t c =
+    let b = c .before in
+    let a = b .before in
+    let k = a .before in
+    rw (handed (c .both .result) (c .both .ok), same t (k .before .before .before) (k .before .node2 .given .1))
+    (conjunction-holds _ (a .exit .ensures) (b .exit2 .ensures)
+    (rw (handed (a .exit .result) (a .exit .ok), handed (b .exit2 .result) (b .exit2 .ok)) at (c .both .ensures)))
+
+returns-3 : (t : ℕ) → lts.Need-returns-3 (claims t) (exit-at t) reads.Post
+returns-3 t c = rw (same t (c .before) refl, plain (entries t (c .before)) (c .before .before .args .n) (c .before .command-node .result) (c .match .keys3)) (true-holds _)
+
+pub +exit-spec : {M : Type 1} → statement M
++exit-spec =
+    close
+    μ-exit
+    (λ t.
+    lts.spec
+    (claims t)
+    (exit-at t)
+    reads.Post
+    (λ c κs. tt)
+    (enum-known-node t)
+    (λ c κs. tt)
+    (λ c κs. tt)
+    (enum-known-node-2 t)
+    (exit-requires t)
+    (exit-requires-2 t)
+    (λ c κs. tt)
+    (returns t)
+    (returns-2 t)
+    (returns-3 t))

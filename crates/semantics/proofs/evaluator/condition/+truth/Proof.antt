@@ -1,0 +1,153 @@
+-- The cycle of calls {`semantics::evaluator::condition::truth`}: a part is lower than what it is a part of, so the measure is `bound`.
+use mathlib.Core.Path.{_≡_, sym, _∙_, ap}
+use Prim.Native.Nat.{ℕ, _<_}
+use native.Mathlib.Omega.{arith}
+use borrow.Author.Needs.{needs}
+use borrow.Fn.Kinds.{In}
+use borrow.Fn.PlainCycle.{Measures, is, falls, and}
+use Rattle.program.specs.Decoding.{decodedEntry}
+use Rattle.program.specs.Node.{booleanTree}
+use Rattle.program.specs.Tree.{Entries, booleanBelow, booleanTrees}
+use Rattle.program.specs.declared.BooleanNode.{BooleanNode}
+use Rattle.program.proofs.Forms.{BooleanParts}
+use Rattle.program.proofs.Laws.{boolean-form, boolean-lower}
+use Rattle.semantics.proofs.Coded.{handed, one-decided, other-decided}
+use Rattle.semantics.proofs.Valued.{true-holds, negation-holds, conjunction-holds, short-right, short-left}
+use Rattle.semantics.proofs.evaluator.condition.truth.Reads as reads
+use Rattle.semantics.proofs.evaluator.condition.truth.Kinds as kinds
+use Rattle.semantics.proofs.evaluator.condition.+truth.Lts-truth as lts
+use Rattle.program.proofs.decoding.boolean_node.Reads as boolean-node-reads
+use Rattle.semantics.proofs.evaluator.both.Reads as both-reads
+use Rattle.semantics.proofs.evaluator.negated.Reads as negated-reads
+use Rattle.semantics.proofs.evaluator.condition.comparison.Reads as comparison-reads
+use Rattle.semantics.proofs.evaluator.condition.+truth.{statement}
+use Rattle.semantics.proofs.evaluator.condition.+truth.Tie.{close}
+
+abbrev μ-truth : Measures 4 kinds.ps ℕ
+μ-truth κs a = a .1 .1 .1 .1 .0
+
+abbrev truth-at : ℕ → In 4 kinds.ps
+truth-at t = and 4 kinds.ps (is 4 kinds.ps μ-truth t) reads.Pre
+
+abbrev truth-below : ℕ → In 4 kinds.ps
+truth-below t = and 4 kinds.ps (falls 4 kinds.ps _<_ μ-truth t) reads.Pre
+
+abbrev claims : ℕ → lts.Claims
+claims t =
+    (boolean-node-reads.Asked, boolean-node-reads.Learnt, comparison-reads.Asked, comparison-reads.Learnt, truth-below t, reads.Post, both-reads.Asked, both-reads.Learnt, negated-reads.Asked, negated-reads.Learnt)
+
+-- where it is known what the entry is
+module _ (t : ℕ) (c : lts.After-boolean-node (claims t) (truth-at t) reads.Post) where
+  abbrev entries : Entries
+  entries = decodedEntry (c .before .args .entries .now)
+
+  module _ {k : BooleanNode} (told : c .boolean-node .result ≡ k) where
+    same : booleanBelow (booleanTrees entries (c .before .args .bound)) (c .before .args .n) ≡ booleanTree entries (c .before .args .n) k
+    same = boolean-form entries (c .before .args .bound) (c .before .args .n) ∙ ap (booleanTree entries (c .before .args .n)) (sym (c .boolean-node .ensures) ∙ told)
+
+    lower : BooleanParts k → c .before .args .n < t
+    lower p = omega (arith, boolean-lower entries (c .before .args .bound) (c .before .args .n) (sym (c .boolean-node .ensures) ∙ told) p, c .before .pre .0)
+
+enum-told : (t : ℕ) → lts.Need-enum-told (claims t) (truth-at t) reads.Post
+enum-told t c = search needs
+
+enum-known-node : (t : ℕ) → lts.Need-enum-known-node (claims t) (truth-at t) reads.Post
+enum-known-node t c = search needs
+
+enum-known-node-2 : (t : ℕ) → lts.Need-enum-known-node-2 (claims t) (truth-at t) reads.Post
+enum-known-node-2 t c = search needs
+
+truth-requires : (t : ℕ) → lts.Need-truth-requires (claims t) (truth-at t) reads.Post
+truth-requires t c κs = (lower t (c .before .before .before) (c .before .node2 .given .1) tt, tt)
+
+truth-requires-2 : (t : ℕ) → lts.Need-truth-requires-2 (claims t) (truth-at t) reads.Post
+truth-requires-2 t c κs = let k = c .before in (lower t (k .before .before .before) (k .before .node2 .given .1) tt, tt)
+
+enum-known-node-3 : (t : ℕ) → lts.Need-enum-known-node-3 (claims t) (truth-at t) reads.Post
+enum-known-node-3 t c = search needs
+
+truth-requires-3 : (t : ℕ) → lts.Need-truth-requires-3 (claims t) (truth-at t) reads.Post
+truth-requires-3 t c κs = (lower t (c .before .before .before) (c .before .node3 .given .1) tt, tt)
+
+truth-requires-4 : (t : ℕ) → lts.Need-truth-requires-4 (claims t) (truth-at t) reads.Post
+truth-requires-4 t c κs = let k = c .before .before in (lower t (k .before .before .before) (k .before .node3 .given .1) tt, tt)
+
+enum-known-node-4 : (t : ℕ) → lts.Need-enum-known-node-4 (claims t) (truth-at t) reads.Post
+enum-known-node-4 t c = search needs
+
+truth-requires-5 : (t : ℕ) → lts.Need-truth-requires-5 (claims t) (truth-at t) reads.Post
+truth-requires-5 t c κs = (lower t (c .before .before .before) (c .before .node4 .given .1) tt, tt)
+
+returns : (t : ℕ) → lts.Need-returns (claims t) (truth-at t) reads.Post
+unfolding booleanTree
+returns t c = rw (same t (c .before .before) (c .enum-told .given .1)) (true-holds _)
+
+returns-2 : (t : ℕ) → lts.Need-returns-2 (claims t) (truth-at t) reads.Post
+unfolding booleanTree
+returns-2 t c =
+    let k = c .before in
+    rw (handed (c .comparison .result) (c .comparison .ok), same t (k .before .before .before) (k .before .node .given .1)) (c .comparison .ensures _)
+
+returns-3 : (t : ℕ) → lts.Need-returns-3 (claims t) (truth-at t) reads.Post
+unfolding booleanTree
+returns-3 t c =
+    let b = c .before in
+    let a = b .before in
+    let k = a .before in
+    rw (handed (c .both .result) (c .both .ok), same t (k .before .before .before) (k .before .node2 .given .1))
+    (conjunction-holds _ (a .truth .ensures) (b .truth2 .ensures)
+    (rw (handed (a .truth .result) (a .truth .ok), handed (b .truth2 .result) (b .truth2 .ok)) at (c .both .ensures)))
+
+returns-4 : (t : ℕ) → lts.Need-returns-4 (claims t) (truth-at t) reads.Post
+unfolding booleanTree
+returns-4 t c =
+    let a = c .before .before in
+    let k = a .before in
+    rw (handed (c .truth4 .result) (c .truth4 .ok), same t (k .before .before .before) (k .before .node3 .given .1))
+    (short-right _ (a .truth3 .ensures) (one-decided (a .truth3 .result) record { sfits = a .truth3 .ok } (c .before .if1 .taken)) (c .truth4 .ensures))
+
+returns-5 : (t : ℕ) → lts.Need-returns-5 (claims t) (truth-at t) reads.Post
+unfolding booleanTree
+returns-5 t c =
+    let a = c .before in
+    let k = a .before in
+    rw (handed (a .truth3 .result) (a .truth3 .ok), same t (k .before .before .before) (k .before .node3 .given .1))
+    (short-left _ (a .truth3 .ensures) (λ y. other-decided (a .truth3 .result) y (c .if1 .left)))
+
+returns-6 : (t : ℕ) → lts.Need-returns-6 (claims t) (truth-at t) reads.Post
+unfolding booleanTree
+returns-6 t c =
+    let a = c .before in
+    let k = a .before in
+    rw (handed (c .negated .result) (c .negated .ok), same t (k .before .before .before) (k .before .node4 .given .1))
+    (negation-holds _ (a .truth5 .ensures) (rw (handed (a .truth5 .result) (a .truth5 .ok)) at (c .negated .ensures)))
+
+pub +truth-spec : {M : Type 1} → statement M
++truth-spec =
+    close
+    μ-truth
+    (λ t.
+    lts.spec
+    (claims t)
+    (truth-at t)
+    reads.Post
+    (λ c κs. tt)
+    (enum-told t)
+    (enum-known-node t)
+    (λ c κs. tt)
+    (enum-known-node-2 t)
+    (truth-requires t)
+    (truth-requires-2 t)
+    (λ c κs. tt)
+    (enum-known-node-3 t)
+    (truth-requires-3 t)
+    (truth-requires-4 t)
+    (enum-known-node-4 t)
+    (truth-requires-5 t)
+    (λ c κs. tt)
+    (returns t)
+    (returns-2 t)
+    (returns-3 t)
+    (returns-4 t)
+    (returns-5 t)
+    (returns-6 t))

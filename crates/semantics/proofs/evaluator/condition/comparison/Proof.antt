@@ -1,0 +1,22 @@
+-- `evaluator::condition::comparison`: both sides are whole trees, of entries below the capacity or leaves.
+use borrow.Author.Needs.{needs}
+use Rattle.program.proofs.Laws.{arith-any}
+use Rattle.semantics.proofs.Coded.{handed}
+use Rattle.semantics.proofs.Valued.{comparison-holds}
+use Rattle.semantics.proofs.evaluator.condition.comparison.Statement.{statement}
+use Rattle.semantics.proofs.evaluator.condition.comparison.Tie as tie
+
+compare-requires : tie.Need-compare-requires
+compare-requires c κs = search needs
+
+returns : tie.Need-returns
+returns c =
+    let b = c .before in
+    let a = b .before in
+    let s = a .before in
+    rw (handed (c .compare .result) (c .compare .ok), arith-any (s .args .entries .now) (s .args .p), arith-any (s .args .entries .now) (s .args .q))
+    (λ k. comparison-holds k (s .args .o) (a .value .ensures) (b .value2 .ensures)
+    (rw (handed (a .value .result) (a .value .ok), handed (b .value2 .result) (b .value2 .ok)) at (c .compare .ensures)))
+
+pub comparison-spec : {M : Type 1} → statement M
+comparison-spec = tie.close (tie.spec (λ c κs. tt) (λ c κs. tt) compare-requires returns)

@@ -1,0 +1,190 @@
+// Results of the evaluators as one number: a value or a truth value as itself, a fault as 2^32 and the number of its reason.
+pub(crate) mod action;
+mod arithmetic;
+mod condition;
+
+use signs::Comparison;
+use signs::Operator;
+use signs::Reason;
+use signs::Value;
+use signs::number;
+ghost use mathlib.Core.Path.{_≡_};
+ghost use mathlib.Core.List.{List};
+ghost use Prim.Native.Nat.{ℕ, _+_, _<_};
+ghost use lib.Dec.{T};
+ghost use lib.IntN.{pos};
+ghost use lib.ListN.{length, getD};
+ghost use lib.Signed.{leZ};
+ghost use Rattle.program.specs.Decoding.{NamesIn};
+ghost use Rattle.program.specs.File.{firstCell};
+ghost use Rattle.semantics.specs.Coding as code;
+ghost use Rattle.semantics.specs.Expression as spec;
+ghost use Rattle.semantics.specs.declared.Evaluation.the-variants.{Number, Undefined};
+ghost use Rattle.semantics.specs.declared.Truth.the-variants.{Known, Undefined as Unknown};
+
+fn is_fault(v: i64) -> bool
+    ensures { λ r. ⌜ r ≡ leZ (pos 4294967296) v ⌝ }
+{
+    4294967296 <= v
+}
+
+fn fault_code(reason: Reason) -> i64
+    ensures code { λ r. ⌜ T (code.isCode r) ⌝ }
+    ensures evaluated { λ r. ⌜ code.evaluated r ≡ Undefined (spec.fault reason) ⌝ }
+    ensures decided { λ r. ⌜ code.decided r ≡ Unknown (spec.fault reason) ⌝ }
+{
+    match reason {
+        Reason::ConditionFalse => 4294967327,
+        Reason::DivisorZero => 4294967328,
+        Reason::ExponentNegative => 4294967329,
+        Reason::IndexNegative => 4294967330,
+        Reason::IndexTooLarge => 4294967331,
+        Reason::OutOfRange => 4294967332,
+    }
+}
+
+// What an operator gave.
+fn value_code(v: Value) -> i64
+    ensures code { λ r. ⌜ T (code.isCode r) ⌝ }
+    ensures evaluated { λ r. ⌜ code.evaluated r ≡ spec.operated v ⌝ }
+{
+    match v {
+        Value::Number(z) => z as i64,
+        Value::Undefined(reason) => fault_code(reason),
+    }
+}
+
+fn truth_code(b: bool) -> i64
+    ensures { λ r. ⌜ code.decided r ≡ Known b ⌝ }
+{
+    if b { 1 } else { 0 }
+}
+
+// An operator on two results.
+fn operate(o: Operator, a: i64, b: i64) -> i64
+    requires { ⌜ T (code.isCode a) ⌝ }
+    requires { ⌜ T (code.isCode b) ⌝ }
+    ensures code { λ r. ⌜ T (code.isCode r) ⌝ }
+    ensures evaluated { λ r. ⌜ code.evaluated r ≡ spec.combine o (code.evaluated a) (code.evaluated b) ⌝ }
+{
+    if is_fault(a) {
+        return a;
+    }
+    if is_fault(b) {
+        return b;
+    }
+    value_code(number::apply(o, a as i32, b as i32))
+}
+
+// A comparison of two results.
+fn compare(c: Comparison, a: i64, b: i64) -> i64
+    requires { ⌜ T (code.isCode a) ⌝ }
+    requires { ⌜ T (code.isCode b) ⌝ }
+    ensures { λ r. ⌜ code.decided r ≡ spec.compareValues c (code.evaluated a) (code.evaluated b) ⌝ }
+{
+    if is_fault(a) {
+        return a;
+    }
+    if is_fault(b) {
+        return b;
+    }
+    truth_code(number::compares(c, a as i32, b as i32))
+}
+
+// b ∧ b of two truth values.
+fn both(a: i64, b: i64) -> i64
+    ensures { λ r. ⌜ code.decided r ≡ spec.conjoin (code.decided a) (code.decided b) ⌝ }
+{
+    if is_fault(a) {
+        return a;
+    }
+    if is_fault(b) {
+        return b;
+    }
+    if a == 1 { b } else { 0 }
+}
+
+// ¬ of a truth value.
+fn negated(a: i64) -> i64
+    ensures { λ r. ⌜ code.decided r ≡ spec.negate (code.decided a) ⌝ }
+{
+    if is_fault(a) {
+        return a;
+    }
+    if a == 1 { 0 } else { 1 }
+}
+
+// The value of a cell, past the end 0.
+fn cell_value(memory: &[i32], c: usize) -> i64
+    ensures code { λ r. ⌜ T (code.isCode r) ⌝ }
+    ensures evaluated { λ r. ⌜ code.evaluated r ≡ Number (spec.cellValue (now (memory .entry)) c) ⌝ }
+{
+    if c < memory.len() {
+        memory[c] as i64
+    } else {
+        0
+    }
+}
+
+// The value of the cell i after c.
+fn cell_after(memory: &[i32], c: usize, i: usize) -> i64
+    ensures code { λ r. ⌜ T (code.isCode r) ⌝ }
+    ensures evaluated { λ r. ⌜ code.evaluated r ≡ Number (spec.cellValue (now (memory .entry)) (c + i)) ⌝ }
+{
+    if memory.len() <= c {
+        return 0;
+    }
+    if memory.len() <= i {
+        return 0;
+    }
+    cell_value(memory, c + i)
+}
+
+// The first cell of a name.
+fn first_cell(cells: &[usize], x: u16) -> usize
+    ensures { λ r. ⌜ r ≡ getD (now (cells .entry)) x 0 ⌝ }
+{
+    let i = x as usize;
+    if i < cells.len() { cells[i] } else { 0 }
+}
+
+// The size of a name.
+fn size_of(sizes: &[u16], x: u16) -> usize
+    ensures { λ r. ⌜ r ≡ getD (now (sizes .entry)) x 0 ⌝ }
+{
+    let i = x as usize;
+    if i < sizes.len() {
+        sizes[i] as usize
+    } else {
+        0
+    }
+}
+
+// The value of a variable.
+fn variable(cells: &[usize; 32], memory: &[i32; 512], x: u16) -> i64
+    ensures code { λ r. ⌜ T (code.isCode r) ⌝ }
+    ensures evaluated { λ r. ⌜ ((ns szs : List ℕ) → NamesIn ns szs (now (cells .entry)) → x < length ns
+        → code.evaluated r ≡ Number (spec.cellValue (now (memory .entry)) (firstCell ns x))) ⌝ }
+{
+    cell_value(memory, first_cell(cells, x))
+}
+
+// The value of an array's element, by its index: 34 below zero, 35 at or past the size.
+fn element(cells: &[usize; 32], sizes: &[u16; 32], memory: &[i32; 512], x: u16, v: i64) -> i64
+    requires { ⌜ T (code.isCode v) ⌝ }
+    ensures code { λ r. ⌜ T (code.isCode r) ⌝ }
+    ensures evaluated { λ r. ⌜ ((ns : List ℕ) → NamesIn ns (now (sizes .entry)) (now (cells .entry)) → x < length ns
+        → code.evaluated r ≡ spec.valueAt (now (memory .entry)) (spec.placeOf ns x (code.evaluated v))) ⌝ }
+{
+    if is_fault(v) {
+        return v;
+    }
+    if v < 0 {
+        return fault_code(Reason::IndexNegative);
+    }
+    let i = v as usize;
+    if size_of(sizes, x) <= i {
+        return fault_code(Reason::IndexTooLarge);
+    }
+    cell_after(memory, first_cell(cells, x), i)
+}
