@@ -8,19 +8,25 @@ use borrow.Author.Tests.{lt-ltb, le-ltb}
 use lib.Dec.{T, eqb}
 use lib.IntN.{ℤ}
 use lib.ListN.{length}
-use Rattle.program.specs.Decoding.{decodedEntries, decodedEntry}
+use Rattle.program.specs.Decoding.{decodedEntries, decodedEntry, decodedSizes, decodedCells}
 use Rattle.program.specs.Drawing.{edgeRead, edgeNumbers}
 use Rattle.program.specs.File.{sizes, cellCount}
-use Rattle.program.specs.Graph.{graph, edges, edgeCount, actionOf}
+use Rattle.program.specs.Graph.{Action, graph, edges, edgeCount, actionOf}
 use Rattle.program.specs.Sorted.{actionNamed}
 use Rattle.program.specs.declared.EdgeBytes.{EdgeBytes}
-use Rattle.program.proofs.Laws.{few-cells, edge-faithful, edge-decoded, drawn-edge-read}
+use Rattle.program.specs.declared.Validity.the-variants.{Fit}
+use Rattle.program.proofs.Laws.{ask-fit, turn-fit, few-cells, edge-faithful, edge-decoded, names-decoded, drawn-edge-read}
 use Rattle.semantics.specs.Action.{meaning, effect}
 use Rattle.semantics.specs.Cells.{front}
-use Rattle.semantics.specs.Step.{edgeAt, leaves, edgeEffect}
-use Rattle.semantics.specs.Stepping.{DrawnInto}
-use Rattle.semantics.proofs.Named.{action-named, effect-same}
+use Rattle.semantics.specs.Coding.{EffectIn}
+use Rattle.semantics.specs.Step.{edgeAt, leaves, edgeEffect, stepValidity}
+use Rattle.semantics.specs.Stepping.{DrawnInto, Able}
+use Rattle.semantics.specs.declared.Effect.{Effect}
+use Rattle.semantics.specs.declared.Effect.the-variants.{Stored}
+use Rattle.semantics.proofs.Named.{action-named, stores-inside, effect-same}
 use Rattle.semantics.proofs.Padding.{front-same}
+use Rattle.semantics.proofs.Steps.{memory-fit, leaves-below}
+use Rattle.program.proofs.Tests.{passed}
 
 module _ (s bytes : List ℕ) (nodes count : ℕ) (d : DrawnInto s bytes nodes count) where
   pub drawn-edge : (e : ℕ) → e < count → edgeRead bytes e ≡ edgeNumbers (edgeAt (graph s) e)
@@ -55,3 +61,34 @@ module _ (s bytes : List ℕ) (nodes count : ℕ) (d : DrawnInto s bytes nodes c
   drawn-effect e h m room =
       effect-same (sizes s) (front 512 m) m (λ c l. front-same m (omega (arith, few-cells s (d .fit))) c) (meaning (edgeAt (graph s) e .action))
       (action-named (sizes s) (edgeAt (graph s) e .action) (drawn-named e h))
+
+  -- as the code finds it, over the decoded program and the copied memory
+  pub effect-found : (e : ℕ) → e < count → (m : List ℤ) → length m ≡ cellCount (sizes s)
+      → (ds szs cells : List ℕ) (local : List ℤ) (r : EdgeBytes) (x : Effect)
+      → ds ≡ decodedEntries s → szs ≡ decodedSizes s → cells ≡ decodedCells s → local ≡ front 512 m → r ≡ edgeRead bytes e
+      → EffectIn szs cells local (actionOf (decodedEntry ds) (r .kind) (r .entry)) x
+      → x ≡ edgeEffect (sizes s) (graph s) m e
+  effect-found e h m room ds szs cells local r x a b c f p found =
+      let same : actionOf (decodedEntry ds) (r .kind) (r .entry) ≡ edgeAt (graph s) e .action = ap (λ (l : List ℕ). actionOf (decodedEntry l) (r .kind) (r .entry)) a ∙ drawn-action e r h p in
+      found .gives (sizes s) (rw (b, c) (names-decoded s (d .fit))) (few-cells s (d .fit)) (rw same (drawn-named e h))
+      ∙ ap (λ (y : Action). effect (sizes s) local (meaning y)) same
+      ∙ ap (λ (l : List ℤ). effect (sizes s) l (meaning (edgeAt (graph s) e .action))) f
+      ∙ drawn-effect e h m room
+
+  -- a cell that it stores to is inside the memory
+  pub drawn-inside : (e : ℕ) → e < count → (m : List ℤ) → length m ≡ cellCount (sizes s) → (k : ℕ) (z : ℤ) → edgeEffect (sizes s) (graph s) m e ≡ Stored k z → k < length m
+  unfolding edgeEffect
+  drawn-inside e h m room k z p =
+      let inside = stores-inside (sizes s) m (meaning (edgeAt (graph s) e .action)) (action-named (sizes s) (edgeAt (graph s) e .action) (drawn-named e h)) k z p in
+      omega arith
+
+  -- where no question of a step is refused, the edge can be asked for its effect; and its target is what its bytes say
+  pub able : (node e : ℕ) (m : List ℤ) → stepValidity (sizes s) (graph s) node m e ≡ Fit → Able s bytes nodes count e m
+  unfolding stepValidity
+  able node e m p =
+      let there = leaves-below (graph s) e node (passed (ask-fit _ 15 0 (turn-fit _ 2 p))) in
+      record { drawing = d; exists = omega (arith, d .edge-count); room = memory-fit (sizes s) m (turn-fit _ 0 p) }
+
+  pub drawn-target : (e : ℕ) (r : EdgeBytes) → e < count → r ≡ edgeRead bytes e → r .target ≡ edgeAt (graph s) e .target
+  unfolding edgeNumbers
+  drawn-target e r h p = ap (λ (x : EdgeBytes). x .target) (p ∙ drawn-edge e h)

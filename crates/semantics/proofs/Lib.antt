@@ -8,6 +8,7 @@ pub mod Coded
 pub mod Valued
 pub mod Keys
 pub mod Effects
+pub mod Replies
 pub mod Laws
 pub mod Open
 pub mod Examples

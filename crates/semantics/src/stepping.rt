@@ -14,7 +14,9 @@ use crate::Effect;
 use crate::Outcome;
 use crate::Run;
 use crate::Stepped;
+use crate::evaluator::action;
 use program::Validity;
+use program::decoding;
 use program::drawing;
 use program::file;
 use program::validation;
@@ -126,5 +128,52 @@ fn settled(run: Run, target: u16, effect: Effect, memory: &mut [i32]) -> Stepped
                 outcome: Outcome::Taken,
             }
         }
+    }
+}
+
+// The effect of an edge of a drawn graph in a memory.
+fn edge_effect(
+    program: &[u8],
+    edges: &[u8],
+    nodes: u16,
+    count: u16,
+    edge: u16,
+    memory: &[i32],
+) -> Effect
+    requires { ⌜ Stepping.Able (now program) (now edges) nodes count edge (now memory) ⌝ }
+    ensures { λ r. ⌜ r ≡ spec.edgeEffect (File.sizes (now (program .entry))) (Graph.graph (now (program .entry))) (now (memory .entry)) edge ⌝ }
+{
+    let entries = decoding::entries(program);
+    let sizes = decoding::name_sizes(program);
+    let cells = decoding::name_cells(program);
+    let local = copied(memory);
+    let e = drawing::edge_at(edges, edge);
+    action::effect(&entries, &cells, &sizes, &local, e.kind, e.entry)
+}
+
+// A step over a drawn graph.
+fn step_drawn(
+    run: Run,
+    program: &[u8],
+    edges: &[u8],
+    nodes: u16,
+    count: u16,
+    edge: u16,
+    memory: &mut [i32],
+) -> Stepped
+    requires { ⌜ Stepping.DrawnInto (now program) (now edges) nodes count ⌝ }
+    ensures { λ r. ⌜ Stepping.StepsTo (File.sizes (now (program .entry))) (Graph.graph (now (program .entry))) run edge (now (memory .entry)) (now (memory .exit)) r ⌝ }
+{
+    let v = check_step(program, edges, nodes, count, run.node, edge, memory.len());
+    match v {
+        Validity::Fit => {
+            let found = edge_effect(program, edges, nodes, count, edge, memory);
+            let e = drawing::edge_at(edges, edge);
+            settled(run, e.target, found, memory)
+        }
+        Validity::Refused(x) => Stepped {
+            run,
+            outcome: Outcome::Refused(x),
+        },
     }
 }
