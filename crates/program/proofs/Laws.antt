@@ -7,11 +7,12 @@ use lib.Dec.{T}
 use lib.IntN.{pos}
 use lib.ListN.{length, getD}
 use Rattle.program.specs.Asking.{ask, thenAsk, isRefused, inTurn, askEach}
-use Rattle.program.specs.Decoding.{decodedEntry}
+use Rattle.program.specs.Counting.{capacity}
+use Rattle.program.specs.Decoding.{decodedEntries, decodedEntry, decodedSizes, decodedCells, NamesIn}
 use Rattle.program.specs.Drawing.{over, edgeRead, edgeNumbers}
 use Rattle.program.specs.File.{nameCount, sizeAt, sizes, entryCount, entry, cellsOf, cellCount, firstCell}
 use Rattle.program.specs.FirstSuch.{firstOf, firstSuch}
-use Rattle.program.specs.Graph.{Edge, edges, edgeCount, nodeCount, graphBytes}
+use Rattle.program.specs.Graph.{Edge, edges, edgeCount, nodeCount, actionKind, actionEntry, actionTable, actionOf, graphBytes}
 use Rattle.program.specs.Kind.{isGuarded}
 use Rattle.program.specs.Node.{arithForm, arithTree, booleanForm, booleanTree, commandForm, commandTree}
 use Rattle.program.specs.Questions.{validity, inputValidity, programPart, initialPart}
@@ -22,6 +23,7 @@ use Rattle.program.specs.declared.ArithNode.{ArithNode}
 use Rattle.program.specs.declared.BooleanNode.{BooleanNode}
 use Rattle.program.specs.declared.CommandNode.{CommandNode}
 use Rattle.program.specs.declared.First.the-variants.{At, Nothing}
+use Rattle.program.specs.declared.Table.{Table}
 use Rattle.program.specs.declared.Table.the-variants.{Arithmetic, Boolean, Commands}
 use Rattle.program.specs.declared.Validity.{Validity}
 use Rattle.program.specs.declared.Validity.the-variants.{Fit}
@@ -43,6 +45,7 @@ use Rattle.program.proofs.Inputs
 use Rattle.program.proofs.Made.{made}
 use Rattle.program.proofs.Nodes
 use Rattle.program.proofs.Nodes.{Inside}
+use Rattle.program.proofs.SameTrees
 use Rattle.program.proofs.Sorting
 use Rattle.program.proofs.Tests.{passed}
 use Rattle.program.proofs.Trees
@@ -149,6 +152,10 @@ module _ (es : Entries) where
   command-lower = Forms.command-lower es
 
 -- ---- Decoded entries
+
+-- an entry that is there is decoded
+pub decoded-entry : (s : List ℕ) (t : Table) (n : ℕ) → n < entryCount s t → n < capacity t → decodedEntry (decodedEntries s) t n ≡ entry s t n
+decoded-entry = SameTrees.decoded-entry
 
 -- past a table's capacity every entry is a leaf, so the tree at an entry is the one below the capacity
 module _ (d : List ℕ) where
@@ -325,6 +332,26 @@ module _ (s : List ℕ) (fit : validity s ≡ Fit) where
   -- an edge is read back out of a buffer that the graph was drawn into
   pub drawn-edge-read : (k : ℕ) (d : Edge) → k < edgeCount s → (buffer : List ℕ) → edgeRead (over (graphBytes s) buffer) k ≡ edgeNumbers (getD (edges s) k d)
   drawn-edge-read = EdgeReading.drawn-edge-read s fit
+
+  -- the decoded entries have the file's trees and actions, and the names are decoded
+  pub arith-decoded : (n : ℕ) → n < entryCount s Arithmetic → arithAt (decodedEntry (decodedEntries s)) n ≡ arithAt (entry s) n
+  arith-decoded = SameTrees.arith-decoded s fit
+
+  pub boolean-decoded : (n : ℕ) → n < entryCount s Boolean → booleanAt (decodedEntry (decodedEntries s)) n ≡ booleanAt (entry s) n
+  boolean-decoded = SameTrees.boolean-decoded s fit
+
+  pub command-decoded : (n : ℕ) → n < entryCount s Commands → commandAt (decodedEntry (decodedEntries s)) n ≡ commandAt (entry s) n
+  command-decoded = SameTrees.command-decoded s fit
+
+  pub action-decoded : (kind n : ℕ) → n < entryCount s (actionTable kind) → actionOf (decodedEntry (decodedEntries s)) kind n ≡ actionOf (entry s) kind n
+  action-decoded = SameTrees.action-decoded s fit
+
+  pub edge-decoded : (k : ℕ) (d : Edge) → k < edgeCount s
+      → getD (edges s) k d .action ≡ actionOf (decodedEntry (decodedEntries s)) (actionKind (getD (edges s) k d .action)) (actionEntry (getD (edges s) k d .action))
+  edge-decoded = SameTrees.edge-decoded s fit
+
+  pub names-decoded : NamesIn (sizes s) (decodedSizes s) (decodedCells s)
+  names-decoded = SameTrees.names-decoded s fit
 
 -- ---- The sheet program's input, where it passes questions 1 to 11
 

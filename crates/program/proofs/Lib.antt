@@ -14,6 +14,7 @@ pub mod Fit
 pub mod Operands
 pub mod Trees
 pub mod Forms
+pub mod Filling
 pub mod Decoded
 pub mod Expressions
 pub mod Made
@@ -24,6 +25,7 @@ pub mod Counts
 pub mod Strips
 pub mod Drawings
 pub mod EdgeReading
+pub mod SameTrees
 pub mod Agreeing
 pub mod Inputs
 pub mod Laws

@@ -12,4 +12,5 @@ pub mod Graph
 pub mod Sorted
 pub mod Drawing
 pub mod DrawingParts
+pub mod DecodingParts
 pub mod Examples

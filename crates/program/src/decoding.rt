@@ -2,16 +2,99 @@
 
 ghost use mathlib.Core.Path.{_≡_};
 ghost use Prim.Native.Nat.{_<_, _+_, _*_};
-ghost use lib.ListN.{getD};
+ghost use lib.ListN.{length, getD, set};
+ghost use Rattle.program.specs.Counting;
 ghost use Rattle.program.specs.Decoding as spec;
+ghost use Rattle.program.specs.DecodingParts as parts;
 ghost use Rattle.program.specs.File;
 ghost use Rattle.program.specs.Node;
 use crate::ArithNode;
 use crate::BooleanNode;
 use crate::CommandNode;
+use crate::Entry;
+use crate::Layout;
+use crate::Table;
 use crate::file;
+use crate::validation::uses;
 use signs::Comparison;
 use signs::Operator;
+
+// The four numbers of an entry, at its slot.
+fn put_entry(out: &mut [u16], slot: usize, e: Entry)
+    requires { ⌜ (slot < 1024) × (length (now out) ≡ 4096) ⌝ }
+    ensures { λ _. ⌜ now (out .exit)
+        ≡ set (set (set (set (now (out .entry)) (4 * slot) (e .kind)) (4 * slot + 1) (e .p)) (4 * slot + 2) (e .q)) (4 * slot + 3) (e .r) ⌝ }
+{
+    let at = 4 * slot;
+    out[at] = file::wide(e.kind);
+    out[at + 1] = e.p;
+    out[at + 2] = e.q;
+    out[at + 3] = e.r;
+}
+
+// Entry `n` of the table that starts at `start`, at its slot.
+fn copy_entry(s: &[u8], table: Table, start: usize, n: u16, out: &mut [u16])
+    requires { ⌜ parts.TableAt (now s) table start n × parts.Filled (spec.decodedEntries (now s)) (4 * Counting.slot table n) (now out) ⌝ }
+    ensures { λ _. ⌜ parts.Filled (spec.decodedEntries (now (s .entry))) (4 * Counting.slot table (n + 1)) (now (out .exit)) ⌝ }
+{
+    let e = file::entry_at(s, start + 7 * file::long(n));
+    put_entry(out, uses::slot(table, n), e);
+}
+
+// The entries of a table, as many as there are.
+fn put_table(s: &[u8], l: Layout, table: Table, out: &mut [u16])
+    requires { ⌜ (l ≡ File.layoutOf (now s))
+        × parts.Filled (spec.decodedEntries (now s)) (4 * Counting.slot table 0) (now out) ⌝ }
+    ensures { λ _. ⌜ parts.Filled (spec.decodedEntries (now (s .entry))) (4 * Counting.slot table (Counting.capacity table)) (now (out .exit)) ⌝ }
+{
+    let span = file::span_of(l, table);
+    let start = span.start;
+    let count = file::least(span.count, uses::capacity(table));
+    let mut n: u16 = 0;
+    while n < count {
+        copy_entry(s, table, start, n, out);
+        n += 1;
+    }
+}
+
+// The entries of the three tables, four numbers for each slot.
+pub fn entries(s: &[u8]) -> [u16; 4096]
+    ensures { λ r. ⌜ r ≡ spec.decodedEntries (now (s .entry)) ⌝ }
+{
+    let l = file::layout(s);
+    let mut out = [0u16; 4096];
+    put_table(s, l, Table::Arithmetic, &mut out);
+    put_table(s, l, Table::Boolean, &mut out);
+    put_table(s, l, Table::Commands, &mut out);
+    out
+}
+
+// The sizes of 32 names: 0 where there is none.
+pub fn name_sizes(s: &[u8]) -> [u16; 32]
+    ensures { λ r. ⌜ r ≡ spec.decodedSizes (now (s .entry)) ⌝ }
+{
+    let count = file::least(file::name_count(s), 32);
+    let mut out = [0u16; 32];
+    let mut i: u16 = 0;
+    while i < count {
+        out[file::long(i)] = file::size_at(s, i);
+        i += 1;
+    }
+    out
+}
+
+// Their first cells.
+pub fn name_cells(s: &[u8]) -> [usize; 32]
+    ensures { λ r. ⌜ r ≡ spec.decodedCells (now (s .entry)) ⌝ }
+{
+    let mut out = [0usize; 32];
+    let mut i: u16 = 0;
+    while i < 32 {
+        out[file::long(i)] = file::first_cell(s, i);
+        i += 1;
+    }
+    out
+}
 
 // Two halves of a number, the high one first.
 fn joined(p: u16, q: u16) -> u32

@@ -11,7 +11,7 @@ use crate::Span;
 use crate::Table;
 use crate::reader;
 
-fn wide(b: u8) -> u16
+pub(crate) fn wide(b: u8) -> u16
     ensures { λ r. ⌜ r ≡ b ⌝ }
 {
     b as u16
@@ -194,7 +194,7 @@ pub fn entry(s: &[u8], table: Table, n: u16) -> Entry
     }
 }
 
-fn least(a: u16, b: u16) -> u16
+pub(crate) fn least(a: u16, b: u16) -> u16
     ensures { λ r. ⌜ r ≡ min a b ⌝ }
 {
     if a < b { a } else { b }

@@ -22,7 +22,7 @@ use crate::Sort;
 use crate::Table;
 use crate::Validity;
 
-mod uses;
+pub(crate) mod uses;
 
 use crate::file;
 use crate::kinds;

@@ -17,7 +17,7 @@ use crate::file;
 use crate::kinds;
 
 // The most entries that a table has.
-fn capacity(table: Table) -> u16
+pub(crate) fn capacity(table: Table) -> u16
     ensures { λ r. ⌜ r ≡ spec.capacity table ⌝ }
 {
     let field = file::table_field(table);
@@ -25,7 +25,7 @@ fn capacity(table: Table) -> u16
 }
 
 // The slot of entry `n` of a table.
-pub(super) fn slot(table: Table, n: u16) -> usize
+pub(crate) fn slot(table: Table, n: u16) -> usize
     ensures { λ r. ⌜ r ≡ spec.slot table n ⌝ }
 {
     match table {

@@ -34,9 +34,12 @@ arith-kind-requires c κs = search needs
 returns-3 : tie.Need-returns-3
 unfolding arithForm arithKind capacity tableField slot
 returns-3 c =
-    rw (lt-ltb _ _ (c .before .before .before .before .before .if1 .left))
+    let q = c .before in
+    let p = q .before in
+    let kind = p .before in
+    rw (lt-ltb _ _ (kind .before .before .if1 .left))
     (c .arith-kind .ensures
-    ∙ ap arithKind (slot-read _ Arithmetic _ _ (c .before .before .before .before .if2 .left) refl (c .before .before .before .number-at .ensures) (c .before .before .number-at2 .ensures) (c .before .number-at3 .ensures) refl))
+    ∙ ap arithKind (slot-read _ Arithmetic _ _ (kind .before .if2 .left) refl (kind .number-at .ensures) (p .number-at2 .ensures) (q .number-at3 .ensures) refl))
 
 pub arith-node-spec : {M : Type 1} → statement M
 arith-node-spec = tie.close (tie.spec returns returns-2 number-at-requires number-at-requires-2 number-at-requires-3 arith-kind-requires returns-3)

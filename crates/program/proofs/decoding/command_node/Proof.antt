@@ -40,9 +40,13 @@ command-kind-requires c κs = search needs
 returns-3 : tie.Need-returns-3
 unfolding commandForm commandKind capacity tableField slot
 returns-3 c =
-    rw (lt-ltb _ _ (c .before .before .before .before .before .before .if1 .left))
+    let r = c .before in
+    let q = r .before in
+    let p = q .before in
+    let kind = p .before in
+    rw (lt-ltb _ _ (kind .before .before .if1 .left))
     (c .command-kind .ensures
-    ∙ ap commandKind (slot-read _ Commands _ _ (c .before .before .before .before .before .if2 .left) refl (c .before .before .before .before .number-at .ensures) (c .before .before .before .number-at2 .ensures) (c .before .before .number-at3 .ensures) (c .before .number-at4 .ensures)))
+    ∙ ap commandKind (slot-read _ Commands _ _ (kind .before .if2 .left) refl (kind .number-at .ensures) (p .number-at2 .ensures) (q .number-at3 .ensures) (r .number-at4 .ensures)))
 
 pub command-node-spec : {M : Type 1} → statement M
 command-node-spec = tie.close (tie.spec returns returns-2 add-slot number-at-requires number-at-requires-2 number-at-requires-3 number-at-requires-4 command-kind-requires returns-3)
