@@ -1,5 +1,5 @@
 -- The edges of a drawn graph are the graph's, as they are read out of its bytes.
-use mathlib.Core.Path.{_≡_, _∙_, ap, sym}
+use mathlib.Core.Path.{_≡_, refl, _∙_, ap, sym}
 use mathlib.Core.Bool.{false}
 use mathlib.Core.List.{List}
 use Prim.Native.Nat.{ℕ, _≤_, _<_}
@@ -9,12 +9,16 @@ use lib.Dec.{T, eqb}
 use lib.IntN.{ℤ}
 use lib.ListN.{length}
 use Rattle.program.specs.Decoding.{decodedEntries, decodedEntry, decodedSizes, decodedCells}
-use Rattle.program.specs.Drawing.{edgeRead, edgeNumbers}
+use Rattle.program.specs.Drawing.{drawnBy, drawnBufferBy, edgeRead, edgeNumbers}
 use Rattle.program.specs.File.{sizes, cellCount}
-use Rattle.program.specs.Graph.{Action, graph, edges, edgeCount, actionOf}
+use Rattle.program.specs.Graph.{Action, graph, edges, edgeCount, nodeCount, actionOf}
 use Rattle.program.specs.Sorted.{actionNamed}
 use Rattle.program.specs.declared.EdgeBytes.{EdgeBytes}
-use Rattle.program.specs.declared.Validity.the-variants.{Fit}
+use Rattle.program.specs.Questions.{validity}
+use Rattle.program.specs.declared.Drawn.{Drawn}
+use Rattle.program.specs.declared.Validity.{Validity}
+use Rattle.program.specs.declared.Validity.the-variants.{Fit, Refused}
+use Rattle.program.proofs.Drawings.{array-length}
 use Rattle.program.proofs.Laws.{ask-fit, turn-fit, few-cells, edge-faithful, edge-decoded, names-decoded, drawn-edge-read}
 use Rattle.semantics.specs.Action.{meaning, effect}
 use Rattle.semantics.specs.Cells.{front}
@@ -92,3 +96,25 @@ module _ (s bytes : List ℕ) (nodes count : ℕ) (d : DrawnInto s bytes nodes c
   pub drawn-target : (e : ℕ) (r : EdgeBytes) → e < count → r ≡ edgeRead bytes e → r .target ≡ edgeAt (graph s) e .target
   unfolding edgeNumbers
   drawn-target e r h p = ap (λ (x : EdgeBytes). x .target) (p ∙ drawn-edge e h)
+
+-- what drawing replied and wrote
+pub drawn-validity : (s : List ℕ) (r : Drawn) → r ≡ drawnBy s (validity s) → r .validity ≡ validity s
+unfolding drawnBy
+drawn-validity s r p = by (validity s) p
+  where
+    by : (v : Validity) → r ≡ drawnBy s v → r .validity ≡ v
+    by Fit p = ap (λ (x : Drawn). x .validity) p
+    by (Refused x) p = ap (λ (y : Drawn). y .validity) p
+
+module _ (s before bytes : List ℕ) (r : Drawn) (p : r ≡ drawnBy s (validity s)) where
+  pub drawn-into : bytes ≡ drawnBufferBy s before (validity s) → r .validity ≡ Fit → DrawnInto s bytes (r .nodes) (r .edges)
+  unfolding drawnBy drawnBufferBy nodeCount edgeCount edges
+  drawn-into q f = by (validity s) refl p q
+    where
+      by : (v : Validity) → validity s ≡ v → r ≡ drawnBy s v → bytes ≡ drawnBufferBy s before v → DrawnInto s bytes (r .nodes) (r .edges)
+      by Fit e p q = record { fit = e; buffer = before; drawn = q; node-count = ap (λ (x : Drawn). x .nodes) p; edge-count = ap (λ (x : Drawn). x .edges) p }
+      by (Refused x) e p q = let other : Refused x ≡ Fit = sym (ap (λ (y : Drawn). y .validity) p) ∙ f in absurd (let z : _≡_ {A = ℕ} 0 1 = cc in omega arith)
+
+pub drawn-length : (s before bytes : List ℕ) → validity s ≡ Fit → bytes ≡ drawnBufferBy s before (validity s) → length before ≡ 1785 → length bytes ≡ 1785
+unfolding drawnBufferBy
+drawn-length s before bytes fit q h = ap length (q ∙ ap (drawnBufferBy s before) fit) ∙ array-length s fit before h

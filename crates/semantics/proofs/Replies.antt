@@ -3,11 +3,13 @@ use mathlib.Core.Path.{_≡_, _∙_, ap}
 use mathlib.Core.List.{List}
 use Prim.Native.Nat.{ℕ}
 use lib.IntN.{ℤ}
-use Rattle.program.specs.Graph.{Graph}
+use Rattle.program.specs.File.{sizes}
+use Rattle.program.specs.Graph.{Graph, graph}
+use Rattle.program.specs.Questions.{validity}
 use Rattle.program.specs.declared.Refusal.{Refusal}
 use Rattle.program.specs.declared.Validity.the-variants.{Fit, Refused}
 use Rattle.semantics.specs.Action.{after}
-use Rattle.semantics.specs.Step.{edgeAt, edgeEffect, stepValidity, outcomeBy, unlessRefused, outcome, along, next, step}
+use Rattle.semantics.specs.Step.{edgeAt, edgeEffect, stepValidity, outcomeBy, unlessRefused, outcome, along, next, step, programOutcome, programStep, stepReply}
 use Rattle.semantics.specs.Stepping.{runAfter, Settled, StepsTo}
 use Rattle.semantics.specs.declared.Effect.{Effect}
 use Rattle.semantics.specs.declared.Effect.the-variants.{Undefined as Fails, Unchanged, Stored}
@@ -31,3 +33,17 @@ module _ (ns : List ℕ) (g : Graph) (run : Run) (e : ℕ) (m : List ℤ) where
       record { reply = rw (p, ← q, ← t) (λ i. record { run = k .handed-back i; outcome = k .answer i }); memory = rw (p, ← q) (k .memory ∙ ap (after m) q) }
   step-settled p (Stored c z) q target t m′ r k =
       record { reply = rw (p, ← q, ← t) (λ i. record { run = k .handed-back i; outcome = k .answer i }); memory = rw (p, ← q) (k .memory ∙ ap (after m) q) }
+
+-- the same of a program file: refused by questions 1 to 11, or a step over its graph
+pub record Replied (s : List ℕ) (run : Run) (e : ℕ) (m m′ : List ℤ) (r : Stepped) : Type 0 where
+  pub reply : r ≡ stepReply s (record { run = run; memory = m }) e
+  pub memory : m′ ≡ programStep s (record { run = run; memory = m }) e .memory
+
+module _ (s : List ℕ) (run : Run) (e : ℕ) (m : List ℤ) where
+  pub program-refused : (x : Refusal) → validity s ≡ Refused x → Replied s run e m m (record { run = run; outcome = Refuses x })
+  unfolding stepReply programStep programOutcome next unlessRefused
+  program-refused x p = record { reply = rw p; memory = rw p }
+
+  pub program-replied : validity s ≡ Fit → (m′ : List ℤ) (r : Stepped) → StepsTo (sizes s) (graph s) run e m m′ r → Replied s run e m m′ r
+  unfolding stepReply programStep programOutcome unlessRefused step
+  program-replied p m′ r k = record { reply = rw p (k .reply); memory = rw p (k .memory) }

@@ -177,3 +177,39 @@ fn step_drawn(
         },
     }
 }
+
+impl Run {
+    // At node 0 with no edge taken.
+    pub fn fresh() -> Run
+        ensures { λ r. ⌜ r ≡ spec.fresh ⌝ }
+    {
+        Run { node: 0, count: 0 }
+    }
+
+    // The run that has taken an edge, and the memory with it; or both as they were, where the step is undefined or refused.
+    pub fn step(self, program: &[u8], edge: u16, memory: &mut [i32]) -> Stepped
+        ensures { λ r. ⌜ (r ≡ spec.stepReply (now (program .entry)) (record { run = self; memory = now (memory .entry) }) edge)
+            × (now (memory .exit) ≡ spec.programStep (now (program .entry)) (record { run = self; memory = now (memory .entry) }) edge .memory) ⌝ }
+        ensures numbers { λ r. ⌜ spec.steppedNumbers r
+            ≡ spec.steppedNumbers (spec.stepReply (now (program .entry)) (record { run = self; memory = now (memory .entry) }) edge) ⌝ }
+    {
+        let mut edges = [0u8; 1785];
+        let drawn = drawing::draw_edges(program, &mut edges);
+        let v = drawn.validity;
+        match v {
+            Validity::Fit => step_drawn(
+                self,
+                program,
+                &edges,
+                drawn.nodes,
+                drawn.edges,
+                edge,
+                memory,
+            ),
+            Validity::Refused(x) => Stepped {
+                run: self,
+                outcome: Outcome::Refused(x),
+            },
+        }
+    }
+}

@@ -4,7 +4,7 @@ use mathlib.Core.Path.{_≡_}
 use lib.ListN.{length}
 use Rattle.program.specs.File.{namesField, tableField, programFields, fieldHead}
 use Rattle.program.specs.Questions.{headValidity, headsValidity}
-use Rattle.program.specs.declared.Table.the-variants.{Arithmetic, Boolean, Commands}
+use Rattle.program.specs.declared.Table.the-variants.{Arithmetic, Boolean}
 use Rattle.program.specs.declared.Validity.the-variants.{Fit}
 use Rattle.program.proofs.Asking.{stops, answered, passed, last-asked}
 use Rattle.program.proofs.Reading.{names-wide, table-wide, asked-field}
