@@ -1,6 +1,6 @@
 -- What a number stands for that the evaluators hand on, by whether it is a fault; and what becomes of such numbers.
-use mathlib.Core.Path.{_≡_, refl, sym, _∙_, subst}
-use mathlib.Core.Bool.{Bool, true, false, not, _&&_, true≢false}
+use mathlib.Core.Path.{_≡_, refl, sym, _∙_, subst, ap}
+use mathlib.Core.Bool.{Bool, true, false, not, _&&_, true≢false, cond}
 use mathlib.Core.List.{List}
 use mathlib.Core.Logic.{⊎-elim}
 use Prim.Native.Nat.{ℕ, _+_, _-_, _≤_, _<_}
@@ -20,7 +20,7 @@ use Rattle.signs.specs.declared.Comparison.{Comparison}
 use Rattle.signs.specs.declared.Operator.{Operator}
 use Rattle.signs.specs.declared.Reason.the-variants.{IndexNegative, IndexTooLarge}
 use Rattle.program.specs.Decoding.{NamesIn}
-use Rattle.semantics.specs.Coding.{reasonNumbered, evaluated, decided, isCode}
+use Rattle.semantics.specs.Coding.{earlier, reasonNumbered, evaluated, decided, isCode}
 use Rattle.semantics.specs.Expression.{fault, at, nowhere, placeOf, operated, combine, compareValues, conjoin, andThen, negate}
 use Rattle.semantics.specs.declared.Evaluation.the-variants.{Number, Undefined}
 use Rattle.semantics.specs.declared.Fault.{Fault}
@@ -182,6 +182,38 @@ module _ (a b : ℤ) where
       pub conjoin-false : equal a (pos 1) ≡ false → conjoin (decided a) (decided b) ≡ Known false
       unfolding conjoin
       conjoin-false e = rw (truth-decided a h, truth-decided b k, e)
+
+-- the earlier fault, as the code finds it: it is what the two give, or neither is one
+pub gave : (a b r : ℤ) → SFits w64 a → SFits w64 b → r ≡ earlier (toZ w64 (ofZ w64 a)) (toZ w64 (ofZ w64 b)) → r ≡ earlier a b
+gave a b r f g e = rw (toZ-ofZ w64 a f, toZ-ofZ w64 b g) at e
+
+-- the test for it
+pub fault-first : (a b r : ℤ) {x t : Bool} → r ≡ earlier a b → mag r < 9223372036854775808 → x ≡ isFault (toZ w64 (ofZ w64 r)) → x ≡ t → isFault (earlier a b) ≡ t
+fault-first a b r e h p q = ap isFault (sym e) ∙ tested r (record { sfits = h }) p q
+
+module _ (a b : ℤ) where
+  by-left : (P : ℤ → Type 0) → (isFault a ≡ true → P a) → (isFault a ≡ false → P b) → P (earlier a b)
+  unfolding earlier
+  by-left P x y = by (isFault a) refl
+    where
+      by : (t : Bool) → isFault a ≡ t → P (cond t a b)
+      by true e = x e
+      by false e = y e
+
+  pub earlier-code : T (isCode a) → T (isCode b) → T (isCode (earlier a b))
+  earlier-code x y = by-left (λ z. T (isCode z)) (λ e. x) (λ e. y)
+
+  pub combine-fault : isFault (earlier a b) ≡ true → (o : Operator) → evaluated (earlier a b) ≡ combine o (evaluated a) (evaluated b)
+  combine-fault h o = by-left (λ z. isFault z ≡ true → evaluated z ≡ combine o (evaluated a) (evaluated b)) (λ e k. combine-left a b e o) (λ e k. combine-right a b e k o) h
+
+  pub compare-fault : isFault (earlier a b) ≡ true → (c : Comparison) → decided (earlier a b) ≡ compareValues c (evaluated a) (evaluated b)
+  compare-fault h c = by-left (λ z. isFault z ≡ true → decided z ≡ compareValues c (evaluated a) (evaluated b)) (λ e k. compare-left a b e c) (λ e k. compare-right a b e k c) h
+
+  pub conjoin-fault : isFault (earlier a b) ≡ true → decided (earlier a b) ≡ conjoin (decided a) (decided b)
+  conjoin-fault h = by-left (λ z. isFault z ≡ true → decided z ≡ conjoin (decided a) (decided b)) (λ e k. conjoin-left a b e) (λ e k. conjoin-right a b e k) h
+
+  pub no-faults : isFault (earlier a b) ≡ false → (isFault a ≡ false) × (isFault b ≡ false)
+  no-faults h = by-left (λ z. isFault z ≡ false → (isFault a ≡ false) × (isFault b ≡ false)) (λ e k. absurd (true≢false (sym e ∙ k))) (λ e k. (e, k)) h
 
 -- ---- an index
 

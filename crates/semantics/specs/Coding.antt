@@ -46,6 +46,10 @@ decided (negsuc n) = Known (eqb 0 1)
 unfoldable pub isCode : ℤ → Bool
 isCode z = inRange z || leZ (pos 4294967296) z
 
+-- the fault of two results, the left before the right; where neither is one, the right result
+unfoldable pub earlier : ℤ → ℤ → ℤ
+earlier a b = cond (leZ (pos 4294967296) a) a b
+
 -- a number that stands for the value of a tree in a memory, whatever names are decoded to these sizes and first cells
 pub record ValueIn (szs cells : List ℕ) (m : List ℤ) (a : Arith) (r : ℤ) : Type 0 where
   pub code : T (isCode r)

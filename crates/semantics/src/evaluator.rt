@@ -60,6 +60,13 @@ fn truth_code(b: bool) -> i64
     if b { 1 } else { 0 }
 }
 
+// The fault of two results, the left before the right; where neither is one, the right result.
+fn earlier(a: i64, b: i64) -> i64
+    ensures { λ r. ⌜ r ≡ code.earlier a b ⌝ }
+{
+    if is_fault(a) { a } else { b }
+}
+
 // An operator on two results.
 fn operate(o: Operator, a: i64, b: i64) -> i64
     requires { ⌜ T (code.isCode a) ⌝ }
@@ -67,11 +74,9 @@ fn operate(o: Operator, a: i64, b: i64) -> i64
     ensures code { λ r. ⌜ T (code.isCode r) ⌝ }
     ensures evaluated { λ r. ⌜ code.evaluated r ≡ spec.combine o (code.evaluated a) (code.evaluated b) ⌝ }
 {
-    if is_fault(a) {
-        return a;
-    }
-    if is_fault(b) {
-        return b;
+    let first = earlier(a, b);
+    if is_fault(first) {
+        return first;
     }
     value_code(number::apply(o, a as i32, b as i32))
 }
@@ -82,11 +87,9 @@ fn compare(c: Comparison, a: i64, b: i64) -> i64
     requires { ⌜ T (code.isCode b) ⌝ }
     ensures { λ r. ⌜ code.decided r ≡ spec.compareValues c (code.evaluated a) (code.evaluated b) ⌝ }
 {
-    if is_fault(a) {
-        return a;
-    }
-    if is_fault(b) {
-        return b;
+    let first = earlier(a, b);
+    if is_fault(first) {
+        return first;
     }
     truth_code(number::compares(c, a as i32, b as i32))
 }
@@ -95,11 +98,9 @@ fn compare(c: Comparison, a: i64, b: i64) -> i64
 fn both(a: i64, b: i64) -> i64
     ensures { λ r. ⌜ code.decided r ≡ spec.conjoin (code.decided a) (code.decided b) ⌝ }
 {
-    if is_fault(a) {
-        return a;
-    }
-    if is_fault(b) {
-        return b;
+    let first = earlier(a, b);
+    if is_fault(first) {
+        return first;
     }
     if a == 1 { b } else { 0 }
 }

@@ -1,59 +1,41 @@
--- `evaluator::compare`: the left fault, else the right one, else the comparison of two numbers of 32 bits.
+-- `evaluator::compare`: the earlier fault, else the comparison of two numbers of 32 bits.
 use mathlib.Core.Path.{_≡_, sym, ap, _∙_}
 use mathlib.Core.Bool.{false}
-use mir.Syntax.{w32, w64}
-use mir.Val.{SFits}
+use mir.Syntax.{w64}
 use mir.ValLaws.{toZ-ofZ}
+use Rattle.semantics.specs.Coding.{earlier}
 use Rattle.semantics.specs.declared.Truth.the-variants.{Known}
-use Rattle.semantics.proofs.Coded.{isFault, tested, handed, code-small, narrow, compare-left, compare-right, compare-both}
+use Rattle.semantics.proofs.Coded.{isFault, gave, fault-first, handed, code-small, narrow, compare-fault, no-faults, compare-both}
 use Rattle.semantics.proofs.evaluator.compare.Statement.{statement}
 use Rattle.semantics.proofs.evaluator.compare.Tie as tie
 
+found : (c : tie.After-earlier) → c .earlier .result ≡ earlier (c .before .args .a) (c .before .args .b)
+found c = gave _ _ _ (c .before .fits .a) (c .before .fits .b) (c .earlier .ensures)
+
 returns : tie.Need-returns
 returns c =
-    let s = c .before .before in
-    rw (toZ-ofZ w64 (s .args .a) (s .fits .a))
-    (compare-left (s .args .a) (s .args .b) (tested (s .args .a) (s .fits .a) (c .before .is-fault .ensures) (c .if1 .taken)) (s .args .c))
+    let r = c .before .before in
+    rw (handed (r .earlier .result) (r .earlier .ok), found r)
+    (compare-fault _ _ (fault-first _ _ _ (found r) (r .earlier .ok) (c .before .is-fault .ensures) (c .if1 .taken)) (r .before .args .c))
 
--- the left is no fault, and then the right is none
-left : (c : tie.Else1) → isFault (c .before .before .args .a) ≡ false
-left c =
-    let s = c .before .before in
-    tested (s .args .a) (s .fits .a) (c .before .is-fault .ensures) (c .if1 .left)
+-- neither is a fault
+none : (c : tie.Else1) → (isFault (c .before .before .before .args .a) ≡ false) × (isFault (c .before .before .before .args .b) ≡ false)
+none c = let r = c .before .before in no-faults _ _ (fault-first _ _ _ (found r) (r .earlier .ok) (c .before .is-fault .ensures) (c .if1 .left))
 
-right : (c : tie.Else2) → isFault (c .before .before .before .before .args .b) ≡ false
-right c =
-    let s = c .before .before .before .before in
-    tested (s .args .b) (s .fits .b) (c .before .is-fault2 .ensures) (c .if2 .left)
+cast-compares : tie.Need-cast-compares
+cast-compares c = let s = c .before .before .before in rw (toZ-ofZ w64 (s .args .a) (s .fits .a)) (code-small _ (s .pre .0) (none c .0))
 
-left-fits : (c : tie.Else2) → SFits w32 (c .before .before .before .before .args .a)
-left-fits c = let s = c .before .before .before .before in code-small (s .args .a) (s .pre .0) (left (c .before .before))
-
-right-fits : (c : tie.Else2) → SFits w32 (c .before .before .before .before .args .b)
-right-fits c = let s = c .before .before .before .before in code-small (s .args .b) (s .pre .1) (right c)
+cast-compares-2 : tie.Need-cast-compares-2
+cast-compares-2 c = let s = c .before .before .before in rw (toZ-ofZ w64 (s .args .b) (s .fits .b)) (code-small _ (s .pre .1) (none c .1))
 
 returns-2 : tie.Need-returns-2
 returns-2 c =
-    let s = c .before .before .before .before in
-    let fault = tested (s .args .b) (s .fits .b) (c .before .is-fault2 .ensures) (c .if2 .taken) in
-    rw (toZ-ofZ w64 (s .args .b) (s .fits .b)) (compare-right (s .args .a) (s .args .b) (left (c .before .before)) fault (s .args .c))
-
-cast-compares : tie.Need-cast-compares
-cast-compares c = let s = c .before .before .before .before in rw (toZ-ofZ w64 (s .args .a) (s .fits .a)) (left-fits c)
-
-cast-compares-2 : tie.Need-cast-compares-2
-cast-compares-2 c = let s = c .before .before .before .before in rw (toZ-ofZ w64 (s .args .b) (s .fits .b)) (right-fits c)
-
-returns-3 : tie.Need-returns-3
-returns-3 c =
     let e = c .before .before in
-    let s = e .before .before .before .before in
+    let s = e .before .before .before in
     rw (handed (c .truth-code .result) (c .truth-code .ok))
     (c .truth-code .ensures
-    ∙ ap Known (c .before .compares .ensures ∙ rw (narrow (s .args .a) (left-fits e), narrow (s .args .b) (right-fits e)))
-    ∙ sym (compare-both (s .args .a) (s .args .b) (left (e .before .before)) (right e) (s .args .c)))
+    ∙ ap Known (c .before .compares .ensures ∙ rw (narrow (s .args .a) (code-small _ (s .pre .0) (none e .0)), narrow (s .args .b) (code-small _ (s .pre .1) (none e .1))))
+    ∙ sym (compare-both (s .args .a) (s .args .b) (none e .0) (none e .1) (s .args .c)))
 
 pub compare-spec : {M : Type 1} → statement M
-compare-spec =
-    tie.close
-    (tie.spec (λ c κs. tt) returns (λ c κs. tt) returns-2 cast-compares cast-compares-2 (λ c κs. tt) (λ c κs. tt) returns-3)
+compare-spec = tie.close (tie.spec (λ c κs. tt) (λ c κs. tt) returns cast-compares cast-compares-2 (λ c κs. tt) (λ c κs. tt) returns-2)
