@@ -55,7 +55,7 @@ lower m h = rw (made-entry m) (lt-ltb _ _ h)
 pub done-named : (ns : List ℕ) (c : Command) → commandNamed ns c ≡ true → booleanNamed ns (done c) ≡ true
 unfolding commandNamed booleanNamed done
 done-named ns (guarded n b c) h = two (booleanNamed ns b) (commandNamed ns c) h .0
-done-named ns (choice n c d) h = let parts = two (commandNamed ns c) (commandNamed ns d) h in both (done-named ns c (parts .0)) (done-named ns d (parts .1))
+done-named ns (choice n c d) h = let parts = two (commandNamed ns c) (commandNamed ns d) h in cc (done-named ns c (parts .0), done-named ns d (parts .1))
 done-named ns (skip n) h = refl
 done-named ns (assign n x a) h = refl
 done-named ns (store n x i a) h = refl

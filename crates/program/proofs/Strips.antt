@@ -13,7 +13,8 @@ use lib.Dec.{ltb}
 use borrow.Author.Tests.{lt-ltb, le-ltb, ltb-true, ltb-false}
 use Rattle.program.specs.File.{entry}
 use Rattle.program.specs.Drawing.{over}
-use Rattle.program.specs.DrawingParts.{overAt, edgeRow, Strip, strip, edgeStrip, partAt, constructBy, constructOf, Room, Drew}
+use Rattle.program.specs.Node.{commandKind}
+use Rattle.program.specs.DrawingParts.{overAt, edgeRow, Strip, strip, edgeStrip, partAt, construct, constructBy, constructOf, Room, Drew}
 use Rattle.program.specs.Graph.{guardAction, part, actionKind, actionEntry, wordBytes, edgeBytes}
 use Rattle.program.specs.Syntax.{Command, skip, commandEntry}
 use Rattle.program.specs.Tree.{commandNode, commandTrees, commandAt}
@@ -149,7 +150,7 @@ floor-low n (Choice p q) = omega arith
 
 -- any other kind than those with parts
 pub leaf-kind : (k p q r : ℕ) → (k ≡ 3 → ⊥) → (k ≡ 4 → ⊥) → (k ≡ 5 → ⊥) → (k ≡ 6 → ⊥) → (k ≡ 7 → ⊥) → Leaf ≡ constructBy (record { kind = k; p = p; q = q; r = r })
-unfolding constructBy
+unfolding construct constructBy commandKind
 leaf-kind =
     by-kind _
     (λ p q r a b c d e. refl)
@@ -177,7 +178,7 @@ module _ (s : List ℕ) where
   skip-strip n a b f = refl
 
   node-strip : (n k p q r a b f : ℕ) → strip (commandNode (entry s) (commandTrees (entry s) n) n (record { kind = k; p = p; q = q; r = r })) a b f ≡ drawnAs s n (constructBy (record { kind = k; p = p; q = q; r = r })) a b f
-  unfolding commandNode constructBy drawnAs firstAs restAs followed strip edgeStrip part guardAction flatMap edgeBytes edgeRow wordBytes actionKind actionEntry commandEntry
+  unfolding commandNode construct constructBy commandKind drawnAs firstAs restAs followed strip edgeStrip part guardAction flatMap edgeBytes edgeRow wordBytes actionKind actionEntry commandEntry
   node-strip n =
       by-kind _
       (λ p q r a b f. refl)

@@ -4,12 +4,15 @@ use mathlib.Core.Path.{_≡_}
 use mathlib.Core.Bool.{cond}
 use mathlib.Core.List.{List, [], _∷_, _++_, flatMap}
 use lib.Dec.{ltb}
-use lib.ListN.{length, take, drop, getD}
+use lib.ListN.{length, take, drop}
 use Rattle.program.specs.Drawing.{over}
 use Rattle.program.specs.File.{tableStart, entry}
 use Rattle.program.specs.Graph.{part, wordBytes, edgeBytes, edgeCount, nodeCount, graphBytes}
+use Rattle.program.specs.Node.{commandKind}
 use Rattle.program.specs.Syntax.{Command}
 use Rattle.program.specs.Tree.{commandBelow, commandTrees}
+use Rattle.program.specs.declared.CommandNode.{CommandNode}
+use Rattle.program.specs.declared.CommandNode.the-variants.{Skip, Assign, Store, Sequence as SequenceNode, Conditional as ConditionalNode, Iteration as IterationNode, Guarded as GuardedNode, Choice as ChoiceNode}
 use Rattle.program.specs.declared.Entry.{Entry}
 use Rattle.program.specs.declared.Table.the-variants.{Commands}
 use Rattle.program.specs.declared.drawing.Construct.{Construct}
@@ -60,21 +63,19 @@ pub record Ready (s : List ℕ) (start : ℕ) (x : Strip) (at size : ℕ) : Type
   pub commands : CommandsAt s start
   pub room : Room x at size
 
--- what the drawing of a command goes by: its kind, and the entries of its parts
+-- what the drawing of a command goes by: how it is built of its parts, and the parts' entries
+unfoldable pub construct : CommandNode → Construct
+construct Skip = Leaf
+construct (Assign x a) = Leaf
+construct (Store x i a) = Leaf
+construct (SequenceNode p q) = Sequence p q
+construct (ConditionalNode p) = Conditional p
+construct (IterationNode p) = Iteration p
+construct (GuardedNode g p) = Guarded g p
+construct (ChoiceNode p q) = Choice p q
+
 unfoldable pub constructBy : Entry → Construct
-constructBy e =
-    getD
-    (Leaf
-    ∷ Leaf
-    ∷ Leaf
-    ∷ Sequence (e .p) (e .q)
-    ∷ Conditional (e .p)
-    ∷ Iteration (e .p)
-    ∷ Guarded (e .p) (e .q)
-    ∷ Choice (e .p) (e .q)
-    ∷ [])
-    (e .kind)
-    Leaf
+constructBy e = construct (commandKind e)
 
 -- the same of entry n, as a part of entry bound: a reference that is not lower is a leaf
 unfoldable pub constructOf : List ℕ → ℕ → ℕ → Construct

@@ -218,9 +218,12 @@ module _ (a b : ℤ) where
 -- ---- an index
 
 -- one that is not below zero is cast to a natural number
-pub natural : (z : ℤ) → SFits w64 z → ltZ z (pos 0) ≡ false → T (nonNeg z) × Fits w64 (natAbs z)
-natural (pos n) f e = (tt, record { fits = omega (arith, f .sfits) })
-natural (negsuc n) f e = absurd (true≢false e)
+natural-number : (z : ℤ) → SFits w64 z → ltZ z (pos 0) ≡ false → T (nonNeg z) × Fits w64 (natAbs z)
+natural-number (pos n) f e = (tt, record { fits = omega (arith, f .sfits) })
+natural-number (negsuc n) f e = absurd (true≢false e)
+
+pub natural : (z : ℤ) → SFits w64 z → ltZ z (pos 0) ≡ false → T (nonNeg (toZ w64 (ofZ w64 z))) × Fits w64 (natAbs (toZ w64 (ofZ w64 z)))
+natural z f e = rw (toZ-ofZ w64 z f) (natural-number z f e)
 
 -- a fault's number is a natural one
 pub fault-natural : (z : ℤ) → SFits w64 z → isFault z ≡ true → T (nonNeg z) × Fits w64 (natAbs z)

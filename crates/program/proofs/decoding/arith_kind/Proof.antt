@@ -20,36 +20,11 @@ returns : tie.Need-returns
 unfolding arithKind
 returns c = rw (c .before .before .match .keys1) (ap Number (toZ-ofZ w32 _ (record { sfits = c .signed .ok }) ∙ c .signed .ensures ∙ ap signed32 (c .before .joined .ensures)))
 
-returns-2 : tie.Need-returns-2
-unfolding arithKind
-returns-2 c = rw (c .match .keys2)
-
-returns-3 : tie.Need-returns-3
-unfolding arithKind
-returns-3 c = rw (c .match .keys3)
-
-returns-4 : tie.Need-returns-4
-unfolding arithKind
-returns-4 c = rw (c .match .keys4)
-
-returns-5 : tie.Need-returns-5
-unfolding arithKind
-returns-5 c = rw (c .match .keys5)
-
-returns-6 : tie.Need-returns-6
-unfolding arithKind
-returns-6 c = rw (c .match .keys6)
-
-returns-7 : tie.Need-returns-7
-unfolding arithKind
-returns-7 c = rw (c .match .keys7)
-
-returns-8 : tie.Need-returns-8
-unfolding arithKind
-returns-8 c = rw (c .match .keys8)
-
 returns-9 : tie.Need-returns-9
 returns-9 c = arith-other _ _ _ _ (c .match .rest)
 
 pub arith-kind-spec : {M : Type 1} → statement M
-arith-kind-spec = tie.close (tie.spec joined-requires signed-requires returns returns-2 returns-3 returns-4 returns-5 returns-6 returns-7 returns-8 returns-9)
+unfolding arithKind
+arith-kind-spec =
+    tie.close
+    (tie.spec joined-requires signed-requires returns (λ c. rw (c .match .keys2)) (λ c. rw (c .match .keys3)) (λ c. rw (c .match .keys4)) (λ c. rw (c .match .keys5)) (λ c. rw (c .match .keys6)) (λ c. rw (c .match .keys7)) (λ c. rw (c .match .keys8)) returns-9)

@@ -19,27 +19,13 @@ returns-2 : tie.Need-returns-2
 unfolding arithForm arithKind decodedEntry capacity tableField signed32
 returns-2 c = rw (lt-ltb _ _ (c .before .if1 .left), le-ltb _ _ (c .if2 .taken))
 
-number-at-requires : tie.Need-number-at-requires
-number-at-requires c κs = search needs
-
-number-at-requires-2 : tie.Need-number-at-requires-2
-number-at-requires-2 c κs = search needs
-
-number-at-requires-3 : tie.Need-number-at-requires-3
-number-at-requires-3 c κs = search needs
-
-arith-kind-requires : tie.Need-arith-kind-requires
-arith-kind-requires c κs = search needs
-
 returns-3 : tie.Need-returns-3
 unfolding arithForm arithKind capacity tableField slot
 returns-3 c =
-    let q = c .before in
-    let p = q .before in
-    let kind = p .before in
+    let kind = c .before .before .before in
     rw (lt-ltb _ _ (kind .before .before .if1 .left))
     (c .arith-kind .ensures
-    ∙ ap arithKind (slot-read _ Arithmetic _ _ (kind .before .if2 .left) refl (kind .number-at .ensures) (p .number-at2 .ensures) (q .number-at3 .ensures) refl))
+    ∙ ap arithKind (slot-read _ Arithmetic _ _ (kind .before .if2 .left) refl (kind .number-at .ensures) (c .before .before .number-at2 .ensures) (c .before .number-at3 .ensures) refl))
 
 pub arith-node-spec : {M : Type 1} → statement M
-arith-node-spec = tie.close (tie.spec returns returns-2 number-at-requires number-at-requires-2 number-at-requires-3 arith-kind-requires returns-3)
+arith-node-spec = tie.close (tie.spec returns returns-2 (λ c κs. search needs) (λ c κs. search needs) (λ c κs. search needs) (λ c κs. search needs) returns-3)

@@ -19,30 +19,13 @@ returns-2 : tie.Need-returns-2
 unfolding booleanForm booleanKind decodedEntry capacity tableField
 returns-2 c = rw (lt-ltb _ _ (c .before .if1 .left), le-ltb _ _ (c .if2 .taken))
 
-add-slot : tie.Need-add-slot
-add-slot c = search needs
-
-number-at-requires : tie.Need-number-at-requires
-number-at-requires c κs = search needs
-
-number-at-requires-2 : tie.Need-number-at-requires-2
-number-at-requires-2 c κs = search needs
-
-number-at-requires-3 : tie.Need-number-at-requires-3
-number-at-requires-3 c κs = search needs
-
-boolean-kind-requires : tie.Need-boolean-kind-requires
-boolean-kind-requires c κs = search needs
-
 returns-3 : tie.Need-returns-3
 unfolding booleanForm booleanKind capacity tableField slot
 returns-3 c =
-    let q = c .before in
-    let p = q .before in
-    let kind = p .before in
+    let kind = c .before .before .before in
     rw (lt-ltb _ _ (kind .before .before .if1 .left))
     (c .boolean-kind .ensures
-    ∙ ap booleanKind (slot-read _ Boolean _ _ (kind .before .if2 .left) refl (kind .number-at .ensures) (p .number-at2 .ensures) (q .number-at3 .ensures) refl))
+    ∙ ap booleanKind (slot-read _ Boolean _ _ (kind .before .if2 .left) refl (kind .number-at .ensures) (c .before .before .number-at2 .ensures) (c .before .number-at3 .ensures) refl))
 
 pub boolean-node-spec : {M : Type 1} → statement M
-boolean-node-spec = tie.close (tie.spec returns returns-2 add-slot number-at-requires number-at-requires-2 number-at-requires-3 boolean-kind-requires returns-3)
+boolean-node-spec = tie.close (tie.spec returns returns-2 (λ c. search needs) (λ c κs. search needs) (λ c κs. search needs) (λ c κs. search needs) (λ c κs. search needs) returns-3)

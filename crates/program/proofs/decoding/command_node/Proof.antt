@@ -19,34 +19,13 @@ returns-2 : tie.Need-returns-2
 unfolding commandForm commandKind decodedEntry capacity tableField
 returns-2 c = rw (lt-ltb _ _ (c .before .if1 .left), le-ltb _ _ (c .if2 .taken))
 
-add-slot : tie.Need-add-slot
-add-slot c = search needs
-
-number-at-requires : tie.Need-number-at-requires
-number-at-requires c κs = search needs
-
-number-at-requires-2 : tie.Need-number-at-requires-2
-number-at-requires-2 c κs = search needs
-
-number-at-requires-3 : tie.Need-number-at-requires-3
-number-at-requires-3 c κs = search needs
-
-number-at-requires-4 : tie.Need-number-at-requires-4
-number-at-requires-4 c κs = search needs
-
-command-kind-requires : tie.Need-command-kind-requires
-command-kind-requires c κs = search needs
-
 returns-3 : tie.Need-returns-3
 unfolding commandForm commandKind capacity tableField slot
 returns-3 c =
-    let r = c .before in
-    let q = r .before in
-    let p = q .before in
-    let kind = p .before in
+    let kind = c .before .before .before .before in
     rw (lt-ltb _ _ (kind .before .before .if1 .left))
     (c .command-kind .ensures
-    ∙ ap commandKind (slot-read _ Commands _ _ (kind .before .if2 .left) refl (kind .number-at .ensures) (p .number-at2 .ensures) (q .number-at3 .ensures) (r .number-at4 .ensures)))
+    ∙ ap commandKind (slot-read _ Commands _ _ (kind .before .if2 .left) refl (kind .number-at .ensures) (c .before .before .before .number-at2 .ensures) (c .before .before .number-at3 .ensures) (c .before .number-at4 .ensures)))
 
 pub command-node-spec : {M : Type 1} → statement M
-command-node-spec = tie.close (tie.spec returns returns-2 add-slot number-at-requires number-at-requires-2 number-at-requires-3 number-at-requires-4 command-kind-requires returns-3)
+command-node-spec = tie.close (tie.spec returns returns-2 (λ c. search needs) (λ c κs. search needs) (λ c κs. search needs) (λ c κs. search needs) (λ c κs. search needs) (λ c κs. search needs) returns-3)

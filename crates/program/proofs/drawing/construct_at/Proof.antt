@@ -3,7 +3,8 @@ use borrow.Author.Needs.{needs}
 use borrow.Author.Tests.{lt-ltb, le-ltb}
 use mathlib.Core.Path.{_≡_}
 use native.Mathlib.Omega.{arith}
-use Rattle.program.specs.DrawingParts.{constructOf, constructBy}
+use Rattle.program.specs.DrawingParts.{construct, constructOf, constructBy}
+use Rattle.program.specs.Node.{commandKind}
 use Rattle.program.specs.File.{entry}
 use Rattle.program.specs.declared.Table.the-variants.{Commands}
 use Rattle.program.proofs.Reading.{entry-read}
@@ -33,27 +34,27 @@ entry-at-requires : tie.Need-entry-at-requires
 entry-at-requires c κs = search needs
 
 returns-2 : tie.Need-returns-2
-unfolding constructOf constructBy
+unfolding construct constructOf constructBy commandKind
 returns-2 c =
     rw (lt-ltb _ _ (c .before .before .before .if1 .left), ← read (c .before), c .match .keys1)
 
 returns-3 : tie.Need-returns-3
-unfolding constructOf constructBy
+unfolding construct constructOf constructBy commandKind
 returns-3 c =
     rw (lt-ltb _ _ (c .before .before .before .if1 .left), ← read (c .before), c .match .keys2)
 
 returns-4 : tie.Need-returns-4
-unfolding constructOf constructBy
+unfolding construct constructOf constructBy commandKind
 returns-4 c =
     rw (lt-ltb _ _ (c .before .before .before .if1 .left), ← read (c .before), c .match .keys3)
 
 returns-5 : tie.Need-returns-5
-unfolding constructOf constructBy
+unfolding construct constructOf constructBy commandKind
 returns-5 c =
     rw (lt-ltb _ _ (c .before .before .before .if1 .left), ← read (c .before), c .match .keys4)
 
 returns-6 : tie.Need-returns-6
-unfolding constructOf constructBy
+unfolding construct constructOf constructBy commandKind
 returns-6 c =
     rw (lt-ltb _ _ (c .before .before .before .if1 .left), ← read (c .before), c .match .keys5)
 

@@ -40,9 +40,7 @@ returns-2 c =
     )
 
 cast-i : tie.Need-cast-i
-cast-i c =
-    let s = c .before .before .before in
-    rw (toZ-ofZ w64 (s .args .v) (s .fits .v)) (natural (s .args .v) (s .fits .v) (not-negative c))
+cast-i c = natural _ (c .before .before .before .fits .v) (not-negative c)
 
 returns-3 : tie.Need-returns-3
 unfolding valueAt

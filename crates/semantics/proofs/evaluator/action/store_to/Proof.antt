@@ -40,9 +40,7 @@ returns-2 c =
     λ ns names few t. rw (index-negative ns (s .args .x) (s .args .v) (no-fault (c .before .before)) below) (c .undefined .ensures)
 
 cast-i : tie.Need-cast-i
-cast-i c =
-    let s = c .before .before .before in
-    rw (toZ-ofZ w64 (s .args .v) (s .fits .v)) (natural (s .args .v) (s .fits .v) (not-negative c))
+cast-i c = natural _ (c .before .before .before .fits .v) (not-negative c)
 
 returns-3 : tie.Need-returns-3
 unfolding storeTo
