@@ -1,6 +1,5 @@
 -- A program decoded once, for the evaluators of the crates above: the entries of the three tables as numbers in one list, and the names' sizes and
--- first
--- cells. Document 01 has no word for it; the laws of `proofs/SameTrees` say that a decoded entry has the tree of the file's own.
+-- first cells. Document 01 has no word for it; the laws of `proofs/SameTrees` say that a decoded entry has the tree of the file's own.
 use mathlib.Core.Path.{_≡_}
 use Prim.Native.Nat.{ℕ, _+_, _*_, _-_, _≤_, _<_}
 use mathlib.Core.Bool.{cond}
