@@ -67,7 +67,7 @@ module _ (edges entries szs cells : List ℕ) (count : ℕ) (links : List ℕ) (
   module _ (s : List ℕ) (y : Ready s edges entries szs cells count) where
     leaves-by : (k : ℕ) → k < count → eqb (sourceIn edges k) node ≡ leaves (graph s) k node
     unfolding sourceIn
-    leaves-by k h = drawn-leaves s edges _ count (y .drawing) k node (edgeRead edges k) h refl
+    leaves-by k h = drawn-leaves s edges _ count (y .drawn .drawing) k node (edgeRead edges k) h refl
 
     -- no edge before is the lowest defined; and none is where there is no further one
     fails : (e : ℕ) → Followed edges entries szs cells count node m e → (k : ℕ) → k < e → k < count
@@ -80,13 +80,13 @@ module _ (edges entries szs cells : List ℕ) (count : ℕ) (links : List ℕ) (
 
     pub none-chosen : (e : ℕ) → Followed edges entries szs cells count node m e → count ≤ e → lowestDefined (sizes s) (graph s) node m ≡ Nothing
     unfolding lowestDefined
-    none-chosen e at h = none-such _ _ (λ k l. fails e at k (omega (arith, y .drawing .edge-count)) (omega (arith, y .drawing .edge-count)))
+    none-chosen e at h = none-such _ _ (λ k l. fails e at k (omega (arith, y .drawn .drawing .edge-count)) (omega (arith, y .drawn .drawing .edge-count)))
 
   -- as the code reads an edge and finds its effect
   module _ (e : ℕ) (h : e < count) (at : Followed edges entries szs cells count node m e)
       (r : EdgeBytes) (x : Effect) (read : r ≡ edgeRead edges e) (found : EffectIn szs cells m (actionOf (decodedEntry entries) (r .kind) (r .entry)) x) where
     effect-there : (s : List ℕ) → Ready s edges entries szs cells count → x ≡ edgeEffect (sizes s) (graph s) m e
-    effect-there s y = effect-read s edges _ count (y .drawing) e h m entries szs cells r x (y .entries-decoded) (y .sizes-decoded) (y .cells-decoded) read found
+    effect-there s y = effect-read s edges _ count (y .drawn .drawing) e h m entries szs cells r x (y .entries-decoded) (y .sizes-decoded) (y .cells-decoded) read found
 
     pub next-followed : isDefined x ≡ false → Followed edges entries szs cells count node m (getD links (129 + e) 0)
     next-followed none =
@@ -108,7 +108,7 @@ module _ (edges entries szs cells : List ℕ) (count : ℕ) (links : List ℕ) (
               rw defined
               (first-such _ _ e
               (record {
-                below = omega (arith, y .drawing .edge-count);
+                below = omega (arith, y .drawn .drawing .edge-count);
                 passes = rw (sym (leaves-by s y e h), eq-eqb (sourceIn edges e) node (at .here h)) (ap isDefined (sym (effect-there s y)) ∙ defined);
                 before = λ k l. fails s y e at k l (omega arith);
               }));

@@ -108,9 +108,11 @@ module _ (source : ℕ → ℕ) where
       unfolding first
       linked-more = record { room = length-set first (source e) e ∙ first-room; lowest = lowest-more; later = later-more }
 
-    -- as a loop goes that counts down
-    pub linked-next : (links : List ℕ) (k node : ℕ) → 0 < k → k ≤ count → node ≡ source (k - 1) → node < 129 → Linked source count k links
-        → Linked source count (k - 1) (set (set links (129 + (k - 1)) (getD links node 0)) node (k - 1))
-    linked-next links k node a b p inside l =
-        let one-less : k ≡ suc (k - 1) = omega arith in
-        rw p (linked-more links (k - 1) (omega arith) (subst (λ (n : ℕ). n < 129) p inside) (subst (λ (i : ℕ). Linked source count i links) one-less l))
+    -- as a loop goes that counts those linked
+    pub linked-next : (links : List ℕ) (k e node : ℕ) → k < count → e ≡ count - 1 - k → node ≡ source e → node < 129 → Linked source count (count - k) links
+        → Linked source count (count - (k + 1)) (set (set links (129 + e) (getD links node 0)) node e)
+    linked-next links k e node h p q inside l =
+        let before : count - k ≡ suc e = omega arith in
+        let after : e ≡ count - (k + 1) = omega arith in
+        rw q (subst (λ (i : ℕ). Linked source count i (set (set links (129 + e) (getD links (source e) 0)) (source e) e)) after
+        (linked-more links e (omega arith) (subst (λ (n : ℕ). n < 129) q inside) (subst (λ (i : ℕ). Linked source count i links) before l)))

@@ -100,7 +100,7 @@ module _ (s bytes entries szs cells : List ℕ) (count : ℕ) (y : Ready s bytes
   reached-more budget left start run m reached some far x chosen defined r read run′ p m′ q =
       record {
         same = reached .same ∙ run-along _ _ (record { run = run; memory = m }) left (x .edge) some far found ∙ ap (runFrom (left - 1) (sizes s) (graph s)) moved;
-        inside = omega (arith, target, ap (λ (a : Run). a .node) p, few-nodes s (y .drawing .fit), inside);
+        inside = omega (arith, target, ap (λ (a : Run). a .node) p, few-nodes s (y .drawn .drawing .fit), inside);
       }
     where
       found : lowestDefined (sizes s) (graph s) (run .node) m ≡ At (x .edge)
@@ -110,7 +110,7 @@ module _ (s bytes entries szs cells : List ℕ) (count : ℕ) (y : Ready s bytes
       there = leaves-below (graph s) (x .edge) (run .node) (lowest-found (sizes s) (graph s) (run .node) m (x .edge) found .0)
 
       target : r .target ≡ edgeAt (graph s) (x .edge) .target
-      target = drawn-target s bytes _ count (y .drawing) (x .edge) r (omega (arith, there, y .drawing .edge-count)) read
+      target = drawn-target s bytes _ count (y .drawn .drawing) (x .edge) r (omega (arith, there, y .drawn .drawing .edge-count)) read
 
       inside : edgeAt (graph s) (x .edge) .target < graph s .fresh
       inside = edge-inside s (x .edge) _ there .target-inside

@@ -21,10 +21,14 @@ use Rattle.semantics.specs.declared.Ending.the-variants.{Arrived, Spent}
 use Rattle.semantics.specs.declared.Run.{Run}
 use Rattle.semantics.specs.declared.running.Choice.{Choice}
 
--- a well-formed program as a run has it: drawn and decoded
-pub record Ready (s edges entries szs cells : List ℕ) (count : ℕ) : Type 0 where
+-- a well-formed program whose graph was drawn, whatever the number of its nodes
+pub record DrawnEdges (s bytes : List ℕ) (count : ℕ) : Type 0 where
   pub nodes : ℕ
-  pub drawing : DrawnInto s edges nodes count
+  pub drawing : DrawnInto s bytes nodes count
+
+-- and as a run has it: decoded too
+pub record Ready (s edges entries szs cells : List ℕ) (count : ℕ) : Type 0 where
+  pub drawn : DrawnEdges s edges count
   pub entries-decoded : entries ≡ decodedEntries s
   pub sizes-decoded : szs ≡ decodedSizes s
   pub cells-decoded : cells ≡ decodedCells s
@@ -55,7 +59,7 @@ widened c = record { run = c .run; memory = front 512 (c .memory) }
 unfoldable pub widenedResult : Result → Result
 widenedResult r = record { ending = r .ending; final = widened (r .final) }
 
--- a drawn program, and a memory that has the names' cells
-pub record Runnable (s bytes : List ℕ) (nodes count : ℕ) (m : List ℤ) : Type 0 where
-  pub drawing : DrawnInto s bytes nodes count
+-- and with a memory that has the names' cells
+pub record Runnable (s bytes : List ℕ) (count : ℕ) (m : List ℤ) : Type 0 where
+  pub drawn : DrawnEdges s bytes count
   pub room : length m ≡ cellCount (sizes s)

@@ -98,9 +98,9 @@ fn compare(c: Comparison, a: i64, b: i64) -> i64
 fn both(a: i64, b: i64) -> i64
     ensures { λ r. ⌜ code.decided r ≡ spec.conjoin (code.decided a) (code.decided b) ⌝ }
 {
-    let first = earlier(a, b);
-    if is_fault(first) {
-        return first;
+    let fault = earlier(a, b);
+    if is_fault(fault) {
+        return fault;
     }
     if a == 1 { b } else { 0 }
 }

@@ -2,16 +2,16 @@
 
 ghost use mathlib.Core.Path.{_≡_};
 ghost use mathlib.Core.List.{List};
-ghost use Prim.Native.Nat.{ℕ, _<_};
-ghost use lib.ListN.{getD};
+ghost use Prim.Native.Nat.{ℕ, _<_, _≤_};
+ghost use lib.ListN.{length, getD};
 ghost use Rattle.program.specs.File;
 ghost use Rattle.program.specs.Graph;
 ghost use Rattle.semantics.specs.Action;
 ghost use Rattle.semantics.specs.Budget as spec;
+ghost use Rattle.semantics.specs.Cells;
 ghost use Rattle.semantics.specs.Links;
 ghost use Rattle.semantics.specs.Running;
 ghost use Rattle.semantics.specs.Step;
-ghost use Rattle.semantics.specs.Stepping;
 use crate::Effect;
 use crate::Ended;
 use crate::Ending;
@@ -33,19 +33,20 @@ struct Choice {
     effect: Effect,
 }
 
-// The edges out of each node, linked from the lowest on.
+// The edges out of each node, linked from the lowest on: each edge, the last first, is put before those of its node.
 fn linked(edges: &[u8], count: u16) -> [u16; 384]
     requires { ⌜ Links.Linkable (now edges) count ⌝ }
     ensures { λ r. ⌜ Links.Linked (Links.sourceIn (now (edges .entry))) count 0 r ⌝ }
 {
     let mut links = [255u16; 384];
-    let mut e: u16 = count;
-    while 0 < e {
-        e -= 1;
+    let mut k: u16 = 0;
+    while k < count {
+        let e = count - 1 - k;
         let drawn = drawing::edge_at(edges, e);
         let node = drawn.source as usize;
         links[129 + e as usize] = links[node];
         links[node] = e;
+        k += 1;
     }
     links
 }
@@ -63,21 +64,6 @@ fn is_defined(effect: Effect) -> bool
         Effect::Undefined(_) => false,
         Effect::Unchanged => true,
         Effect::Stored { cell: _, value: _ } => true,
-    }
-}
-
-// What an effect stores, in a memory; past the end, nothing.
-fn store(memory: &mut [i32], effect: Effect)
-    ensures { λ _. ⌜ now (memory .exit) ≡ Action.after (now (memory .entry)) effect ⌝ }
-{
-    match effect {
-        Effect::Undefined(_) => {}
-        Effect::Unchanged => {}
-        Effect::Stored { cell, value } => {
-            if cell < memory.len() {
-                memory[cell] = value;
-            }
-        }
     }
 }
 
@@ -156,7 +142,7 @@ fn run_decoded(
                 ending: Ending::Stuck,
             };
         }
-        store(memory, effect);
+        stepping::store(memory, effect);
         let drawn = drawing::edge_at(edges, choice.edge);
         run = stepping::moved(run, drawn.target);
         left -= 1;
@@ -164,16 +150,21 @@ fn run_decoded(
     stopped(run)
 }
 
+// The array's first cells over a memory of at most 512.
+fn copy_back(memory: &mut [i32], cells: &[i32; 512])
+    requires { ⌜ length (now memory) ≤ 512 ⌝ }
+    ensures { λ _. ⌜ now (memory .exit) ≡ Cells.front (length (now (memory .entry))) (now (cells .entry)) ⌝ }
+{
+    let mut i: usize = 0;
+    while i < memory.len() {
+        memory[i] = cells[i];
+        i += 1;
+    }
+}
+
 // A run over a drawn graph.
-fn run_drawn(
-    program: &[u8],
-    edges: &[u8],
-    nodes: u16,
-    count: u16,
-    budget: u16,
-    memory: &mut [i32],
-) -> Ended
-    requires { ⌜ Running.Runnable (now program) (now edges) nodes count (now memory) ⌝ }
+fn run_drawn(program: &[u8], edges: &[u8], count: u16, budget: u16, memory: &mut [i32]) -> Ended
+    requires { ⌜ Running.Runnable (now program) (now edges) count (now memory) ⌝ }
     ensures { λ r. ⌜ Running.EndsAs (spec.runFrom budget (File.sizes (now (program .entry))) (Graph.graph (now (program .entry))) (Step.begun (now (memory .entry)))) (now (memory .exit)) r ⌝ }
 {
     let entries = decoding::entries(program);
@@ -191,7 +182,7 @@ fn run_drawn(
         count,
         budget,
     );
-    stepping::copy_back(memory, &local);
+    copy_back(memory, &local);
     ended
 }
 
@@ -206,20 +197,13 @@ fn refused(x: Refusal) -> Ended
 }
 
 // Question 12, then a run over a drawn graph.
-fn run_fit(
-    program: &[u8],
-    edges: &[u8],
-    nodes: u16,
-    count: u16,
-    budget: u16,
-    memory: &mut [i32],
-) -> Ended
-    requires { ⌜ Stepping.DrawnInto (now program) (now edges) nodes count ⌝ }
+fn run_fit(program: &[u8], edges: &[u8], count: u16, budget: u16, memory: &mut [i32]) -> Ended
+    requires { ⌜ Running.DrawnEdges (now program) (now edges) count ⌝ }
     ensures { λ r. ⌜ Running.EndsAs (spec.budgeted (File.sizes (now (program .entry))) (Graph.graph (now (program .entry))) budget (now (memory .entry))) (now (memory .exit)) r ⌝ }
 {
     let v = validation::ask(memory.len() == file::cell_count(program), 12, 0);
     match v {
-        Validity::Fit => run_drawn(program, edges, nodes, count, budget, memory),
+        Validity::Fit => run_drawn(program, edges, count, budget, memory),
         Validity::Refused(x) => refused(x),
     }
 }
@@ -234,7 +218,7 @@ pub fn run(program: &[u8], budget: u16, memory: &mut [i32]) -> Ended
     let drawn = drawing::draw_edges(program, &mut edges);
     let v = drawn.validity;
     match v {
-        Validity::Fit => run_fit(program, &edges, drawn.nodes, drawn.edges, budget, memory),
+        Validity::Fit => run_fit(program, &edges, drawn.edges, budget, memory),
         Validity::Refused(x) => refused(x),
     }
 }

@@ -3,10 +3,11 @@
 ghost use mathlib.Core.Path.{_≡_};
 ghost use mathlib.Core.List.{List};
 ghost use lib.IntN.{ℤ};
-ghost use Prim.Native.Nat.{ℕ, _<_, _≤_, _+_, min};
+ghost use Prim.Native.Nat.{_<_, _+_, min};
 ghost use lib.ListN.{length};
 ghost use Rattle.program.specs.File;
 ghost use Rattle.program.specs.Graph;
+ghost use Rattle.semantics.specs.Action;
 ghost use Rattle.semantics.specs.Cells;
 ghost use Rattle.semantics.specs.Step as spec;
 ghost use Rattle.semantics.specs.Stepping;
@@ -39,18 +40,6 @@ pub(crate) fn copied(memory: &[i32]) -> [i32; 512]
         i += 1;
     }
     cells
-}
-
-// The array's first cells over a memory of at most 512.
-pub(crate) fn copy_back(memory: &mut [i32], cells: &[i32; 512])
-    requires { ⌜ length (now memory) ≤ 512 ⌝ }
-    ensures { λ _. ⌜ now (memory .exit) ≡ Cells.front (length (now (memory .entry))) (now (cells .entry)) ⌝ }
-{
-    let mut i: usize = 0;
-    while i < memory.len() {
-        memory[i] = cells[i];
-        i += 1;
-    }
 }
 
 // Whether an edge of a drawn graph exists and leaves a node.
@@ -107,11 +96,26 @@ pub(crate) fn moved(run: Run, target: u16) -> Run
     }
 }
 
+// What an effect stores, in a memory; past the end, nothing.
+pub(crate) fn store(memory: &mut [i32], effect: Effect)
+    ensures { λ _. ⌜ now (memory .exit) ≡ Action.after (now (memory .entry)) effect ⌝ }
+{
+    match effect {
+        Effect::Undefined(_) => {}
+        Effect::Unchanged => {}
+        Effect::Stored { cell, value } => {
+            if cell < memory.len() {
+                memory[cell] = value;
+            }
+        }
+    }
+}
+
 // What a step replies whose edge to `target` has this effect, and the memory after it.
 fn settled(run: Run, target: u16, effect: Effect, memory: &mut [i32]) -> Stepped
-    requires { ⌜ ((k : ℕ) (z : ℤ) → effect ≡ Effect.Stored k z → k < length (now memory)) ⌝ }
     ensures { λ r. ⌜ Stepping.Settled run target effect (now (memory .entry)) (now (memory .exit)) r ⌝ }
 {
+    store(memory, effect);
     match effect {
         Effect::Undefined(fault) => Stepped {
             run,
@@ -121,13 +125,10 @@ fn settled(run: Run, target: u16, effect: Effect, memory: &mut [i32]) -> Stepped
             run: moved(run, target),
             outcome: Outcome::Taken,
         },
-        Effect::Stored { cell, value } => {
-            memory[cell] = value;
-            Stepped {
-                run: moved(run, target),
-                outcome: Outcome::Taken,
-            }
-        }
+        Effect::Stored { cell: _, value: _ } => Stepped {
+            run: moved(run, target),
+            outcome: Outcome::Taken,
+        },
     }
 }
 

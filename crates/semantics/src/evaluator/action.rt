@@ -95,22 +95,22 @@ fn shifted(c: usize, i: usize) -> usize
 }
 
 // A value stored to an element of an array, by the index's value.
-fn store_to(cells: &[usize; 32], sizes: &[u16; 32], x: u16, v: i64, w: i64) -> Effect
-    requires { ⌜ T (code.isCode w) ⌝ }
+fn store_to(cells: &[usize; 32], sizes: &[u16; 32], x: u16, index: i64, value: i64) -> Effect
+    requires { ⌜ T (code.isCode value) ⌝ }
     ensures { λ r. ⌜ ((ns : List ℕ) → NamesIn ns (now (sizes .entry)) (now (cells .entry)) → cellCount ns ≤ 512 → T (isArray ns x)
-        → r ≡ spec.storeTo (expression.placeOf ns x (code.evaluated v)) (code.evaluated w)) ⌝ }
+        → r ≡ spec.storeTo (expression.placeOf ns x (code.evaluated index)) (code.evaluated value)) ⌝ }
 {
-    if is_fault(v) {
-        return failure(v);
+    if is_fault(index) {
+        return failure(index);
     }
-    if v < 0 {
+    if index < 0 {
         return undefined(Reason::IndexNegative);
     }
-    let i = v as usize;
+    let i = index as usize;
     if size_of(sizes, x) <= i {
         return undefined(Reason::IndexTooLarge);
     }
-    stored(shifted(first_cell(cells, x), i), w)
+    stored(shifted(first_cell(cells, x), i), value)
 }
 
 // x := a.

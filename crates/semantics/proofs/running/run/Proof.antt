@@ -34,7 +34,7 @@ slice-aggregate-run-fit : tie.Need-slice-aggregate-run-fit
 slice-aggregate-run-fit c = sym (drawn-length _ _ _ (into (c .before) .fit) (c .before .before .before .draw-edges .ensures .1) (length-replicate {A = ℕ} 1785 0))
 
 run-fit-requires : tie.Need-run-fit-requires
-run-fit-requires c κs = into (c .before .before)
+run-fit-requires c κs = record { nodes = _; drawing = into (c .before .before) }
 
 enum-known-v : tie.Need-enum-known-v
 enum-known-v c = search needs

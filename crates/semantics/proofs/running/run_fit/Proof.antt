@@ -26,7 +26,7 @@ fit : (c : tie.After-enum-told) → memoryValidity (sizes (c .before .before .be
 fit c = sym (asked (c .before .before)) ∙ c .enum-told .given .1
 
 run-drawn-requires : tie.Need-run-drawn-requires
-run-drawn-requires c κs = record { drawing = c .before .before .before .before .before .before .before .pre; room = memory-fit _ _ (fit (c .before)) }
+run-drawn-requires c κs = record { drawn = c .before .before .before .before .before .before .before .pre; room = memory-fit _ _ (fit (c .before)) }
 
 enum-known-v : tie.Need-enum-known-v
 enum-known-v c = search needs

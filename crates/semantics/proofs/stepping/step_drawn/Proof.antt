@@ -6,7 +6,7 @@ use Rattle.program.specs.Graph.{graph}
 use Rattle.program.specs.declared.Validity.the-variants.{Fit}
 use Rattle.semantics.specs.Step.{stepValidity}
 use Rattle.semantics.specs.Stepping.{Able}
-use Rattle.semantics.proofs.Drawn.{able, drawn-target, drawn-inside}
+use Rattle.semantics.proofs.Drawn.{able, drawn-target}
 use Rattle.semantics.proofs.Replies.{step-refused, step-settled}
 use Rattle.semantics.proofs.stepping.step_drawn.Statement.{statement}
 use Rattle.semantics.proofs.stepping.step_drawn.Tie as tie
@@ -31,10 +31,7 @@ edge-at-requires : tie.Need-edge-at-requires
 edge-at-requires c κs = search needs
 
 settled-requires : tie.Need-settled-requires
-settled-requires c κs k z e =
-    let told = c .before .before .before .before in
-    let there = ready told in
-    drawn-inside _ _ _ _ (there .drawing) _ (there .exists) _ (there .room) k z (sym (c .before .before .edge-effect .ensures) ∙ e)
+settled-requires c κs = search needs
 
 enum-known-v : tie.Need-enum-known-v
 enum-known-v c = search needs

@@ -1,4 +1,4 @@
--- `running::store`: by the effect's cases.
+-- `stepping::store`: by the effect's cases.
 use borrow.Author.Needs.{needs}
 use mathlib.Core.Path.{ap, sym}
 use lib.ListN.{set}
@@ -6,8 +6,8 @@ use lib.Seq.{set-out}
 use mir.Syntax.{w32}
 use mir.ValLaws.{toZ-ofZ}
 use Rattle.semantics.specs.Action.{after}
-use Rattle.semantics.proofs.running.store.Statement.{statement}
-use Rattle.semantics.proofs.running.store.Tie as tie
+use Rattle.semantics.proofs.stepping.store.Statement.{statement}
+use Rattle.semantics.proofs.stepping.store.Tie as tie
 
 enum-told : tie.Need-enum-told
 enum-told c = search needs

@@ -1,4 +1,4 @@
--- `stepping::copy_back`: the cells passed are the array's.
+-- `running::copy_back`: the cells passed are the array's.
 use Prim.Native.Nat.{_≤_, _-_}
 use borrow.Author.Needs.{needs}
 use lib.ListN.{length}
@@ -8,8 +8,8 @@ use mir.ValLaws.{toZ-ofZ}
 use native.Mathlib.Omega.{arith}
 use Rattle.semantics.specs.Expression.{cellValue}
 use Rattle.semantics.proofs.Padding.{Copied, copied-more, is-front}
-use Rattle.semantics.proofs.stepping.copy_back.Statement.{statement}
-use Rattle.semantics.proofs.stepping.copy_back.Tie as tie
+use Rattle.semantics.proofs.running.copy_back.Statement.{statement}
+use Rattle.semantics.proofs.running.copy_back.Tie as tie
 
 abbrev Inv-loop : tie.InvT-loop
 Inv-loop memory₀ cells i₀ memory i = (i ≤ length memory₀) × Copied cells (length memory₀) memory i
