@@ -250,6 +250,7 @@ impl Graph {
         bytes
     }
 }
+
 pub fn refused(no: No) -> String {
     format!("refused {} at {}", no.0, no.1)
 }
