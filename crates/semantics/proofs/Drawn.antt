@@ -60,24 +60,30 @@ module _ (s bytes : List ℕ) (nodes count : ℕ) (d : DrawnInto s bytes nodes c
 
   -- so its effect in the array that a memory was copied to is its effect in the memory
   pub drawn-effect : (e : ℕ) → e < count → (m : List ℤ) → length m ≡ cellCount (sizes s)
-      → effect (sizes s) (front 512 m) (meaning (edgeAt (graph s) e .action)) ≡ edgeEffect (sizes s) (graph s) m e
+      → edgeEffect (sizes s) (graph s) (front 512 m) e ≡ edgeEffect (sizes s) (graph s) m e
   unfolding edgeEffect
   drawn-effect e h m room =
       effect-same (sizes s) (front 512 m) m (λ c l. front-same m (omega (arith, few-cells s (d .fit))) c) (meaning (edgeAt (graph s) e .action))
       (action-named (sizes s) (edgeAt (graph s) e .action) (drawn-named e h))
 
-  -- as the code finds it, over the decoded program and the copied memory
+  -- as the code finds it, over the decoded program: in any memory, and in a memory from the array that it was copied to
+  pub effect-read : (e : ℕ) → e < count → (m : List ℤ) (ds szs cells : List ℕ) (r : EdgeBytes) (x : Effect)
+      → ds ≡ decodedEntries s → szs ≡ decodedSizes s → cells ≡ decodedCells s → r ≡ edgeRead bytes e
+      → EffectIn szs cells m (actionOf (decodedEntry ds) (r .kind) (r .entry)) x
+      → x ≡ edgeEffect (sizes s) (graph s) m e
+  unfolding edgeEffect
+  effect-read e h m ds szs cells r x a b c p found =
+      let same : actionOf (decodedEntry ds) (r .kind) (r .entry) ≡ edgeAt (graph s) e .action = ap (λ (l : List ℕ). actionOf (decodedEntry l) (r .kind) (r .entry)) a ∙ drawn-action e r h p in
+      found .gives (sizes s) (rw (b, c) (names-decoded s (d .fit))) (few-cells s (d .fit)) (rw same (drawn-named e h))
+      ∙ ap (λ (y : Action). effect (sizes s) m (meaning y)) same
+
   pub effect-found : (e : ℕ) → e < count → (m : List ℤ) → length m ≡ cellCount (sizes s)
       → (ds szs cells : List ℕ) (local : List ℤ) (r : EdgeBytes) (x : Effect)
       → ds ≡ decodedEntries s → szs ≡ decodedSizes s → cells ≡ decodedCells s → local ≡ front 512 m → r ≡ edgeRead bytes e
       → EffectIn szs cells local (actionOf (decodedEntry ds) (r .kind) (r .entry)) x
       → x ≡ edgeEffect (sizes s) (graph s) m e
   effect-found e h m room ds szs cells local r x a b c f p found =
-      let same : actionOf (decodedEntry ds) (r .kind) (r .entry) ≡ edgeAt (graph s) e .action = ap (λ (l : List ℕ). actionOf (decodedEntry l) (r .kind) (r .entry)) a ∙ drawn-action e r h p in
-      found .gives (sizes s) (rw (b, c) (names-decoded s (d .fit))) (few-cells s (d .fit)) (rw same (drawn-named e h))
-      ∙ ap (λ (y : Action). effect (sizes s) local (meaning y)) same
-      ∙ ap (λ (l : List ℤ). effect (sizes s) l (meaning (edgeAt (graph s) e .action))) f
-      ∙ drawn-effect e h m room
+      effect-read e h local ds szs cells r x a b c p found ∙ ap (λ (l : List ℤ). edgeEffect (sizes s) (graph s) l e) f ∙ drawn-effect e h m room
 
   -- a cell that it stores to is inside the memory
   pub drawn-inside : (e : ℕ) → e < count → (m : List ℤ) → length m ≡ cellCount (sizes s) → (k : ℕ) (z : ℤ) → edgeEffect (sizes s) (graph s) m e ≡ Stored k z → k < length m

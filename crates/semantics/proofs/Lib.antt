@@ -9,6 +9,10 @@ pub mod Valued
 pub mod Keys
 pub mod Effects
 pub mod Replies
+pub mod Links
+pub mod Choosing
+pub mod Turns
+pub mod Widened
 pub mod Laws
 pub mod Open
 pub mod Examples

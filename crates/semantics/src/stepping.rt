@@ -28,7 +28,7 @@ fn least(a: usize, b: usize) -> usize
 }
 
 // A memory's first 512 cells, and zeros after the last.
-fn copied(memory: &[i32]) -> [i32; 512]
+pub(crate) fn copied(memory: &[i32]) -> [i32; 512]
     ensures { λ r. ⌜ r ≡ Cells.front 512 (now (memory .entry)) ⌝ }
 {
     let end = least(memory.len(), 512);
@@ -42,7 +42,7 @@ fn copied(memory: &[i32]) -> [i32; 512]
 }
 
 // The array's first cells over a memory of at most 512.
-fn copy_back(memory: &mut [i32], cells: &[i32; 512])
+pub(crate) fn copy_back(memory: &mut [i32], cells: &[i32; 512])
     requires { ⌜ length (now memory) ≤ 512 ⌝ }
     ensures { λ _. ⌜ now (memory .exit) ≡ Cells.front (length (now (memory .entry))) (now (cells .entry)) ⌝ }
 {
@@ -90,7 +90,7 @@ fn check_step(
 }
 
 // The run that has taken an edge to a node: past 65,535 edges the count stays.
-fn moved(run: Run, target: u16) -> Run
+pub(crate) fn moved(run: Run, target: u16) -> Run
     ensures { λ r. ⌜ r ≡ record { node = target; count = min (run .count + 1) 65535 } ⌝ }
 {
     let count = run.count;

@@ -1,0 +1,85 @@
+-- `running::lowest`: the links are followed up to the first defined edge.
+use Prim.Native.Nat.{_-_, _<_}
+use borrow.Author.Needs.{needs}
+use mathlib.Core.Path.{sym, _∙_}
+use Rattle.semantics.specs.Action.{isDefined}
+use native.Mathlib.Omega.{arith}
+use Rattle.semantics.proofs.Choosing.{Followed, first-followed, next-followed, next-beyond, chosen-here, none-chosen}
+use Rattle.semantics.proofs.running.lowest.Statement.{statement}
+use Rattle.semantics.proofs.running.lowest.Tie as tie
+
+abbrev Inv-loop : tie.InvT-loop
+Inv-loop entries cells sizes memory edges links count node e₀ e = node < 129 → Followed edges entries sizes cells count node memory e
+
+abbrev μ-loop : tie.MeasureT-loop
+μ-loop entries cells sizes memory edges links count node e₀ e = count - e
+
+link-at-requires : tie.Need-link-at-requires Inv-loop μ-loop
+link-at-requires c κs = search needs
+
+loop-holds : tie.Need-loop-holds Inv-loop μ-loop
+loop-holds c h =
+    let s = c .before .before .before in
+    rw (c .link-at .ensures) (first-followed _ _ _ _ _ _ (s .pre) _ _ h)
+
+edge-at-requires : tie.Need-edge-at-requires Inv-loop μ-loop
+edge-at-requires c κs = search needs
+
+effect-requires : tie.Need-effect-requires Inv-loop μ-loop
+effect-requires c κs = search needs
+
+is-defined-requires : tie.Need-is-defined-requires Inv-loop μ-loop
+is-defined-requires c κs = search needs
+
+returns : tie.Need-returns Inv-loop μ-loop
+returns c s y h =
+    let l = c .before .before .before .before .before .loop in
+    chosen-here _ _ _ _ _ _ (c .before .before .before .before .before .before .before .before .before .pre) _ _ (l .e) (c .before .before .before .before .loop-test .taken) (l .inv h) _ _
+    (c .before .before .before .edge-at .ensures) (c .before .before .effect .ensures) (sym (c .before .is-defined .ensures) ∙ c .if1 .taken) s y
+
+cast-link-at : tie.Need-cast-link-at Inv-loop μ-loop
+cast-link-at c = search needs
+
+add-link-at : tie.Need-add-link-at Inv-loop μ-loop
+add-link-at c = search needs
+
+link-at-requires-2 : tie.Need-link-at-requires-2 Inv-loop μ-loop
+link-at-requires-2 c κs = search needs
+
+loop-less : tie.Need-loop-less Inv-loop μ-loop
+loop-less c =
+    let l = c .before .before .before .before .before .before .before .loop in
+    let more = next-beyond _ _ _ (c .before .before .before .before .before .before .before .before .before .before .before .pre) (l .e) (c .before .before .before .before .before .before .loop-test .taken) in
+    omega (arith, c .link-at2 .ensures)
+
+loop-again : tie.Need-loop-again Inv-loop μ-loop
+loop-again c h =
+    let l = c .before .before .before .before .before .before .before .loop in
+    rw (c .link-at2 .ensures)
+    (next-followed _ _ _ _ _ _ (c .before .before .before .before .before .before .before .before .before .before .before .pre) _ _ (l .e) (c .before .before .before .before .before .before .loop-test .taken) (l .inv h) _ _
+    (c .before .before .before .before .before .edge-at .ensures) (c .before .before .before .before .effect .ensures) (sym (c .before .before .before .is-defined .ensures) ∙ c .before .before .if1 .left))
+
+returns-2 : tie.Need-returns-2 Inv-loop μ-loop
+unfolding isDefined
+returns-2 c s y h =
+    let l = c .before .loop in
+    record { lowest = none-chosen _ _ _ _ _ _ (c .before .before .before .before .before .pre) _ _ s y (l .e) (l .inv h) (c .loop-test .left); there = λ t. absurd t }
+
+pub lowest-spec : {M : Type 1} → statement M
+lowest-spec =
+    tie.close
+    (tie.spec
+    Inv-loop
+    μ-loop
+    link-at-requires
+    loop-holds
+    edge-at-requires
+    effect-requires
+    is-defined-requires
+    returns
+    cast-link-at
+    add-link-at
+    link-at-requires-2
+    loop-less
+    loop-again
+    returns-2)
