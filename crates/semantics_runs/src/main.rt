@@ -7,11 +7,11 @@
 use libc::STDOUT_FILENO;
 use program::Refusal;
 use program::file;
-use semantics::Ended;
 use semantics::Ending;
 use semantics::Fault;
 use semantics::Outcome;
 use semantics::Run;
+use semantics::running;
 use signs::Reason;
 
 // What the first twelve bytes of a record say.
@@ -156,19 +156,9 @@ fn print_memory(memory: &[i32]) {
     print(b"\n");
 }
 
-fn run_budgeted(s: &[u8], budget: u16, memory: &mut [i32]) -> Ended {
-    Ended {
-        run: Run {
-            node: 0,
-            count: budget,
-        },
-        ending: Ending::Spent,
-    }
-}
-
 // Mode 1: a budgeted run.
 fn answer_run(s: &[u8], budget: u16, memory: &mut [i32]) {
-    let ended = run_budgeted(s, budget, memory);
+    let ended = running::run(s, budget, memory);
     let ending = ended.ending;
     print_ending(ending);
     print(b"; ");
