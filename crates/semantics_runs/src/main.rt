@@ -14,7 +14,7 @@ use semantics::Run;
 use semantics::running;
 use signs::Reason;
 
-// What the first twelve bytes of a record say.
+// What the first twelve bytes of a record say: lengths are in bytes.
 struct Head {
     mode: u8,
     title: usize,
