@@ -632,7 +632,7 @@ fn values(out: &mut Out) {
     for z in [0, 1, -1, 32767, 32768, -32768, -32769, 65535, 65536, -65535, -65536, -65537, MAX, MIN, MAX - 65535, MIN + 65536] {
         assigns(out, "x", &format!("x := {z}"), &[9], Ok(z));
     }
-    // Each operator on the same two operands, in either order, and one inside another.
+    // Operators inside one another.
     for (text, expected) in [
         ("x := (y + z) * (y - z)", Ok(40)),
         ("x := y + z * y - z", Ok(25)),
@@ -725,22 +725,18 @@ fn cells(out: &mut Out) {
     }
     // The last of 64 elements, and the last of 512 cells.
     let memory: Vec<i32> = (0..512).collect();
-    for (index, expected) in [(0, Ok(448)), (63, Ok(511)), (64, Err(35)), (-1, Err(34))] {
+    let last: [(i32, Result<i32, Reason>); 4] = [(0, Ok(448)), (63, Ok(511)), (64, Err(35)), (-1, Err(34))];
+    for (index, expected) in last {
         let names = "A64 B64 C64 D64 E64 F64 G64 H64";
-        let steps = steps(&[0]);
-        let told = |cell: Result<i32, Reason>| match cell {
-            Ok(_) => "taken; node 1 count 1 memory".to_string(),
-            Err(reason) => format!("undefined {reason}; node 0 count 0 memory"),
-        };
-        out.known(&format!("H[{index}] := 7 of 512"), &file_of(names, &format!("H[{index}] := 7")), &memory, &steps, &told(expected));
-        out.known(&format!("A[0] := H[{index}] of 512"), &file_of(names, &format!("A[0] := H[{index}]")), &memory, &steps, &told(expected));
-        // The value read is seen in a comparison: the checksum alone is not worked out by hand.
-        let text = format!("if H[{index}] = {} -> skip fi", expected.unwrap_or(0));
-        let expected = match expected {
-            Ok(_) => "taken; node 2 count 1 memory".to_string(),
-            Err(reason) => format!("undefined {reason}; node 0 count 0 memory"),
-        };
-        out.known(&format!("{text} of 512"), &file_of(names, &text), &memory, &steps, &expected);
+        // The value read is seen in a comparison: the checksum is not worked out by hand.
+        let read = format!("if H[{index}] = {} -> skip fi", expected.unwrap_or(0));
+        for (text, node) in [(format!("H[{index}] := 7"), 1), (format!("A[0] := H[{index}]"), 1), (read, 2)] {
+            let told = match expected {
+                Ok(_) => format!("taken; node {node} count 1 memory"),
+                Err(reason) => format!("undefined {reason}; node 0 count 0 memory"),
+            };
+            out.known(&format!("{text} of 512"), &file_of(names, &text), &memory, &steps(&[0]), &told);
+        }
     }
     // An index that is itself an element, and a store through it.
     let memory = [9, 2, 0, 1];
@@ -863,7 +859,7 @@ fn orders(out: &mut Out) {
     // 32 and 33 before 36.
     undefined(out, "x := -2147483648 / (y - 8)", 0, 32);
     undefined(out, "x := 2147483647 ^ (0 - 2147483647 - 1)", 0, 33);
-    // 34 before 35 as the index falls from one array's end past another's start.
+    // Both ends of an array, at an index that is worked out.
     for (index, expected) in [(4, Err(35)), (3, Ok(4)), (0, Ok(1)), (-1, Err(34))] {
         assigns(out, "x y A4", &format!("x := A[y - {}]", 8 - index), &FAULT_MEMORY, expected);
     }
@@ -1224,7 +1220,7 @@ fn random_number(r: &mut Random) -> i32 {
 }
 
 /// A random script with mostly small numbers in it, few powers, and few constant indices out of range: so that it runs for some steps.
-fn random_lesson(r: &mut Random, size: usize) -> Script {
+fn small_script(r: &mut Random, size: usize) -> Script {
     let mut s = random_script(r, size);
     for e in &mut s.tables[0] {
         if e.kind == 0 {
@@ -1332,14 +1328,14 @@ fn random(out: &mut Out) {
     let mut r = Random(20_260_214_005);
     out.group("random run");
     for k in 0..320 {
-        let lesson = Lesson::of(random_lesson(&mut r, [6, 12, 20, 32, 50, 80][k % 6]));
+        let lesson = Lesson::of(small_script(&mut r, [6, 12, 20, 32, 50, 80][k % 6]));
         let memory = random_memory(&mut r, lesson.cells);
         let budget = [r.below(8), 40 + r.below(100), 500, 3000][k % 4] as u16;
         out.put(&format!("{k}, budget {budget}"), &lesson.script.bytes(), &memory, &Ask::Budget(budget));
     }
     out.group("random steps");
     for k in 0..240 {
-        let lesson = Lesson::of(random_lesson(&mut r, [6, 12, 20, 32, 50, 80][k % 6]));
+        let lesson = Lesson::of(small_script(&mut r, [6, 12, 20, 32, 50, 80][k % 6]));
         let memory = random_memory(&mut r, lesson.cells);
         let length = 8 + r.below(40);
         let calls = random_calls(&mut r, &lesson, &memory, length);
@@ -1356,7 +1352,7 @@ fn random(out: &mut Out) {
     // Nodes and counts of any kind, and memories that may not fit.
     out.group("random start");
     for k in 0..160 {
-        let lesson = Lesson::of(random_lesson(&mut r, [6, 12, 20, 32][k % 4]));
+        let lesson = Lesson::of(small_script(&mut r, [6, 12, 20, 32][k % 4]));
         let cells = if r.chance(8) { r.below(40) } else { lesson.cells };
         let memory = random_memory(&mut r, cells);
         let node = if r.chance(8) { r.next() as u16 } else { r.below(usize::from(lesson.graph.nodes) + 1) as u16 };
@@ -1367,7 +1363,7 @@ fn random(out: &mut Out) {
     }
     out.group("damaged");
     for k in 0..160 {
-        let lesson = Lesson::of(random_lesson(&mut r, [3, 8, 16, 32][k % 4]));
+        let lesson = Lesson::of(small_script(&mut r, [3, 8, 16, 32][k % 4]));
         let memory = random_memory(&mut r, lesson.cells);
         let mut script = lesson.script;
         let mut file = script.bytes();

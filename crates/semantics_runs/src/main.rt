@@ -185,6 +185,14 @@ fn step_all(from: Run, s: &[u8], calls: &[u8], memory: &mut [i32]) -> Run {
     run
 }
 
+fn start(node: u16, count: u16) -> Run {
+    if node == 0 && count == 0 {
+        Run::fresh()
+    } else {
+        Run { node, count }
+    }
+}
+
 // Mode 2: step calls in turn.
 fn answer_calls(run: Run, s: &[u8], calls: &[u8], memory: &mut [i32]) {
     print_run(step_all(run, s, calls, memory));
@@ -195,15 +203,7 @@ fn answer(h: Head, s: &[u8], calls: &[u8], memory: &mut [i32]) {
     let mode = h.mode;
     match mode {
         1 => answer_run(s, h.first, memory),
-        2 => answer_calls(
-            Run {
-                node: h.first,
-                count: h.second,
-            },
-            s,
-            calls,
-            memory,
-        ),
+        2 => answer_calls(start(h.first, h.second), s, calls, memory),
         _ => print(b"unknown mode\n"),
     }
 }
