@@ -1,0 +1,52 @@
+-- `semantics_runs::mix_cells` is safe and ends. The measure is what is left to go through; nothing else has to hold from turn to turn.
+-- Assumes nothing.
+use Prim.Native.Nat.{_-_}
+use borrow.Author.Needs.{needs}
+use lib.ListN.{length}
+use Rattle.semantics_runs.proofs.mix_cells.Statement.{statement}
+use Rattle.semantics_runs.proofs.mix_cells.Tie as tie
+
+abbrev Inv-loop : tie.InvT-loop
+Inv-loop memory sum₀ i₀ sum i = Unit {0}
+
+abbrev μ-loop : tie.MeasureT-loop
+μ-loop memory sum₀ i₀ sum i = length memory - i
+
+loop-holds : tie.Need-loop-holds Inv-loop μ-loop
+loop-holds c = search needs
+
+mul-mix-cell : tie.Need-mul-mix-cell Inv-loop μ-loop
+mul-mix-cell c = search needs
+
+shared-slice-copy-out-mix-cell : tie.Need-shared-slice-copy-out-mix-cell Inv-loop μ-loop
+shared-slice-copy-out-mix-cell c = search needs
+
+mix-cell-requires : tie.Need-mix-cell-requires Inv-loop μ-loop
+mix-cell-requires c κs = search needs
+
+add-i : tie.Need-add-i Inv-loop μ-loop
+add-i c = search needs
+
+loop-less : tie.Need-loop-less Inv-loop μ-loop
+loop-less c = search needs
+
+loop-again : tie.Need-loop-again Inv-loop μ-loop
+loop-again c = search needs
+
+returns : tie.Need-returns Inv-loop μ-loop
+returns c = search needs
+
+pub mix-cells-spec : {M : Type 1} → statement M
+mix-cells-spec =
+    tie.close
+    (tie.spec
+    Inv-loop
+    μ-loop
+    loop-holds
+    mul-mix-cell
+    shared-slice-copy-out-mix-cell
+    mix-cell-requires
+    add-i
+    loop-less
+    loop-again
+    returns)
