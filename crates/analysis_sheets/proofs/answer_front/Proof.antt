@@ -1,0 +1,22 @@
+-- `analysis_sheets::answer_front` is safe.
+-- Assumes nothing.
+use mathlib.Core.Path.{sym}
+use lib.Seq.{length-take-le}
+use borrow.Author.Needs.{needs}
+use Rattle.analysis_sheets.proofs.answer_front.Statement.{statement}
+use Rattle.analysis_sheets.proofs.answer_front.Tie as tie
+
+slice-aggregate-answer : tie.Need-slice-aggregate-answer
+slice-aggregate-answer c = sym (length-take-le _ _ (c .before .if1 .taken))
+
+answer-requires : tie.Need-answer-requires
+answer-requires c κs = search needs
+
+returns : tie.Need-returns
+returns c = search needs
+
+returns-2 : tie.Need-returns-2
+returns-2 c = search needs
+
+pub answer-front-spec : {M : Type 1} → statement M
+answer-front-spec = tie.close (tie.spec slice-aggregate-answer answer-requires returns returns-2)

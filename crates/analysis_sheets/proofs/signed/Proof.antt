@@ -1,0 +1,44 @@
+-- `analysis_sheets::signed` is safe: both casts and the difference stay inside 32 bits.
+use borrow.Author.Needs.{needs}
+use Prim.Native.Nat.{ℕ, zero, suc, _-_}
+use mathlib.Core.Path.{_≡_, refl, _∙_, ap}
+use native.Mathlib.Omega.{arith}
+use lib.IntN.{pos, negsuc, _-ℤ_}
+use mir.Syntax.{w32}
+use mir.Val.{SFits, toZ}
+use mir.ValLaws.{toZ-pos}
+use Rattle.analysis_sheets.proofs.signed.Statement.{statement}
+use Rattle.analysis_sheets.proofs.signed.Tie as tie
+
+-- the numbers below zero, from -1 down
+below-zero : (n : ℕ) → negsuc 0 -ℤ pos n ≡ negsuc n
+below-zero zero = refl
+below-zero (suc n) = ap (λ k. negsuc (suc k)) (omega arith)
+
+module _ (c : tie.Else1) where
+  difference : negsuc 0 -ℤ toZ w32 (4294967295 - c .before .args .x) ≡ negsuc (4294967295 - c .before .args .x)
+  difference = ap (λ z. negsuc 0 -ℤ z) (toZ-pos w32 (4294967295 - c .before .args .x) (omega arith)) ∙ below-zero _
+
+  fits : SFits w32 (negsuc (4294967295 - c .before .args .x))
+  fits = record { sfits = omega arith }
+
+cast-result : tie.Need-cast-result
+cast-result c = search needs
+
+sub-result : tie.Need-sub-result
+sub-result c = search needs
+
+cast-result-2 : tie.Need-cast-result-2
+cast-result-2 c = search needs
+
+sub-result-2 : tie.Need-sub-result-2
+sub-result-2 c = rw (difference c) (fits c)
+
+returns : tie.Need-returns
+returns c = search needs
+
+returns-2 : tie.Need-returns-2
+returns-2 c = search needs
+
+pub signed-spec : {M : Type 1} → statement M
+signed-spec = tie.close (tie.spec cast-result sub-result cast-result-2 sub-result-2 returns returns-2)
