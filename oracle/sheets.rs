@@ -912,13 +912,14 @@ fn operators(out: &mut Out) {
     for (z, expected) in [(0, 2), (1, 4), (-1, 1), (65536, 4), (-65536, 1), (MAX, 4), (MIN, 1), (32768, 4), (-32768, 1)] {
         operator_case(out, "x y z", &format!("x := {z}"), [MINUS, PLUS], expected, CLEAN);
     }
-    // Operators inside one another: (1, 4) - 1 is 7, times minus 7, and so on.
+    // Operators inside one another.
     for (text, bytes, expected) in [
         ("x := (A[0] - 1) * B[0]", [4, 1], 7),
-        ("x := (A[0] * A[0]) + B[0]", [5, 4], 4),
+        ("x := (A[0] * A[0]) + B[0]", [1, 4], 4),
+        ("x := (A[0] * A[0]) + B[0]", [5, 4], 7),
         ("x := A[0] / (B[0] * 0)", [7, 7], 0),
         ("x := A[0] / B[0] ^ 0", [7, 1], 7),
-        ("x := 0 - A[0] ^ 2", [1, 4], 7),
+        ("x := 0 - A[0] ^ 2", [1, 4], 5),
         ("x := A[0] ^ (0 - B[0])", [7, 4], 0),
         ("x := 0 / A[0]", [6, 4], 2),
     ] {
@@ -1400,4 +1401,528 @@ fn wrong_bytes(out: &mut Out) {
         let list = changed(&[PLUS; 64], 32 + k, 7);
         out.known(&format!("32 names, byte {}", 32 + k), &wide, &solving(&list, 100), &format!("refused 17 at {} of the start list with 0; refused 17 at {} of the start list", 32 + k, 32 + k));
     }
+}
+
+/// Names a to h and X of 1, of which the first `count` variables are given any sign in turn: 3^k records at the node after k assignments.
+fn fan(count: usize) -> (Vec<u8>, Vec<u8>) {
+    let names = ["a", "b", "c", "d", "e", "f", "g", "h"];
+    let text: Vec<String> = names[..count].iter().map(|x| format!("{x} := X[0]")).collect();
+    let file = file_of(&format!("{} X1", names[..count].join(" ")), &text.join("; "));
+    (file, [vec![ZERO; count], vec![7]].concat())
+}
+
+/// So many different records of four arrays.
+fn different(count: usize) -> Vec<u8> {
+    (0..count).flat_map(|k| [1 + k % 7, 1 + k / 7 % 7, 1 + k / 49 % 7, 1 + k / 343 % 7]).map(|x| x as u8).collect()
+}
+
+/// The solver's room: from none to too much, one record short, one byte short.
+fn rooms(out: &mut Out) {
+    out.group("room");
+    // The verdict on what was written before 18 is that the next record is missing.
+    let short = ["41 record 0", "42 record 0 arrow 0", "42 record 1 arrow 1", "42 record 2 arrow 2", "42 record 3 arrow 3", "42 record 3 arrow 3", "42 record 4 arrow 4", "42 record 5 arrow 4"];
+    let (file, sheet) = (factorial().bytes(), sheet_of(FACTORIAL));
+    for bytes in [0, 1, 3, 4, 5, 7, 8, 9, 12, 16, 20, 24, 27, 28, 29, 31, 32, 33, 35, 36, 100, 16383, 16384, 16385, 16388, 65536, LIST] {
+        let room = bytes / 4;
+        let expected = match short.get(room) {
+            Some(verdict) => format!("refused 18 at 0 with {room}{}; {verdict}", shown(&sheet[..4 * room], 4)),
+            None => format!("finished with 8{}; accepted index clean", shown(&sheet, 4)),
+        };
+        out.known(&format!("factorial, {bytes} bytes"), &file, &solving(&[4, 2], bytes), &expected);
+    }
+    // A record that is listed already needs no room.
+    let skip = file_of("x", "skip");
+    for (bytes, expected) in [(5, "refused 18 at 0 with 1; 0 0 4; 42 record 0 arrow 0"), (6, "finished with 2; 0 0 4; 0 1 4; accepted index clean")] {
+        out.known(&format!("repeats, {bytes} bytes"), &skip, &solving(&[4; 9], bytes), expected);
+    }
+    let around = file_of("x", "do true -> skip od");
+    for (bytes, expected) in [(3, "refused 18 at 0 with 1; 0 0 4; 42 record 0 arrow 0"), (6, "finished with 2; 0 0 4; 0 2 4; accepted index clean")] {
+        out.known(&format!("around, {bytes} bytes"), &around, &solving(&[4], bytes), expected);
+    }
+    // Nothing to list needs no room at all.
+    for bytes in [0, 1, 100] {
+        out.known(&format!("no start record, {bytes} bytes"), &skip, &solving(&[], bytes), "finished with 0; accepted index clean");
+    }
+    out.known("no room for the second start record", &skip, &solving(&[4, 2], 3), "refused 18 at 0 with 1; 0 0 4; 41 record 1");
+    // One name to 32: exactly enough, a byte short, a record short.
+    for count in [1, 2, 5, 30, 32] {
+        let names = WIDE_NAMES[..count].join(" ");
+        let file = file_of(&names, "a := a - 1");
+        let start = vec![PLUS; count];
+        let (_, sheet) = solved(&file, &start);
+        assert_eq!(sheet.len(), 4 * (2 + count));
+        for (bytes, fits) in [(sheet.len(), 4), (sheet.len() - 1, 3), (sheet.len() - 2 - count, 3), (sheet.len() + 1, 4), (1 + count, 0), (2 + count, 1)] {
+            let told = out.put(&format!("{count} names, {bytes} bytes"), &file, &solving(&start, bytes));
+            let answer = if fits == 4 { "finished with 4".to_string() } else { format!("refused 18 at 0 with {fits}") };
+            assert!(told.starts_with(&answer), "{told}");
+        }
+    }
+    // More than 4,096 records are to be listed, or would have room.
+    let (file, start) = fan(8);
+    let width = 11;
+    for bytes in [65536, LIST, 4096 * width, 4096 * width - 1, 4096 * width + 1, 4097 * width, 1000 * width] {
+        let room = (bytes / width).min(4096);
+        let told = out.put(&format!("9841 records, {bytes} bytes"), &file, &solving(&start, bytes));
+        assert!(told.starts_with(&format!("refused 18 at 0 with {room};")), "{told}");
+    }
+    let (file, start) = fan(7);
+    for (bytes, answer) in [(LIST, "finished with 3280;"), (32800, "finished with 3280;"), (32799, "refused 18 at 0 with 3279;"), (65536, "finished with 3280;")] {
+        let told = out.put(&format!("3280 records, {bytes} bytes"), &file, &solving(&start, bytes));
+        assert!(told.starts_with(answer), "{told}");
+    }
+    // Exactly 4,096, and two more.
+    let skip = file_of("A4 B4 C4 D4", "skip");
+    for (count, bytes, answer) in [(2048, LIST, "finished with 4096;"), (2048, 24576, "finished with 4096;"), (2048, 24575, "refused 18 at 0 with 4095;"), (2049, LIST, "refused 18 at 0 with 4096;")] {
+        let told = out.put(&format!("{count} start records, {bytes} bytes"), &skip, &solving(&different(count), bytes));
+        assert!(told.starts_with(answer), "{told}");
+    }
+    // 32 names in the sheet program's buffer: 1,927 records.
+    let wide = file_of(&format!("{} G1", WIDE_NAMES[..31].join(" ")), &(0..7).map(|k| format!("{} := G[0]", WIDE_NAMES[k])).collect::<Vec<_>>().join("; "));
+    let told = out.put("32 names, 65536 bytes", &wide, &solving(&[vec![ZERO; 31], vec![7]].concat(), 65536));
+    assert!(told.starts_with("refused 18 at 0 with 1927;"), "{told}");
+    let told = out.put("32 names, all the room", &wide, &solving(&[vec![ZERO; 31], vec![7]].concat(), LIST));
+    assert!(told.starts_with("finished with 3280;"), "{told}");
+}
+
+/// Start lists: none, repeats, many, and their order in the solver's list.
+fn start_lists(out: &mut Out) {
+    out.group("start");
+    solves(out, "x", "skip", "", "", CLEAN);
+    solves(out, "x", "skip", "4", "0 4; 1 4", CLEAN);
+    solves(out, "x", "skip", "4; 4; 4", "0 4; 1 4", CLEAN);
+    solves(out, "x", "skip", "4; 2; 4; 1; 2", "0 4; 0 2; 0 1; 1 4; 1 2; 1 1", CLEAN);
+    solves(out, "x", "skip", "1; 2; 4", "0 1; 0 2; 0 4; 1 1; 1 2; 1 4", CLEAN);
+    // A start record that a loop comes back to, and records that meet.
+    solves(out, "x", "do true -> x := x * x od", "1; 4", "0 1; 0 4; 2 1; 2 4", CLEAN);
+    solves(out, "x", "x := 0; x := 1", "1; 4; 2", "0 1; 0 4; 0 2; 2 2; 1 4", CLEAN);
+    // Arrow by arrow, result by result, record by record.
+    solves(out, "x", "if true -> x := x - 1 [] true -> x := 0 - x fi", "4", "0 4; 2 4; 3 4; 1 1; 1 2; 1 4", CLEAN);
+    solves(out, "x y", "x := x - y; y := x", "4 4", "0 4 4; 2 1 4; 2 2 4; 2 4 4; 1 1 1; 1 2 2; 1 4 4", CLEAN);
+    solves(out, "x", "do x > 0 -> x := x - 1 od; x := 1", "4", "0 4; 3 4; 0 1; 0 2; 2 1; 2 2; 1 4", CLEAN);
+    // Stuck: nothing is reached.
+    solves(out, "x", "if !true -> skip fi", "4", "0 4", CLEAN);
+    solves(out, "x", "x := x / 0", "4", "0 4", CLEAN);
+    solves(out, "x", "x := 2 ^ x", "1", "0 1", CLEAN);
+    let file = factorial().bytes();
+    let expected = format!("finished with 8{}; accepted index clean", shown(&sheet_of(FACTORIAL), 4));
+    for times in [2, 511, 512, 513, 4096] {
+        out.known(&format!("{times} times one record"), &file, &Ask::Solve(Chunks::repeated(&[4, 2], times), 40), &expected);
+    }
+    let nine: Vec<u8> = [1, 2, 4].iter().flat_map(|&x| [1, 2, 4].map(|y| [x, y]).concat()).collect();
+    for times in [1, 57, 455] {
+        let told = out.put(&format!("{times} times nine records"), &file, &Ask::Solve(Chunks::repeated(&nine, times), 400));
+        // Nine at node 0, then x with y plus at 2, and so on as in the factorial lesson.
+        assert_eq!(told, "finished with 16; 0 0 1 1; 0 0 1 2; 0 0 1 4; 0 0 2 1; 0 0 2 2; 0 0 2 4; 0 0 4 1; 0 0 4 2; 0 0 4 4; 0 2 1 4; 0 2 2 4; 0 2 4 4; 0 1 1 4; 0 1 2 4; 0 3 4 4; 0 4 4 4; accepted index clean");
+    }
+    let skip = file_of("A4 B4 C4 D4", "skip");
+    for count in [511, 512, 513, 1000] {
+        let told = out.put(&format!("{count} different records"), &skip, &solving(&different(count), 12 * count));
+        assert!(told.starts_with(&format!("finished with {};", 2 * count)), "{told}");
+    }
+}
+
+fn splits(out: &mut Out) {
+    out.group("split");
+    let file = factorial().bytes();
+    let places = vec![0, 1, 3, 4, 5, 7, 8, 31, 32, 65535, 65536, 4294967295];
+    out.known(
+        "factorial",
+        &file,
+        &Ask::Split(places),
+        "record 0 column 0; record 0 column 1; record 0 column 3; record 1 column 0; record 1 column 1; record 1 column 3; record 2 column 0; record 7 column 3; record 8 column 0; record 16383 column 3; record 16384 column 0; record 1073741823 column 3; ",
+    );
+    let file = file_of("x", "skip");
+    out.known("one name", &file, &Ask::Split(vec![0, 2, 3, 5, 4294967295]), "record 0 column 0; record 0 column 2; record 1 column 0; record 1 column 2; record 1431655765 column 0; ");
+    let file = file_of(&WIDE_NAMES.join(" "), "skip");
+    out.known("32 names", &file, &Ask::Split(vec![33, 34, 139263, 139264, 4294967295]), "record 0 column 33; record 1 column 0; record 4095 column 33; record 4096 column 0; record 126322567 column 17; ");
+    for count in 1..=32 {
+        let file = file_of(&WIDE_NAMES[..count].join(" "), "skip");
+        let width = count as u32 + 2;
+        let mut places = vec![0, 1, width - 1, width, width + 1, 2 * width - 1, 2 * width, 8 * width - 1, 8 * width, 100 * width + 1, 4095 * width, 4096 * width - 1, 4096 * width];
+        places.extend([65535, 65536, 2147483647, 2147483648, 4294967294, 4294967295, u32::MAX / width * width, u32::MAX / width * width - 1]);
+        out.put(&format!("{count} names"), &file, &Ask::Split(places));
+    }
+    out.known("no place", &file, &Ask::Split(Vec::new()), "");
+}
+
+/// One refusal of a file by each operation. The lists would be refused too.
+fn refuses(out: &mut Out, title: &str, file: &[u8], initial: &[u8], sheet: &[u8], no: &str) {
+    out.known(&format!("{title}, judged"), file, &judging(initial, sheet), &format!("{no}; offending"));
+    out.known(&format!("{title}, marked"), file, &Ask::Mark(Chunks::of(sheet)), no);
+    out.known(&format!("{title}, solved"), file, &solving(initial, 40), &format!("{no} with 0; {no}"));
+    out.known(&format!("{title}, split"), file, &Ask::Split(vec![0, 5]), &format!("{no} record 0 column 0; ").repeat(2));
+}
+
+/// Questions 1 to 11, of the factorial lesson with its own lists, and with lists that would be refused by 16 and 17.
+fn refusals(out: &mut Out) {
+    out.group("refusal");
+    let f = factorial();
+    let file = f.bytes();
+    let sheet = sheet_of(FACTORIAL);
+    let mut damaged: Vec<(String, Vec<u8>, u32, usize)> = vec![("empty file".to_string(), Vec::new(), 1, 0)];
+    for tag in 1..=4u8 {
+        let head = f.head(tag);
+        let changed = |at: usize, to: u8| {
+            let mut bytes = file.clone();
+            bytes[head + at] = to;
+            bytes
+        };
+        damaged.push((format!("cut in head {tag}"), file[..head + 2].to_vec(), 1, head));
+        damaged.push((format!("tag {tag} is 9"), changed(0, 9), 2, head));
+        damaged.push((format!("length of field {tag}"), changed(2, file[head + 2] + 1), 3, head));
+        damaged.push((format!("field {tag} cut"), file[..f.head(tag + 1) - 1].to_vec(), 4, head));
+    }
+    damaged.push(("one byte more".to_string(), [file.clone(), vec![0]].concat(), 5, file.len()));
+    let mut s = f.clone();
+    s.names[1] = 65;
+    damaged.push(("size 65".to_string(), s.bytes(), 6, 5));
+    for (t, i) in [(0, 0), (0, 7), (1, 0), (2, 0), (2, 6)] {
+        let at = f.place(t, i);
+        damaged.push((format!("7 at {at}"), with_entry(&f, t, i, entry(9, 0, 0, 0)).bytes(), 7, at));
+        damaged.push((format!("8 at {at}"), with_entry(&f, t, i, entry(0, 0, 0, 1)).bytes(), 8, at));
+        let wrong = if t == 2 { entry(3, 99, 0, 0) } else { entry(5, 99, 0, 0) };
+        damaged.push((format!("9 at {at}"), with_entry(&f, t, i, wrong).bytes(), 9, at));
+    }
+    damaged.push(("10, a number unused".to_string(), with_entry(&f, 2, 0, entry(0, 0, 0, 0)).bytes(), 10, f.place(0, 0)));
+    let mut s = Script::new(&[0, 0]);
+    s.true_skip();
+    damaged.push(("11".to_string(), s.bytes(), 11, s.place(2, 1)));
+    for (title, file, number, at) in damaged {
+        let no = format!("refused {number} at {at}");
+        refuses(out, &title, &file, &[4, 2], &sheet, &no);
+        refuses(out, &format!("{title}, lists not whole"), &file, &[9; 3], &[9; 5], &no);
+    }
+}
+
+// ---------------------------------------------------------------------------------------------
+// Sheets that are changed
+
+/// A solver's sheet as it is, with each record left out, with records twice, in other orders, and with a byte changed.
+fn changes(out: &mut Out, r: &mut Random, title: &str, file: &[u8], initial: &[u8], all: bool) {
+    let width = read(file, 4).ok().unwrap().names.len() + 2;
+    let (answer, sheet) = solved(file, initial);
+    if answer.is_err() || sheet.is_empty() || sheet.len() > 1200 {
+        return;
+    }
+    let records: Vec<&[u8]> = sheet.chunks(width).collect();
+    let told = out.put(title, file, &judging(initial, &sheet));
+    assert!(told.starts_with("accepted"), "{title}: {told}");
+    let is_clean = told.contains("clean");
+    for k in 0..records.len() {
+        if !all && !r.chance(records.len()) {
+            continue;
+        }
+        let mut fewer = records.clone();
+        fewer.remove(k);
+        let told = out.put(&format!("{title}, without record {k}"), file, &judging(initial, &fewer.concat()));
+        // The solver lists nothing that an accepted sheet could do without.
+        assert!(told.starts_with("41") || told.starts_with("42"), "{title}: {told}");
+    }
+    let mut shuffled: Vec<&[u8]> = records.iter().chain(&records[..r.below(records.len())]).copied().collect();
+    for k in (1..shuffled.len()).rev() {
+        shuffled.swap(k, r.below(k + 1));
+    }
+    let told = out.put(&format!("{title}, shuffled with repeats"), file, &judging(initial, &shuffled.concat()));
+    assert!(told.starts_with("accepted") && told.contains("clean") == is_clean, "{title}: {told}");
+    for _ in 0..if all { 6 } else { 2 } {
+        let mut changed = sheet.clone();
+        let at = r.below(changed.len());
+        changed[at] = if r.chance(4) { r.next() as u8 } else { [1, 2, 4, 3, 5, 6, 7, 0][r.below(8)] };
+        out.put(&format!("{title}, byte {at} is {}", changed[at]), file, &judging(initial, &changed));
+    }
+}
+
+fn changed(out: &mut Out) {
+    out.group("changed");
+    let mut r = Random(20_260_301_001);
+    let lessons = [
+        ("x y", "y := 1; do x > 0 -> y := x * y; x := x - 1 od", "4 2"),
+        ("x A4", "if x > 0 -> A[x] := x - 1 [] !x > 0 -> A[0] := 0 fi", "4 7; 1 1"),
+        ("x y z", "do x > y -> x := x - 1 [] y > x -> y := y - 1 od; z := x / y", "4 4 2"),
+        ("i A4", "i := 0; do 4 > i -> A[i] := A[i] - 1; i := i + 1 od", "2 4"),
+        ("j A4", "do j > 0 && A[j - 1] > A[j] -> A[j] := A[j - 1]; j := j - 1 od", "4 6"),
+        ("x", "do true -> if x > 0 -> x := -1 [] 0 >= x -> x := 1 fi od", "2"),
+    ];
+    for (names, text, initial) in lessons {
+        changes(out, &mut r, text, &file_of(names, text), &starts(initial), true);
+    }
+    // A long sheet, in another order, and without a record in its middle.
+    let (file, initial) = fan(6);
+    let (_, sheet) = solved(&file, &initial);
+    let mut records: Vec<&[u8]> = sheet.chunks(9).collect();
+    assert_eq!(records.len(), 1093);
+    for k in (1..records.len()).rev() {
+        records.swap(k, r.below(k + 1));
+    }
+    out.known("1093 records", &file, &judging(&initial, &records.concat()), "accepted index clean; offending");
+    for k in [0, 546, 1092] {
+        let mut fewer = records.clone();
+        fewer.remove(k);
+        let told = out.put(&format!("1093 records without record {k}"), &file, &judging(&initial, &fewer.concat()));
+        assert!(told.starts_with("42"), "{told}");
+    }
+}
+
+// ---------------------------------------------------------------------------------------------
+// Random sheets
+
+/// Any well-formed record.
+fn random_record(r: &mut Random, lesson: &Lesson) -> Vec<u8> {
+    lesson.script.names.iter().map(|&size| if size == 0 { [MINUS, ZERO, PLUS][r.below(3)] } else { 1 + r.below(7) as u8 }).collect()
+}
+
+/// Records of memories, and any others.
+fn random_start(r: &mut Random, lesson: &Lesson) -> Vec<u8> {
+    let mut list = Vec::new();
+    for _ in 0..r.below(5) {
+        let record = if r.chance(2) { record_of(lesson, &random_memory(r, lesson.cells)) } else { random_record(r, lesson) };
+        list.extend(record.repeat(1 + r.below(2)));
+    }
+    list
+}
+
+/// A script of few names, so that its sheets are mostly not too long; or one of loops and ifs.
+fn random_lesson(r: &mut Random, k: usize) -> Lesson {
+    if k % 3 == 2 {
+        let text = format!("{}; {}", random_command(r, 2, 0), random_command(r, 1, 0));
+        return Lesson::of(script_of("x y z A4 B3 i j k", &text));
+    }
+    loop {
+        let script = small_script(r, [6, 12, 20, 32, 50][k % 5]);
+        if script.names.len() <= 6 || k % 11 == 0 {
+            return Lesson::of(script);
+        }
+    }
+}
+
+fn random(out: &mut Out) {
+    let mut r = Random(20_260_301_002);
+    out.group("random solve");
+    for k in 0..420 {
+        let lesson = random_lesson(&mut r, k);
+        let (file, initial) = (lesson.script.bytes(), random_start(&mut r, &lesson));
+        let width = lesson.width(List::Sheet);
+        let (answer, sheet) = solved(&file, &initial);
+        let all = sheet.len();
+        // Exactly enough, a byte or a record short, a part, or more.
+        let room = [all, all.saturating_sub(1), all.saturating_sub(width), r.below(all + 1), all + r.below(3 * width)][r.below(5)].min(LIST);
+        let told = out.put(&format!("{k}, {room} bytes"), &file, &solving(&initial, room));
+        assert_eq!(told.starts_with("finished"), answer.is_ok() && room >= all, "{told}");
+        assert_eq!(told.contains("accepted"), told.starts_with("finished"), "{told}");
+    }
+    out.group("random judge");
+    for k in 0..240 {
+        let lesson = random_lesson(&mut r, k);
+        let (file, initial) = (lesson.script.bytes(), random_start(&mut r, &lesson));
+        changes(out, &mut r, &k.to_string(), &file, &initial, false);
+    }
+    // Lists of any well-formed records.
+    out.group("random sheet");
+    for k in 0..240 {
+        let lesson = random_lesson(&mut r, k);
+        let nodes = usize::from(lesson.graph.nodes);
+        let (start_count, count) = (r.below(3), r.below(12));
+        let mut initial: Vec<u8> = (0..start_count).flat_map(|_| random_record(&mut r, &lesson)).collect();
+        let mut sheet: Vec<u8> = Vec::new();
+        for _ in 0..count {
+            let node = r.below(nodes) as u16;
+            sheet.extend(at_node(node, &random_record(&mut r, &lesson)));
+        }
+        let file = lesson.script.bytes();
+        if k % 3 == 0 && !initial.is_empty() {
+            damage_bytes(&mut r, &mut initial);
+        }
+        if k % 3 == 1 {
+            damage_bytes(&mut r, &mut sheet);
+        }
+        out.put(&format!("{k}, judged"), &file, &judging(&initial, &sheet));
+        out.put(&format!("{k}, marked"), &file, &Ask::Mark(Chunks::of(&sheet)));
+    }
+    out.group("damaged");
+    for k in 0..120 {
+        let lesson = random_lesson(&mut r, k);
+        let (initial, mut script) = (random_start(&mut r, &lesson), lesson.script);
+        let mut file = script.bytes();
+        let (_, sheet) = solved(&file, &initial);
+        let sheet = &sheet[..sheet.len().min(600)];
+        if k % 2 == 0 {
+            damage_script(&mut r, &mut script);
+            file = script.bytes();
+        } else {
+            damage_bytes(&mut r, &mut file);
+        }
+        match k % 8 / 2 {
+            0 => out.put(&format!("{k}, judged"), &file, &judging(&initial, sheet)),
+            1 => out.put(&format!("{k}, marked"), &file, &Ask::Mark(Chunks::of(sheet))),
+            2 => out.put(&format!("{k}, solved"), &file, &solving(&initial, 500)),
+            _ => out.put(&format!("{k}, split"), &file, &Ask::Split(vec![0, 7, 1000, 4294967295])),
+        };
+    }
+}
+
+// ---------------------------------------------------------------------------------------------
+// The third term, tried
+
+/// How much of the third term was tried.
+#[derive(Default)]
+struct Trials {
+    lists: usize,
+    calls: usize,
+    clean: usize,
+    /// Of these, with an index expression that is asked about.
+    clean_indexed: usize,
+    clean_calls: usize,
+    /// Undefined for 34 where the mark is not clean.
+    below_zero: usize,
+    unfinished: usize,
+    longest: usize,
+}
+
+/// "A sheet has a memory's record at a node": asked before the first call and after each, of the solver's sheet. And no call meets an index below zero where the mark is clean.
+fn tried(trials: &mut Trials, lesson: &Lesson, initial: &[u8], memory: &[i32], calls: &[u16]) -> bool {
+    let file = lesson.script.bytes();
+    let (answer, sheet) = solved(&file, initial);
+    if answer.is_err() {
+        trials.unfinished += 1;
+        return false;
+    }
+    let listed: HashSet<&[u8]> = sheet.chunks(lesson.width(List::Sheet)).collect();
+    let is_clean = lesson.mark(&sheet).is_none();
+    let (mut run, mut memory) = (FRESH, memory.to_vec());
+    assert!(listed.contains(&at_node(0, &record_of(lesson, &memory))[..]));
+    for &edge in calls {
+        // Every arrow out of the node is tried as well, on a copy.
+        for (other, _) in lesson.leaving(run.node) {
+            let outcome = step(&file, &mut run.clone(), other as u16, &mut memory.clone());
+            assert!(!(is_clean && matches!(outcome, Outcome::Undefined(INDEX_BELOW_ZERO))));
+        }
+        match step(&file, &mut run, edge, &mut memory) {
+            Outcome::Undefined(INDEX_BELOW_ZERO) => {
+                assert!(!is_clean);
+                trials.below_zero += 1;
+            }
+            _ => {}
+        }
+        assert!(listed.contains(&at_node(run.node, &record_of(lesson, &memory))[..]));
+    }
+    trials.lists += 1;
+    trials.calls += calls.len();
+    trials.clean += usize::from(is_clean);
+    let is_indexed = sheet.chunks(lesson.width(List::Sheet)).any(|record| lesson.leaving(word(record, 0)).iter().any(|(_, arrow)| !lesson.action_indices(*arrow).is_empty()));
+    trials.clean_indexed += usize::from(is_clean && is_indexed);
+    trials.longest = trials.longest.max(sheet.len() / lesson.width(List::Sheet));
+    trials.clean_calls += if is_clean { calls.len() } else { 0 };
+    true
+}
+
+/// A lesson, a start list that has the memory's record somewhere, the memory, and step calls.
+fn random_trial(r: &mut Random, k: usize) -> (Lesson, Vec<u8>, Vec<i32>, Vec<u16>) {
+    // Two of three are loops and ifs that mostly go on.
+    let lesson = if k % 3 == 0 {
+        random_lesson(r, k / 3)
+    } else {
+        let text = format!("{}; {}", random_command(r, 3, 0), random_command(r, 2, 0));
+        Lesson::of(script_of("x y z A4 B3 i j k", &text))
+    };
+    let memory = random_memory(r, lesson.cells);
+    let mut initial = if r.chance(2) { random_start(r, &lesson) } else { Vec::new() };
+    let at = r.below(initial.len() / lesson.names() + 1) * lesson.names();
+    initial.splice(at..at, record_of(&lesson, &memory));
+    let length = 4 + r.below(60);
+    let mut calls = random_calls(r, &lesson, &memory, length);
+    calls.truncate(arrival(&lesson, &memory, &calls) + 2);
+    (lesson, initial, memory, calls)
+}
+
+/// How many calls bring a run to node 1, if any do: nothing leaves it.
+fn arrival(lesson: &Lesson, memory: &[i32], calls: &[u16]) -> usize {
+    let (file, mut run, mut memory) = (lesson.script.bytes(), FRESH, memory.to_vec());
+    for (k, &edge) in calls.iter().enumerate() {
+        if run.node == 1 {
+            return k;
+        }
+        step(&file, &mut run, edge, &mut memory);
+    }
+    calls.len()
+}
+
+fn third_term(out: &mut Out) {
+    out.group("third term");
+    let file = factorial().bytes();
+    let calls = [0, 4, 1, 2, 3, 1, 2, 9, 3, 1, 2, 3, 4, 0];
+    out.known(
+        "factorial",
+        &file,
+        &Ask::Follow(Chunks::of(&[4, 2]), vec![3, 0], calls.to_vec()),
+        "finished with 8; has; taken has; undefined 31 has; taken has; taken has; taken has; taken has; taken has; refused 15 at 0 has; taken has; taken has; taken has; taken has; taken has; refused 15 at 0 has; index clean",
+    );
+    // From a memory whose record is not in the start list, the sheet need not have it.
+    out.known("factorial from another", &file, &Ask::Follow(Chunks::of(&[4, 2]), vec![0, 5], vec![0, 4]), "finished with 8; has not; taken has; taken has; index clean");
+    out.known("factorial from nothing", &file, &Ask::Follow(Chunks::of(&[]), vec![3, 0], vec![0, 1, 2]), "finished with 0; has not; taken has not; taken has not; taken has not; index clean");
+    out.known("no call", &file, &Ask::Follow(Chunks::of(&[1, 1]), vec![-1, -2147483648], vec![]), "finished with 3; has; index clean");
+    let below = file_of("j A3", "if j > 0 and A[j - 1] > A[j] -> skip fi");
+    out.known("an index below zero", &below, &Ask::Follow(Chunks::of(&[2, 4]), vec![0, 2, 3, 7], vec![0, 0]), "finished with 1; has; undefined 34 has; undefined 34 has; index record 0 arrow 0");
+    let mut r = Random(20_260_301_003);
+    let (mut trials, mut written, mut k) = (Trials::default(), 0, 0);
+    while written < 260 {
+        let (lesson, initial, memory, calls) = random_trial(&mut r, k);
+        k += 1;
+        let is_short = lesson.script.bytes().len() <= 1500;
+        if is_short && tried(&mut trials, &lesson, &initial, &memory, &calls) {
+            out.put(&k.to_string(), &lesson.script.bytes(), &Ask::Follow(Chunks::of(&initial), memory, calls));
+            written += 1;
+        }
+    }
+    eprintln!("third term, written: {}", trials.said());
+    // Many more that are not written.
+    let mut trials = Trials::default();
+    for k in 0..6000 {
+        let (lesson, initial, memory, calls) = random_trial(&mut r, k);
+        tried(&mut trials, &lesson, &initial, &memory, &calls);
+    }
+    eprintln!("third term, not written: {}", trials.said());
+}
+
+impl Trials {
+    fn said(&self) -> String {
+        format!(
+            "{} lists, {} configurations, {} marks clean ({} of sheets with an index) with {} calls, {} calls undefined for 34 under other marks, {} sheets not finished, the longest of {} records",
+            self.lists,
+            self.lists + self.calls,
+            self.clean,
+            self.clean_indexed,
+            self.clean_calls,
+            self.below_zero,
+            self.unfinished,
+            self.longest
+        )
+    }
+}
+
+fn main() {
+    let folder = std::env::args().nth(1).expect("the folder of analysis_sheets");
+    let mut out = Out { bin: Vec::new(), text: String::new(), cases: 0, group: String::new(), tally: Tally::new() };
+    worked(&mut out);
+    operators(&mut out);
+    comparisons(&mut out);
+    truths(&mut out);
+    elements(&mut out);
+    stores(&mut out);
+    exits(&mut out);
+    indices(&mut out);
+    missing(&mut out);
+    wholes(&mut out);
+    wrong_bytes(&mut out);
+    rooms(&mut out);
+    start_lists(&mut out);
+    splits(&mut out);
+    refusals(&mut out);
+    changed(&mut out);
+    random(&mut out);
+    third_term(&mut out);
+    fs::create_dir_all(format!("{folder}/data")).unwrap();
+    fs::write(format!("{folder}/data/sheets.bin"), &out.bin).unwrap();
+    fs::write(format!("{folder}/stdout"), &out.text).unwrap();
+    out.tally.say();
+    eprintln!("{} cases, {} bytes, {} bytes printed", out.cases, out.bin.len(), out.text.len());
 }
