@@ -3,7 +3,7 @@ use mathlib.Core.Path.{_≡_}
 use mathlib.Core.Bool.{Bool, true, false}
 use mathlib.Core.List.{List}
 use Prim.Native.Nat.{ℕ, suc, _+_, _*_, _/_, _%_, _≤_, _<_}
-use lib.Dec.{T}
+use lib.Dec.{T, eqb}
 use lib.IntN.{pos}
 use lib.ListN.{length, getD}
 use Rattle.program.specs.Asking.{ask, thenAsk, isRefused, inTurn, askEach}
@@ -14,6 +14,7 @@ use Rattle.program.specs.File.{nameCount, sizeAt, sizes, entryCount, ent
 use Rattle.program.specs.FirstSuch.{firstOf, firstSuch}
 use Rattle.program.specs.Graph.{Edge, edges, edgeCount, nodeCount, actionKind, actionEntry, actionTable, actionOf, graphBytes}
 use Rattle.program.specs.Kind.{isGuarded}
+use Rattle.program.specs.Links.{sourceIn, lowestFrom, links, Linkable, Linked}
 use Rattle.program.specs.Node.{arithForm, arithTree, booleanForm, booleanTree, commandForm, commandTree}
 use Rattle.program.specs.Questions.{validity, inputValidity, programPart, initialPart}
 use Rattle.program.specs.Sorted.{arithNamed, booleanNamed, commandNamed, arithPoints, booleanPoints, isGuardedTree, commandPoints}
@@ -42,6 +43,7 @@ use Rattle.program.proofs.Fit.{Counts as Allowed}
 use Rattle.program.proofs.Forms
 use Rattle.program.proofs.Forms.{ArithParts, BooleanParts, CommandParts}
 use Rattle.program.proofs.Inputs
+use Rattle.program.proofs.Links
 use Rattle.program.proofs.Made.{made}
 use Rattle.program.proofs.Nodes
 use Rattle.program.proofs.Nodes.{Inside}
@@ -375,3 +377,20 @@ module _ (s : List ℕ) (fit : inputValidity s ≡ Fit) where
 
   pub initial-few : length (initialPart s) / nameCount (programPart s) ≤ 512
   initial-few = Inputs.initial-few s fit
+
+-- ---- The edges of a node
+
+-- the links of edges that can be linked
+pub links-linked : (bytes : List ℕ) (count : ℕ) → Linkable bytes count → Linked (sourceIn bytes) count (links bytes count)
+links-linked = Links.links-linked
+
+-- the lowest edge from i on leaves the node where there is one, is not below i, and passes over none that leaves the node
+module _ (source : ℕ → ℕ) where
+  pub lowest-leaves : (n i node : ℕ) → lowestFrom n source i node < 255 → source (lowestFrom n source i node) ≡ node
+  lowest-leaves = Links.lowest-leaves source
+
+  pub lowest-at-least : (n i node : ℕ) → i + n ≤ 255 → i ≤ lowestFrom n source i node
+  lowest-at-least = Links.lowest-at-least source
+
+  pub lowest-passes : (n i node j : ℕ) → i ≤ j → j < i + n → j < lowestFrom n source i node → eqb (source j) node ≡ false
+  lowest-passes = Links.lowest-passes source

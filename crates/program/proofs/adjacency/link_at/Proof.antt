@@ -1,9 +1,9 @@
--- `running::link_at`: past the last link, 0.
+-- `adjacency::link_at`: past the last link, 0.
 use borrow.Author.Needs.{needs}
 use mathlib.Core.Path.{sym}
 use lib.ListN.{List·getD-eq-default}
-use Rattle.semantics.proofs.running.link_at.Statement.{statement}
-use Rattle.semantics.proofs.running.link_at.Tie as tie
+use Rattle.program.proofs.adjacency.link_at.Statement.{statement}
+use Rattle.program.proofs.adjacency.link_at.Tie as tie
 
 returns-2 : tie.Need-returns-2
 returns-2 c = sym (List·getD-eq-default (c .before .args .links .now) 0 (c .if1 .left))
