@@ -1,25 +1,19 @@
 -- The cycle of calls {`semantics::evaluator::condition::exit`}: a part is lower than what it is a part of, so the measure is `bound`.
 use mathlib.Core.Path.{_≡_, refl, sym, _∙_, ap}
-use mathlib.Core.List.{[], _∷_}
 use Prim.Native.Nat.{ℕ, _<_}
 use native.Mathlib.Omega.{arith}
 use borrow.Author.Needs.{needs}
 use borrow.Fn.Kinds.{In}
 use borrow.Fn.PlainCycle.{Measures, is, falls, and}
-use denote.Enum.Declared.{tagOf}
-use types.Run.{OneOf}
 use Rattle.program.specs.Decoding.{decodedEntry}
 use Rattle.program.specs.Graph.{done}
 use Rattle.program.specs.Node.{commandTree}
-use Rattle.program.specs.Syntax.{truth}
 use Rattle.program.specs.Tree.{Entries, commandBelow, commandTrees}
 use Rattle.program.specs.declared.CommandNode.{CommandNode}
-use Rattle.program.specs.declared.CommandNode.the-variants.{Skip, Assign, Store, Sequence, Conditional, Iteration, Guarded, Choice}
-use Rattle.program.proofs.CommandNode.{the-type}
 use Rattle.program.proofs.Forms.{CommandParts}
 use Rattle.program.proofs.Laws.{command-form, command-lower, boolean-any}
 use Rattle.semantics.proofs.Coded.{handed}
-use Rattle.semantics.proofs.Keys.{isKey, one-key}
+use Rattle.semantics.proofs.Keys.{left-at-once}
 use Rattle.semantics.proofs.Valued.{true-holds, negation-holds, conjunction-holds}
 use Rattle.semantics.proofs.evaluator.condition.exit.Reads as reads
 use Rattle.semantics.proofs.evaluator.condition.exit.Kinds as kinds
@@ -43,18 +37,6 @@ exit-below t = and 4 kinds.ps (falls 4 kinds.ps _<_ μ-exit t) reads.Pre
 abbrev claims : ℕ → lts.Claims
 claims t =
     (command-node-reads.Asked, command-node-reads.Learnt, truth-reads.Asked, truth-reads.Learnt, negated-reads.Asked, negated-reads.Learnt, exit-below t, reads.Post, both-reads.Asked, both-reads.Learnt)
-
--- a do of what is no guarded command is left at once
-plain : (es : Entries) (n : ℕ) (x : CommandNode) → OneOf (0 ∷ 1 ∷ 2 ∷ 3 ∷ 4 ∷ 5 ∷ []) (tagOf the-type x) → done (commandTree es n x) ≡ truth n
-unfolding commandTree done isKey
-plain es n Skip k = refl
-plain es n (Assign x a) k = refl
-plain es n (Store x i a) k = refl
-plain es n (Sequence p q) k = refl
-plain es n (Conditional p) k = refl
-plain es n (Iteration p) k = refl
-plain es n (Guarded g p) k = absurd (one-key 0 (1 ∷ 2 ∷ 3 ∷ 4 ∷ 5 ∷ []) 6 k)
-plain es n (Choice p q) k = absurd (one-key 0 (1 ∷ 2 ∷ 3 ∷ 4 ∷ 5 ∷ []) 7 k)
 
 -- where it is known what the entry is
 module _ (t : ℕ) (c : lts.After-command-node (claims t) (exit-at t) reads.Post) where
@@ -100,7 +82,7 @@ returns-2 t c =
     (rw (handed (a .exit .result) (a .exit .ok), handed (b .exit2 .result) (b .exit2 .ok)) at (c .both .ensures)))
 
 returns-3 : (t : ℕ) → lts.Need-returns-3 (claims t) (exit-at t) reads.Post
-returns-3 t c = rw (same t (c .before) refl, plain (entries t (c .before)) (c .before .before .args .n) (c .before .command-node .result) (c .match .keys3)) (true-holds _)
+returns-3 t c = rw (same t (c .before) refl, left-at-once (entries t (c .before)) (c .before .before .args .n) (c .before .command-node .result) (c .match .keys3)) (true-holds _)
 
 pub +exit-spec : {M : Type 1} → statement M
 +exit-spec =
