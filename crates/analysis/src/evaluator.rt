@@ -1,6 +1,7 @@
 // The sign analysis over a decoded program, in an abstract memory that is lent as an array: zeros after the last name's set.
 mod arithmetic;
 mod condition;
+pub(crate) mod index;
 
 use signs::Sign;
 use signs::sets;
