@@ -2,6 +2,7 @@
 mod arithmetic;
 mod condition;
 pub(crate) mod index;
+pub(crate) mod results;
 
 use signs::Sign;
 use signs::sets;

@@ -29,6 +29,13 @@ pub enum Mark {
     Unclean { record: u16, edge: u16 },
 }
 
+// The results of an action from an abstract memory: it with a name's set replaced by each of the first `count` sets in turn.
+pub(crate) struct Changes {
+    pub(crate) name: u16,
+    pub(crate) count: usize,
+    pub(crate) sets: [u8; 12],
+}
+
 // What judging a candidate solution answers.
 pub enum Verdict {
     Refused(Refusal),
