@@ -1,5 +1,5 @@
 -- The cycle of calls {`analysis::evaluator::arithmetic::signs`}: a part is lower than what it is a part of, so the measure is `bound`.
-use mathlib.Core.Path.{_≡_, sym, _∙_, ap}
+use mathlib.Core.Path.{_≡_, _∙_, ap}
 use Prim.Native.Nat.{ℕ, _<_}
 use native.Mathlib.Omega.{arith}
 use borrow.Author.Needs.{needs}
@@ -10,12 +10,10 @@ use mir.Syntax.{w32}
 use mir.ValLaws.{toZ-ofZ}
 use Rattle.signs.specs.Grid.{grids}
 use Rattle.signs.specs.Sign.{single, signOf}
-use Rattle.program.specs.Decoding.{decodedEntry}
 use Rattle.program.specs.Node.{arithTree}
-use Rattle.program.specs.Tree.{Entries, arithBelow, arithTrees}
 use Rattle.program.specs.declared.ArithNode.{ArithNode}
 use Rattle.program.proofs.Forms.{ArithParts}
-use Rattle.program.proofs.Laws.{arith-form, arith-lower}
+use Rattle.program.proofs.Laws.{arith-told, arith-lower}
 use Rattle.analysis.specs.Signs.{signsIn}
 use Rattle.analysis.proofs.evaluator.arithmetic.signs.Reads as reads
 use Rattle.analysis.proofs.evaluator.arithmetic.signs.Kinds as kinds
@@ -41,17 +39,9 @@ abbrev claims : ℕ → lts.Claims
 claims t =
     (arith-node-reads.Asked, arith-node-reads.Learnt, number-signs-reads.Asked, number-signs-reads.Learnt, set-of-reads.Asked, set-of-reads.Learnt, signs-below t, reads.Post, element-reads.Asked, element-reads.Learnt, operate-by-reads.Asked, operate-by-reads.Learnt)
 
--- where it is known what the entry is
-module _ (t : ℕ) (c : lts.After-arith-node (claims t) (signs-at t) reads.Post) where
-  abbrev entries : Entries
-  entries = decodedEntry (c .before .args .entries .now)
-
-  module _ {k : ArithNode} (told : c .arith-node .result ≡ k) where
-    same : arithBelow (arithTrees entries (c .before .args .bound)) (c .before .args .n) ≡ arithTree entries (c .before .args .n) k
-    same = arith-form entries (c .before .args .bound) (c .before .args .n) ∙ ap (arithTree entries (c .before .args .n)) (sym (c .arith-node .ensures) ∙ told)
-
-    lower : ArithParts k → (c .before .args .n < t) × (c .before .args .grids .now ≡ grids)
-    lower p = (omega (arith, arith-lower entries (c .before .args .bound) (c .before .args .n) (sym (c .arith-node .ensures) ∙ told) p, c .before .pre .0), c .before .pre .1)
+-- a part in the same table may be asked about
+lower : (t : ℕ) (c : lts.After-arith-node (claims t) (signs-at t) reads.Post) {k : ArithNode} → c .arith-node .result ≡ k → ArithParts k → (c .before .args .n < t) × (c .before .args .grids .now ≡ grids)
+lower t c told p = (omega (arith, arith-lower _ _ _ (c .arith-node .ensures) told p, c .before .pre .0), c .before .pre .1)
 
 signs-requires : (t : ℕ) → lts.Need-signs-requires (claims t) (signs-at t) reads.Post
 signs-requires t c κs = lower t (c .before .before .before) (c .before .node3 .given .1) tt
@@ -64,18 +54,18 @@ signs-requires-3 t c κs = let k = c .before in lower t (k .before .before .befo
 
 returns : (t : ℕ) → lts.Need-returns (claims t) (signs-at t) reads.Post
 unfolding arithTree signsIn
-returns t c = let k = c .before in rw (same t (k .before .before .before) (k .before .node .given .1)) (c .number-signs .ensures ∙ ap (λ (z : ℤ). single (signOf z)) (toZ-ofZ w32 (k .before .node .given .0 .0) record { sfits = k .known-told .given .0 .1 }))
+returns t c = let k = c .before in rw (arith-told _ _ _ (k .before .before .before .arith-node .ensures) (k .before .node .given .1)) (c .number-signs .ensures ∙ ap (λ (z : ℤ). single (signOf z)) (toZ-ofZ w32 (k .before .node .given .0 .0) record { sfits = k .known-told .given .0 .1 }))
 
 returns-2 : (t : ℕ) → lts.Need-returns-2 (claims t) (signs-at t) reads.Post
 unfolding arithTree signsIn
-returns-2 t c = let k = c .before .before in rw (same t (k .before .before .before) (k .before .node2 .given .1)) (c .set-of .ensures)
+returns-2 t c = let k = c .before .before in rw (arith-told _ _ _ (k .before .before .before .arith-node .ensures) (k .before .node2 .given .1)) (c .set-of .ensures)
 
 returns-3 : (t : ℕ) → lts.Need-returns-3 (claims t) (signs-at t) reads.Post
 unfolding arithTree signsIn
 returns-3 t c =
     let v = c .before in
     let k = v .before in
-    rw (same t (k .before .before .before) (k .before .node3 .given .1), ← v .signs .ensures) (c .element .ensures)
+    rw (arith-told _ _ _ (k .before .before .before .arith-node .ensures) (k .before .node3 .given .1), ← v .signs .ensures) (c .element .ensures)
 
 returns-4 : (t : ℕ) → lts.Need-returns-4 (claims t) (signs-at t) reads.Post
 unfolding arithTree signsIn
@@ -84,7 +74,7 @@ returns-4 t c =
     let a = b .before in
     let k = a .before in
     let at = k .before .before .before in
-    rw (same t at (k .before .node4 .given .1), ← a .signs2 .ensures, ← b .signs3 .ensures) (c .operate-by .ensures (at .before .pre .1))
+    rw (arith-told _ _ _ (at .arith-node .ensures) (k .before .node4 .given .1), ← a .signs2 .ensures, ← b .signs3 .ensures) (c .operate-by .ensures (at .before .pre .1))
 
 pub +signs-spec : {M : Type 1} → statement M
 +signs-spec =

@@ -1,18 +1,16 @@
 -- The cycle of calls {`analysis::evaluator::condition::exit_truths`}: a part is lower than what it is a part of, so the measure is `bound`.
-use mathlib.Core.Path.{_≡_, refl, sym, _∙_, ap}
+use mathlib.Core.Path.{_≡_, refl}
 use Prim.Native.Nat.{ℕ, _<_}
 use native.Mathlib.Omega.{arith}
 use borrow.Author.Needs.{needs}
 use borrow.Fn.Kinds.{In}
 use borrow.Fn.PlainCycle.{Measures, is, falls, and}
 use Rattle.signs.specs.Grid.{grids}
-use Rattle.program.specs.Decoding.{decodedEntry}
 use Rattle.program.specs.Graph.{done}
 use Rattle.program.specs.Node.{commandTree}
-use Rattle.program.specs.Tree.{Entries, commandBelow, commandTrees}
 use Rattle.program.specs.declared.CommandNode.{CommandNode}
 use Rattle.program.proofs.Forms.{CommandParts}
-use Rattle.program.proofs.Laws.{command-form, command-lower, boolean-any}
+use Rattle.program.proofs.Laws.{command-told, command-lower, boolean-any}
 use Rattle.analysis.specs.Signs.{truthsIn}
 use Rattle.semantics.proofs.Keys.{left-at-once}
 use Rattle.analysis.proofs.evaluator.condition.exit_truths.Reads as reads
@@ -39,17 +37,9 @@ abbrev claims : ℕ → lts.Claims
 claims t =
     (command-node-reads.Asked, command-node-reads.Learnt, truths-reads.Asked, truths-reads.Learnt, negated-reads.Asked, negated-reads.Learnt, exit-truths-below t, reads.Post, conjoined-reads.Asked, conjoined-reads.Learnt, certain-reads.Asked, certain-reads.Learnt)
 
--- where it is known what the entry is
-module _ (t : ℕ) (c : lts.After-command-node (claims t) (exit-truths-at t) reads.Post) where
-  abbrev entries : Entries
-  entries = decodedEntry (c .before .args .entries .now)
-
-  module _ {k : CommandNode} (told : c .command-node .result ≡ k) where
-    same : commandBelow (commandTrees entries (c .before .args .bound)) (c .before .args .n) ≡ commandTree entries (c .before .args .n) k
-    same = command-form entries (c .before .args .bound) (c .before .args .n) ∙ ap (commandTree entries (c .before .args .n)) (sym (c .command-node .ensures) ∙ told)
-
-    lower : CommandParts k → (c .before .args .n < t) × (c .before .args .grids .now ≡ grids)
-    lower p = (omega (arith, command-lower entries (c .before .args .bound) (c .before .args .n) (sym (c .command-node .ensures) ∙ told) p, c .before .pre .0), c .before .pre .1)
+-- a part in the same table may be asked about
+lower : (t : ℕ) (c : lts.After-command-node (claims t) (exit-truths-at t) reads.Post) {k : CommandNode} → c .command-node .result ≡ k → CommandParts k → (c .before .args .n < t) × (c .before .args .grids .now ≡ grids)
+lower t c told p = (omega (arith, command-lower _ _ _ (c .command-node .ensures) told p, c .before .pre .0), c .before .pre .1)
 
 truths-requires : (t : ℕ) → lts.Need-truths-requires (claims t) (exit-truths-at t) reads.Post
 truths-requires t c κs = c .before .before .before .before .pre .1
@@ -66,7 +56,7 @@ returns t c =
     let a = c .before in
     let k = a .before in
     let at = k .before .before .before in
-    rw (same t at (k .before .node .given .1), boolean-any (at .before .args .entries .now) (k .before .node .given .0 .0), ← a .truths .ensures) (c .negated .ensures)
+    rw (command-told _ _ _ (at .command-node .ensures) (k .before .node .given .1), boolean-any (at .before .args .entries .now) (k .before .node .given .0 .0), ← a .truths .ensures) (c .negated .ensures)
 
 returns-2 : (t : ℕ) → lts.Need-returns-2 (claims t) (exit-truths-at t) reads.Post
 unfolding commandTree done truthsIn
@@ -74,13 +64,13 @@ returns-2 t c =
     let b = c .before in
     let a = b .before in
     let k = a .before in
-    rw (same t (k .before .before .before) (k .before .node2 .given .1), ← a .exit-truths .ensures, ← b .exit-truths2 .ensures) (c .conjoined .ensures)
+    rw (command-told _ _ _ (k .before .before .before .command-node .ensures) (k .before .node2 .given .1), ← a .exit-truths .ensures, ← b .exit-truths2 .ensures) (c .conjoined .ensures)
 
 returns-3 : (t : ℕ) → lts.Need-returns-3 (claims t) (exit-truths-at t) reads.Post
 unfolding truthsIn
 returns-3 t c =
     let at = c .before .before in
-    rw (same t at refl, left-at-once (entries t at) (at .before .args .n) (at .command-node .result) (c .before .match .keys3)) (c .certain .ensures)
+    rw (command-told _ _ _ (at .command-node .ensures) refl, left-at-once _ _ (at .command-node .result) (c .before .match .keys3)) (c .certain .ensures)
 
 pub +exit-truths-spec : {M : Type 1} → statement M
 +exit-truths-spec =

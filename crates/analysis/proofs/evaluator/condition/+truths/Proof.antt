@@ -1,17 +1,15 @@
 -- The cycle of calls {`analysis::evaluator::condition::truths`}: a part is lower than what it is a part of, so the measure is `bound`.
-use mathlib.Core.Path.{_≡_, sym, _∙_, ap}
+use mathlib.Core.Path.{_≡_}
 use Prim.Native.Nat.{ℕ, _<_}
 use native.Mathlib.Omega.{arith}
 use borrow.Author.Needs.{needs}
 use borrow.Fn.Kinds.{In}
 use borrow.Fn.PlainCycle.{Measures, is, falls, and}
 use Rattle.signs.specs.Grid.{grids}
-use Rattle.program.specs.Decoding.{decodedEntry}
 use Rattle.program.specs.Node.{booleanTree}
-use Rattle.program.specs.Tree.{Entries, booleanBelow, booleanTrees}
 use Rattle.program.specs.declared.BooleanNode.{BooleanNode}
 use Rattle.program.proofs.Forms.{BooleanParts}
-use Rattle.program.proofs.Laws.{boolean-form, boolean-lower}
+use Rattle.program.proofs.Laws.{boolean-told, boolean-lower}
 use Rattle.analysis.specs.Signs.{truthsIn}
 use Rattle.analysis.proofs.evaluator.condition.truths.Reads as reads
 use Rattle.analysis.proofs.evaluator.condition.truths.Kinds as kinds
@@ -38,17 +36,9 @@ abbrev claims : ℕ → lts.Claims
 claims t =
     (boolean-node-reads.Asked, boolean-node-reads.Learnt, certain-reads.Asked, certain-reads.Learnt, comparison-reads.Asked, comparison-reads.Learnt, truths-below t, reads.Post, conjoined-reads.Asked, conjoined-reads.Learnt, and-then-reads.Asked, and-then-reads.Learnt, negated-reads.Asked, negated-reads.Learnt)
 
--- where it is known what the entry is
-module _ (t : ℕ) (c : lts.After-boolean-node (claims t) (truths-at t) reads.Post) where
-  abbrev entries : Entries
-  entries = decodedEntry (c .before .args .entries .now)
-
-  module _ {k : BooleanNode} (told : c .boolean-node .result ≡ k) where
-    same : booleanBelow (booleanTrees entries (c .before .args .bound)) (c .before .args .n) ≡ booleanTree entries (c .before .args .n) k
-    same = boolean-form entries (c .before .args .bound) (c .before .args .n) ∙ ap (booleanTree entries (c .before .args .n)) (sym (c .boolean-node .ensures) ∙ told)
-
-    lower : BooleanParts k → (c .before .args .n < t) × (c .before .args .grids .now ≡ grids)
-    lower p = (omega (arith, boolean-lower entries (c .before .args .bound) (c .before .args .n) (sym (c .boolean-node .ensures) ∙ told) p, c .before .pre .0), c .before .pre .1)
+-- a part in the same table may be asked about
+lower : (t : ℕ) (c : lts.After-boolean-node (claims t) (truths-at t) reads.Post) {k : BooleanNode} → c .boolean-node .result ≡ k → BooleanParts k → (c .before .args .n < t) × (c .before .args .grids .now ≡ grids)
+lower t c told p = (omega (arith, boolean-lower _ _ _ (c .boolean-node .ensures) told p, c .before .pre .0), c .before .pre .1)
 
 comparison-requires : (t : ℕ) → lts.Need-comparison-requires (claims t) (truths-at t) reads.Post
 comparison-requires t c κs = c .before .before .before .before .pre .1
@@ -70,11 +60,11 @@ truths-requires-5 t c κs = lower t (c .before .before .before) (c .before .node
 
 returns : (t : ℕ) → lts.Need-returns (claims t) (truths-at t) reads.Post
 unfolding booleanTree truthsIn
-returns t c = let k = c .before in rw (same t (k .before .before) (k .enum-told .given .1)) (c .certain .ensures)
+returns t c = let k = c .before in rw (boolean-told _ _ _ (k .before .before .boolean-node .ensures) (k .enum-told .given .1)) (c .certain .ensures)
 
 returns-2 : (t : ℕ) → lts.Need-returns-2 (claims t) (truths-at t) reads.Post
 unfolding booleanTree truthsIn
-returns-2 t c = let k = c .before in rw (same t (k .before .before .before) (k .before .node .given .1)) (c .comparison .ensures)
+returns-2 t c = let k = c .before in rw (boolean-told _ _ _ (k .before .before .before .boolean-node .ensures) (k .before .node .given .1)) (c .comparison .ensures)
 
 returns-3 : (t : ℕ) → lts.Need-returns-3 (claims t) (truths-at t) reads.Post
 unfolding booleanTree truthsIn
@@ -82,7 +72,7 @@ returns-3 t c =
     let b = c .before in
     let a = b .before in
     let k = a .before in
-    rw (same t (k .before .before .before) (k .before .node2 .given .1), ← a .truths .ensures, ← b .truths2 .ensures) (c .conjoined .ensures)
+    rw (boolean-told _ _ _ (k .before .before .before .boolean-node .ensures) (k .before .node2 .given .1), ← a .truths .ensures, ← b .truths2 .ensures) (c .conjoined .ensures)
 
 returns-4 : (t : ℕ) → lts.Need-returns-4 (claims t) (truths-at t) reads.Post
 unfolding booleanTree truthsIn
@@ -90,14 +80,14 @@ returns-4 t c =
     let b = c .before in
     let a = b .before in
     let k = a .before in
-    rw (same t (k .before .before .before) (k .before .node3 .given .1), ← a .truths3 .ensures, ← b .truths4 .ensures) (c .and-then .ensures)
+    rw (boolean-told _ _ _ (k .before .before .before .boolean-node .ensures) (k .before .node3 .given .1), ← a .truths3 .ensures, ← b .truths4 .ensures) (c .and-then .ensures)
 
 returns-5 : (t : ℕ) → lts.Need-returns-5 (claims t) (truths-at t) reads.Post
 unfolding booleanTree truthsIn
 returns-5 t c =
     let a = c .before in
     let k = a .before in
-    rw (same t (k .before .before .before) (k .before .node4 .given .1), ← a .truths5 .ensures) (c .negated .ensures)
+    rw (boolean-told _ _ _ (k .before .before .before .boolean-node .ensures) (k .before .node4 .given .1), ← a .truths5 .ensures) (c .negated .ensures)
 
 pub +truths-spec : {M : Type 1} → statement M
 +truths-spec =

@@ -1,5 +1,5 @@
 -- The cycle of calls {`analysis::evaluator::index::arith_negative`}: a part is lower than what it is a part of, so the measure is `bound`.
-use mathlib.Core.Path.{_≡_, sym, _∙_, ap}
+use mathlib.Core.Path.{_≡_}
 use Prim.Native.Nat.{ℕ, _<_}
 use native.Mathlib.Omega.{arith}
 use borrow.Author.Needs.{needs}
@@ -7,12 +7,10 @@ use borrow.Fn.Kinds.{In}
 use borrow.Fn.PlainCycle.{Measures, is, falls, and}
 use Rattle.signs.specs.Grid.{grids}
 use Rattle.signs.specs.Lists.{anyOf}
-use Rattle.program.specs.Decoding.{decodedEntry}
 use Rattle.program.specs.Node.{arithTree}
-use Rattle.program.specs.Tree.{Entries, arithBelow, arithTrees}
 use Rattle.program.specs.declared.ArithNode.{ArithNode}
 use Rattle.program.proofs.Forms.{ArithParts}
-use Rattle.program.proofs.Laws.{arith-form, arith-lower}
+use Rattle.program.proofs.Laws.{arith-told, arith-lower}
 use Rattle.analysis.specs.Index.{arithIndexes, anyNegative}
 use Rattle.analysis.proofs.Negative.{any-first, any-append}
 use Rattle.analysis.proofs.evaluator.index.arith_negative.Reads as reads
@@ -36,17 +34,9 @@ abbrev claims : ℕ → lts.Claims
 claims t =
     (arith-node-reads.Asked, arith-node-reads.Learnt, index-negative-reads.Asked, index-negative-reads.Learnt, arith-negative-below t, reads.Post)
 
--- where it is known what the entry is
-module _ (t : ℕ) (c : lts.After-arith-node (claims t) (arith-negative-at t) reads.Post) where
-  abbrev entries : Entries
-  entries = decodedEntry (c .before .args .entries .now)
-
-  module _ {k : ArithNode} (told : c .arith-node .result ≡ k) where
-    same : arithBelow (arithTrees entries (c .before .args .bound)) (c .before .args .n) ≡ arithTree entries (c .before .args .n) k
-    same = arith-form entries (c .before .args .bound) (c .before .args .n) ∙ ap (arithTree entries (c .before .args .n)) (sym (c .arith-node .ensures) ∙ told)
-
-    lower : ArithParts k → (c .before .args .n < t) × (c .before .args .grids .now ≡ grids)
-    lower p = (omega (arith, arith-lower entries (c .before .args .bound) (c .before .args .n) (sym (c .arith-node .ensures) ∙ told) p, c .before .pre .0), c .before .pre .1)
+-- a part in the same table may be asked about
+lower : (t : ℕ) (c : lts.After-arith-node (claims t) (arith-negative-at t) reads.Post) {k : ArithNode} → c .arith-node .result ≡ k → ArithParts k → (c .before .args .n < t) × (c .before .args .grids .now ≡ grids)
+lower t c told p = (omega (arith, arith-lower _ _ _ (c .arith-node .ensures) told p, c .before .pre .0), c .before .pre .1)
 
 index-negative-requires : (t : ℕ) → lts.Need-index-negative-requires (claims t) (arith-negative-at t) reads.Post
 index-negative-requires t c κs = c .before .before .before .before .pre .1
@@ -62,25 +52,25 @@ arith-negative-requires-3 t c κs = let k = c .before in lower t (k .before .bef
 
 returns : (t : ℕ) → lts.Need-returns (claims t) (arith-negative-at t) reads.Post
 unfolding arithTree arithIndexes anyNegative anyOf
-returns t c = rw (same t (c .before .before) (c .enum-told .given .1))
+returns t c = rw (arith-told _ _ _ (c .before .before .arith-node .ensures) (c .enum-told .given .1))
 
 returns-2 : (t : ℕ) → lts.Need-returns-2 (claims t) (arith-negative-at t) reads.Post
 unfolding arithTree arithIndexes anyNegative anyOf
-returns-2 t c = rw (same t (c .before .before) (c .enum-told2 .given .1))
+returns-2 t c = rw (arith-told _ _ _ (c .before .before .arith-node .ensures) (c .enum-told2 .given .1))
 
 returns-3 : (t : ℕ) → lts.Need-returns-3 (claims t) (arith-negative-at t) reads.Post
 unfolding arithTree arithIndexes
 returns-3 t c =
     let a = c .before in
     let k = a .before in
-    rw (same t (k .before .before .before) (k .before .node .given .1), any-first, a .index-negative .ensures, c .arith-negative .ensures)
+    rw (arith-told _ _ _ (k .before .before .before .arith-node .ensures) (k .before .node .given .1), any-first, a .index-negative .ensures, c .arith-negative .ensures)
 
 returns-4 : (t : ℕ) → lts.Need-returns-4 (claims t) (arith-negative-at t) reads.Post
 unfolding arithTree arithIndexes
 returns-4 t c =
     let a = c .before in
     let k = a .before in
-    rw (same t (k .before .before .before) (k .before .node2 .given .1), any-append, a .arith-negative2 .ensures, c .arith-negative3 .ensures)
+    rw (arith-told _ _ _ (k .before .before .before .arith-node .ensures) (k .before .node2 .given .1), any-append, a .arith-negative2 .ensures, c .arith-negative3 .ensures)
 
 pub +arith-negative-spec : {M : Type 1} → statement M
 +arith-negative-spec =

@@ -1,5 +1,5 @@
 -- The cycle of calls {`analysis::evaluator::index::boolean_negative`}: a part is lower than what it is a part of, so the measure is `bound`.
-use mathlib.Core.Path.{_≡_, sym, _∙_, ap}
+use mathlib.Core.Path.{_≡_}
 use Prim.Native.Nat.{ℕ, _<_}
 use native.Mathlib.Omega.{arith}
 use borrow.Author.Needs.{needs}
@@ -7,12 +7,10 @@ use borrow.Fn.Kinds.{In}
 use borrow.Fn.PlainCycle.{Measures, is, falls, and}
 use Rattle.signs.specs.Grid.{grids}
 use Rattle.signs.specs.Lists.{anyOf}
-use Rattle.program.specs.Decoding.{decodedEntry}
 use Rattle.program.specs.Node.{booleanTree}
-use Rattle.program.specs.Tree.{Entries, booleanBelow, booleanTrees}
 use Rattle.program.specs.declared.BooleanNode.{BooleanNode}
 use Rattle.program.proofs.Forms.{BooleanParts}
-use Rattle.program.proofs.Laws.{boolean-form, boolean-lower}
+use Rattle.program.proofs.Laws.{boolean-told, boolean-lower}
 use Rattle.analysis.specs.Index.{booleanIndexes, anyNegative}
 use Rattle.analysis.proofs.Negative.{any-append}
 use Rattle.analysis.proofs.evaluator.index.boolean_negative.Reads as reads
@@ -36,17 +34,9 @@ abbrev claims : ℕ → lts.Claims
 claims t =
     (boolean-node-reads.Asked, boolean-node-reads.Learnt, either-negative-reads.Asked, either-negative-reads.Learnt, boolean-negative-below t, reads.Post)
 
--- where it is known what the entry is
-module _ (t : ℕ) (c : lts.After-boolean-node (claims t) (boolean-negative-at t) reads.Post) where
-  abbrev entries : Entries
-  entries = decodedEntry (c .before .args .entries .now)
-
-  module _ {k : BooleanNode} (told : c .boolean-node .result ≡ k) where
-    same : booleanBelow (booleanTrees entries (c .before .args .bound)) (c .before .args .n) ≡ booleanTree entries (c .before .args .n) k
-    same = boolean-form entries (c .before .args .bound) (c .before .args .n) ∙ ap (booleanTree entries (c .before .args .n)) (sym (c .boolean-node .ensures) ∙ told)
-
-    lower : BooleanParts k → (c .before .args .n < t) × (c .before .args .grids .now ≡ grids)
-    lower p = (omega (arith, boolean-lower entries (c .before .args .bound) (c .before .args .n) (sym (c .boolean-node .ensures) ∙ told) p, c .before .pre .0), c .before .pre .1)
+-- a part in the same table may be asked about
+lower : (t : ℕ) (c : lts.After-boolean-node (claims t) (boolean-negative-at t) reads.Post) {k : BooleanNode} → c .boolean-node .result ≡ k → BooleanParts k → (c .before .args .n < t) × (c .before .args .grids .now ≡ grids)
+lower t c told p = (omega (arith, boolean-lower _ _ _ (c .boolean-node .ensures) told p, c .before .pre .0), c .before .pre .1)
 
 either-negative-requires : (t : ℕ) → lts.Need-either-negative-requires (claims t) (boolean-negative-at t) reads.Post
 either-negative-requires t c κs = c .before .before .before .before .pre .1
@@ -68,29 +58,29 @@ boolean-negative-requires-5 t c κs = lower t (c .before .before .before) (c .be
 
 returns : (t : ℕ) → lts.Need-returns (claims t) (boolean-negative-at t) reads.Post
 unfolding booleanTree booleanIndexes anyNegative anyOf
-returns t c = rw (same t (c .before .before) (c .enum-told .given .1))
+returns t c = rw (boolean-told _ _ _ (c .before .before .boolean-node .ensures) (c .enum-told .given .1))
 
 returns-2 : (t : ℕ) → lts.Need-returns-2 (claims t) (boolean-negative-at t) reads.Post
 unfolding booleanTree booleanIndexes
-returns-2 t c = let k = c .before in rw (same t (k .before .before .before) (k .before .node .given .1), any-append) (c .either-negative .ensures)
+returns-2 t c = let k = c .before in rw (boolean-told _ _ _ (k .before .before .before .boolean-node .ensures) (k .before .node .given .1), any-append) (c .either-negative .ensures)
 
 returns-3 : (t : ℕ) → lts.Need-returns-3 (claims t) (boolean-negative-at t) reads.Post
 unfolding booleanTree booleanIndexes
 returns-3 t c =
     let a = c .before in
     let k = a .before in
-    rw (same t (k .before .before .before) (k .before .node2 .given .1), any-append, a .boolean-negative .ensures, c .boolean-negative2 .ensures)
+    rw (boolean-told _ _ _ (k .before .before .before .boolean-node .ensures) (k .before .node2 .given .1), any-append, a .boolean-negative .ensures, c .boolean-negative2 .ensures)
 
 returns-4 : (t : ℕ) → lts.Need-returns-4 (claims t) (boolean-negative-at t) reads.Post
 unfolding booleanTree booleanIndexes
 returns-4 t c =
     let a = c .before in
     let k = a .before in
-    rw (same t (k .before .before .before) (k .before .node3 .given .1), any-append, a .boolean-negative3 .ensures, c .boolean-negative4 .ensures)
+    rw (boolean-told _ _ _ (k .before .before .before .boolean-node .ensures) (k .before .node3 .given .1), any-append, a .boolean-negative3 .ensures, c .boolean-negative4 .ensures)
 
 returns-5 : (t : ℕ) → lts.Need-returns-5 (claims t) (boolean-negative-at t) reads.Post
 unfolding booleanTree booleanIndexes
-returns-5 t c = let k = c .before in rw (same t (k .before .before .before) (k .before .node4 .given .1)) (c .boolean-negative5 .ensures)
+returns-5 t c = let k = c .before in rw (boolean-told _ _ _ (k .before .before .before .boolean-node .ensures) (k .before .node4 .given .1)) (c .boolean-negative5 .ensures)
 
 pub +boolean-negative-spec : {M : Type 1} → statement M
 +boolean-negative-spec =

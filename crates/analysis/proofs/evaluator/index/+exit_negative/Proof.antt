@@ -1,5 +1,5 @@
 -- The cycle of calls {`analysis::evaluator::index::exit_negative`}: a part is lower than what it is a part of, so the measure is `bound`.
-use mathlib.Core.Path.{_≡_, refl, sym, _∙_, ap}
+use mathlib.Core.Path.{_≡_, refl}
 use Prim.Native.Nat.{ℕ, _<_}
 use native.Mathlib.Omega.{arith}
 use borrow.Author.Needs.{needs}
@@ -7,13 +7,11 @@ use borrow.Fn.Kinds.{In}
 use borrow.Fn.PlainCycle.{Measures, is, falls, and}
 use Rattle.signs.specs.Grid.{grids}
 use Rattle.signs.specs.Lists.{anyOf}
-use Rattle.program.specs.Decoding.{decodedEntry}
 use Rattle.program.specs.Node.{commandTree}
-use Rattle.program.specs.Tree.{Entries, commandBelow, commandTrees}
 use Rattle.program.specs.declared.CommandNode.{CommandNode}
 use Rattle.program.specs.Graph.{done}
 use Rattle.program.proofs.Forms.{CommandParts}
-use Rattle.program.proofs.Laws.{command-form, command-lower, boolean-any}
+use Rattle.program.proofs.Laws.{command-told, command-lower, boolean-any}
 use Rattle.semantics.proofs.Keys.{left-at-once}
 use Rattle.analysis.specs.Index.{booleanIndexes, anyNegative}
 use Rattle.analysis.proofs.Negative.{any-append}
@@ -38,17 +36,9 @@ abbrev claims : ℕ → lts.Claims
 claims t =
     (command-node-reads.Asked, command-node-reads.Learnt, boolean-negative-reads.Asked, boolean-negative-reads.Learnt, exit-negative-below t, reads.Post)
 
--- where it is known what the entry is
-module _ (t : ℕ) (c : lts.After-command-node (claims t) (exit-negative-at t) reads.Post) where
-  abbrev entries : Entries
-  entries = decodedEntry (c .before .args .entries .now)
-
-  module _ {k : CommandNode} (told : c .command-node .result ≡ k) where
-    same : commandBelow (commandTrees entries (c .before .args .bound)) (c .before .args .n) ≡ commandTree entries (c .before .args .n) k
-    same = command-form entries (c .before .args .bound) (c .before .args .n) ∙ ap (commandTree entries (c .before .args .n)) (sym (c .command-node .ensures) ∙ told)
-
-    lower : CommandParts k → (c .before .args .n < t) × (c .before .args .grids .now ≡ grids)
-    lower p = (omega (arith, command-lower entries (c .before .args .bound) (c .before .args .n) (sym (c .command-node .ensures) ∙ told) p, c .before .pre .0), c .before .pre .1)
+-- a part in the same table may be asked about
+lower : (t : ℕ) (c : lts.After-command-node (claims t) (exit-negative-at t) reads.Post) {k : CommandNode} → c .command-node .result ≡ k → CommandParts k → (c .before .args .n < t) × (c .before .args .grids .now ≡ grids)
+lower t c told p = (omega (arith, command-lower _ _ _ (c .command-node .ensures) told p, c .before .pre .0), c .before .pre .1)
 
 boolean-negative-requires : (t : ℕ) → lts.Need-boolean-negative-requires (claims t) (exit-negative-at t) reads.Post
 boolean-negative-requires t c κs = c .before .before .before .before .pre .1
@@ -64,20 +54,20 @@ unfolding commandTree done booleanIndexes
 returns t c =
     let k = c .before in
     let at = k .before .before .before in
-    rw (same t at (k .before .node .given .1), boolean-any (at .before .args .entries .now) (k .before .node .given .0 .0)) (c .boolean-negative .ensures)
+    rw (command-told _ _ _ (at .command-node .ensures) (k .before .node .given .1), boolean-any (at .before .args .entries .now) (k .before .node .given .0 .0)) (c .boolean-negative .ensures)
 
 returns-2 : (t : ℕ) → lts.Need-returns-2 (claims t) (exit-negative-at t) reads.Post
 unfolding commandTree done booleanIndexes
 returns-2 t c =
     let a = c .before in
     let k = a .before in
-    rw (same t (k .before .before .before) (k .before .node2 .given .1), any-append, a .exit-negative .ensures, c .exit-negative2 .ensures)
+    rw (command-told _ _ _ (k .before .before .before .command-node .ensures) (k .before .node2 .given .1), any-append, a .exit-negative .ensures, c .exit-negative2 .ensures)
 
 returns-3 : (t : ℕ) → lts.Need-returns-3 (claims t) (exit-negative-at t) reads.Post
 unfolding booleanIndexes anyNegative anyOf
 returns-3 t c =
     let at = c .before in
-    rw (same t at refl, left-at-once (entries t at) (at .before .args .n) (at .command-node .result) (c .match .keys3))
+    rw (command-told _ _ _ (at .command-node .ensures) refl, left-at-once _ _ (at .command-node .result) (c .match .keys3))
 
 pub +exit-negative-spec : {M : Type 1} → statement M
 +exit-negative-spec =
