@@ -6,5 +6,7 @@ pub mod Meanings
 pub mod Stores
 pub mod Effects
 pub mod Accepted
+pub mod Alike
+pub mod Writing
 pub mod ThirdTerm
 pub mod Examples

@@ -2,6 +2,7 @@ pub mod Abstraction
 pub mod Records
 pub mod Signs
 pub mod Results
+pub mod Changing
 pub mod Index
 pub mod Verdict
 pub mod Solver

@@ -1,5 +1,5 @@
 -- The theorems on programs and their graphs for the crates above, on one page. Their proofs are in the modules that they cite.
-use mathlib.Core.Path.{_≡_}
+use mathlib.Core.Path.{_≡_, _∙_}
 use mathlib.Core.Bool.{Bool, true, false}
 use mathlib.Core.List.{List}
 use Prim.Native.Nat.{ℕ, suc, _+_, _*_, _/_, _%_, _≤_, _<_}
@@ -134,23 +134,23 @@ module _ (es : Entries) where
   pub command-entry : (n : ℕ) → commandEntry (commandAt es n) ≡ n
   command-entry = Trees.command-entry es
 
-  -- the tree of entry n as a part of entry bound, by what the entry is; one that has parts in its own table is lower
-  pub arith-form : (bound n : ℕ) → arithBelow (arithTrees es bound) n ≡ arithTree es n (arithForm es bound n)
-  arith-form = Forms.arith-form es
+  -- the tree of entry n as a part of entry bound, by what code was told that the entry is; one that has parts in its own table is lower
+  pub arith-told : (bound n : ℕ) {x k : ArithNode} → x ≡ arithForm es bound n → x ≡ k → arithBelow (arithTrees es bound) n ≡ arithTree es n k
+  arith-told = Forms.arith-told es
 
-  pub arith-lower : (bound n : ℕ) {x : ArithNode} → arithForm es bound n ≡ x → ArithParts x → n < bound
+  pub arith-lower : (bound n : ℕ) {x k : ArithNode} → x ≡ arithForm es bound n → x ≡ k → ArithParts k → n < bound
   arith-lower = Forms.arith-lower es
 
-  pub boolean-form : (bound n : ℕ) → booleanBelow (booleanTrees es bound) n ≡ booleanTree es n (booleanForm es bound n)
-  boolean-form = Forms.boolean-form es
+  pub boolean-told : (bound n : ℕ) {x k : BooleanNode} → x ≡ booleanForm es bound n → x ≡ k → booleanBelow (booleanTrees es bound) n ≡ booleanTree es n k
+  boolean-told = Forms.boolean-told es
 
-  pub boolean-lower : (bound n : ℕ) {x : BooleanNode} → booleanForm es bound n ≡ x → BooleanParts x → n < bound
+  pub boolean-lower : (bound n : ℕ) {x k : BooleanNode} → x ≡ booleanForm es bound n → x ≡ k → BooleanParts k → n < bound
   boolean-lower = Forms.boolean-lower es
 
-  pub command-form : (bound n : ℕ) → commandBelow (commandTrees es bound) n ≡ commandTree es n (commandForm es bound n)
-  command-form = Forms.command-form es
+  pub command-told : (bound n : ℕ) {x k : CommandNode} → x ≡ commandForm es bound n → x ≡ k → commandBelow (commandTrees es bound) n ≡ commandTree es n k
+  command-told = Forms.command-told es
 
-  pub command-lower : (bound n : ℕ) {x : CommandNode} → commandForm es bound n ≡ x → CommandParts x → n < bound
+  pub command-lower : (bound n : ℕ) {x k : CommandNode} → x ≡ commandForm es bound n → x ≡ k → CommandParts k → n < bound
   command-lower = Forms.command-lower es
 
 -- ---- Decoded entries
@@ -169,6 +169,9 @@ module _ (d : List ℕ) where
 
   pub command-any : (n : ℕ) → commandAt (decodedEntry d) n ≡ commandBelow (commandTrees (decodedEntry d) 256) n
   command-any = Decoded.command-any d
+
+  pub command-any-told : (n : ℕ) {x k : CommandNode} → x ≡ commandForm (decodedEntry d) 256 n → x ≡ k → commandAt (decodedEntry d) n ≡ commandTree (decodedEntry d) n k
+  command-any-told n e told = command-any n ∙ command-told (decodedEntry d) 256 n e told
 
 -- ---- First such
 
