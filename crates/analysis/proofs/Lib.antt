@@ -6,5 +6,6 @@ pub mod Meanings
 pub mod Stores
 pub mod Effects
 pub mod Accepted
+pub mod Chains
 pub mod ThirdTerm
 pub mod Examples
