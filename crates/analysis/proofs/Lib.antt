@@ -8,5 +8,6 @@ pub mod Effects
 pub mod Accepted
 pub mod Alike
 pub mod Writing
+pub mod Chains
 pub mod ThirdTerm
 pub mod Examples

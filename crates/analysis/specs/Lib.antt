@@ -1,5 +1,6 @@
 pub mod Abstraction
 pub mod Records
+pub mod Membership
 pub mod Signs
 pub mod Results
 pub mod Changing

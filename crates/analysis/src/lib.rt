@@ -1,6 +1,7 @@
 // Sheets: abstract memories, the sign analysis of actions, candidate solutions judged and solutions computed.
 
 mod evaluator;
+mod membership;
 
 use program::Refusal;
 use program::Validity;
