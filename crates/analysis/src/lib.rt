@@ -1,5 +1,7 @@
 // Sheets: abstract memories, the sign analysis of actions, candidate solutions judged and solutions computed.
 
+pub mod splitting;
+
 use program::Refusal;
 use program::Validity;
 
