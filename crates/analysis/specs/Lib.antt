@@ -1,5 +1,6 @@
 pub mod Abstraction
 pub mod Records
+pub mod RecordParts
 pub mod Signs
 pub mod Results
 pub mod Index

@@ -1,5 +1,6 @@
 // Sheets: abstract memories, the sign analysis of actions, candidate solutions judged and solutions computed.
 
+mod lists;
 pub mod splitting;
 
 use program::Refusal;
