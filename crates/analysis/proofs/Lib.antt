@@ -1,5 +1,6 @@
 pub mod Open
 pub mod Tabulated
+pub mod Laid
 pub mod Values
 pub mod Negative
 pub mod Meanings

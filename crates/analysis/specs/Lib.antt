@@ -1,6 +1,7 @@
 pub mod Abstraction
 pub mod Records
 pub mod Membership
+pub mod RecordParts
 pub mod Signs
 pub mod Results
 pub mod Changing

@@ -2,6 +2,8 @@
 
 mod evaluator;
 mod membership;
+mod lists;
+pub mod splitting;
 
 use program::Refusal;
 use program::Validity;
