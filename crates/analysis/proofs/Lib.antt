@@ -7,5 +7,6 @@ pub mod Stores
 pub mod Effects
 pub mod Accepted
 pub mod Chains
+pub mod Among
 pub mod ThirdTerm
 pub mod Examples
