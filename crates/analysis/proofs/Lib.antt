@@ -10,5 +10,6 @@ pub mod Accepted
 pub mod Alike
 pub mod Writing
 pub mod Chains
+pub mod Among
 pub mod ThirdTerm
 pub mod Examples

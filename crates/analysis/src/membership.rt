@@ -7,7 +7,7 @@ ghost use lib.ListN.{length};
 ghost use Rattle.analysis.specs.Membership as spec;
 ghost use Rattle.analysis.specs.Records;
 
-// The factor of each column of a record: the powers of 31821.
+// The factor of each column of a record: the powers of 31,821 modulo 65,536, so that bytes that are close fall apart.
 const FACTORS: [u16; 34] = [
     1,
     31821,

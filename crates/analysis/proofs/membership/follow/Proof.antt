@@ -2,10 +2,8 @@
 use Prim.Native.Nat.{ℕ}
 use borrow.Author.Needs.{needs}
 use mathlib.Core.List.{List}
-use mathlib.Core.Path.{_≡_, refl, sym, ap, _∙_}
 use native.Mathlib.Omega.{arith}
 use Rattle.analysis.specs.Membership.{Sought}
-use Rattle.analysis.specs.Records.{recordAt, sameSigns}
 use Rattle.analysis.proofs.Chains.{Walked, There, hash-small, walked-first, walked-there, walked-on, found-here, found-nowhere}
 use Rattle.analysis.proofs.membership.follow.Statement.{statement}
 use Rattle.analysis.proofs.membership.follow.Tie as tie

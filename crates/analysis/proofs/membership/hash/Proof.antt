@@ -1,7 +1,7 @@
 -- `membership::hash`: the loop adds the bytes up.
 use Prim.Native.Nat.{_*_, _≤_, _-_}
 use borrow.Author.Needs.{needs}
-use mathlib.Core.Path.{_≡_, refl, sym, _∙_}
+use mathlib.Core.Path.{_≡_, refl}
 use native.Mathlib.Nat.{le-antisymm}
 use native.Mathlib.Numerals.{add-one}
 use native.Mathlib.Omega.{arith}
@@ -15,9 +15,6 @@ Inv-loop factors bytes end sum₀ i₀ sum i = (i ≤ end) × (sum ≡ weighted 
 abbrev μ-loop : tie.MeasureT-loop
 μ-loop factors bytes end sum₀ i₀ sum i = end - i
 
-least-requires : tie.Need-least-requires Inv-loop μ-loop
-least-requires c κs = search needs
-
 loop-holds : tie.Need-loop-holds Inv-loop μ-loop
 unfolding weighted
 loop-holds c = (search needs, refl, search needs)
@@ -25,23 +22,14 @@ loop-holds c = (search needs, refl, search needs)
 shared-slice-read-weight : tie.Need-shared-slice-read-weight Inv-loop μ-loop
 shared-slice-read-weight c = omega (arith, c .before .before .before .least .ensures)
 
-mul-weight : tie.Need-mul-weight Inv-loop μ-loop
-mul-weight c = search needs
-
 element-copy-out-weight : tie.Need-element-copy-out-weight Inv-loop μ-loop
 element-copy-out-weight c = omega (arith, c .before .before .before .least .ensures)
-
-weight-requires : tie.Need-weight-requires Inv-loop μ-loop
-weight-requires c κs = search needs
 
 add-sum : tie.Need-add-sum Inv-loop μ-loop
 add-sum c = omega (arith, c .before .before .before .before .before .least .ensures)
 
 add-i : tie.Need-add-i Inv-loop μ-loop
 add-i c = omega (arith, c .before .before .before .before .before .least .ensures)
-
-loop-less : tie.Need-loop-less Inv-loop μ-loop
-loop-less c = search needs
 
 loop-again : tie.Need-loop-again Inv-loop μ-loop
 unfolding weighted
@@ -62,15 +50,15 @@ hash-spec =
     (tie.spec
     Inv-loop
     μ-loop
-    least-requires
+    (λ c κs. search needs)
     loop-holds
     shared-slice-read-weight
-    mul-weight
+    (λ c. search needs)
     element-copy-out-weight
-    weight-requires
+    (λ c κs. search needs)
     add-sum
     add-i
-    loop-less
+    (λ c. search needs)
     loop-again
     mul-result
     returns)

@@ -24,17 +24,8 @@ loop-holds : tie.Need-loop-holds Inv-loop μ-loop
 unfolding sameSigns
 loop-holds c = (search needs, refl)
 
-shared-slice-read-alike : tie.Need-shared-slice-read-alike Inv-loop μ-loop
-shared-slice-read-alike c = search needs
-
 shared-slice-read-alike-2 : tie.Need-shared-slice-read-alike-2 Inv-loop μ-loop
 shared-slice-read-alike-2 c = omega (arith, c .before .before .before .before .if1 .left)
-
-add-i : tie.Need-add-i Inv-loop μ-loop
-add-i c = search needs
-
-loop-less : tie.Need-loop-less Inv-loop μ-loop
-loop-less c = search needs
 
 loop-again : tie.Need-loop-again Inv-loop μ-loop
 loop-again c =
@@ -51,4 +42,4 @@ returns-2 c =
 pub same-spec : {M : Type 1} → statement M
 same-spec =
     tie.close
-    (tie.spec Inv-loop μ-loop returns loop-holds shared-slice-read-alike shared-slice-read-alike-2 add-i loop-less loop-again returns-2)
+    (tie.spec Inv-loop μ-loop returns loop-holds (λ c. search needs) shared-slice-read-alike-2 (λ c. search needs) (λ c. search needs) loop-again returns-2)

@@ -5,10 +5,8 @@ use native.Mathlib.Omega.{arith}
 use mathlib.Core.Path.{refl}
 use Rattle.analysis.proofs.membership.weight.Statement.{statement}
 use Rattle.analysis.proofs.membership.weight.Tie as tie
-use Rattle.analysis.proofs.membership.weight.Lts as lts
-use Rattle.analysis.proofs.membership.weight.Reads as reads
 
-small : (c : lts.Start reads.Pre reads.Post) → c .args .byte * c .args .factor ≤ 255 * 65535
+small : (c : tie.Start) → c .args .byte * c .args .factor ≤ 255 * 65535
 small c = mul-le-mul {n₂ = 255} {m₂ = 65535} (omega arith) (omega arith)
 
 mul-result : tie.Need-mul-result
