@@ -1,15 +1,17 @@
 // Lists of records: questions 16 and 17, and the reading and writing of a record.
 
 ghost use mathlib.Core.Path.{_≡_};
-ghost use mathlib.Core.List.{_++_};
-ghost use Prim.Native.Nat.{_<_, _≤_, _+_};
+ghost use mathlib.Core.List.{List, _++_};
+ghost use Prim.Native.Nat.{ℕ, _<_, _≤_, _+_};
 ghost use lib.ListN.{length};
 ghost use Rattle.program.specs.DrawingParts;
 ghost use Rattle.program.specs.Graph;
 ghost use Rattle.analysis.specs.Abstraction;
 ghost use Rattle.analysis.specs.RecordParts as parts;
 ghost use Rattle.analysis.specs.Records as spec;
+use program::Validity;
 use program::file;
+use program::validation;
 
 // Question 16 of a list: whether it is whole records of a width, at most 4,096.
 pub(crate) fn whole(bytes: &[u8], width: usize) -> bool
@@ -30,6 +32,69 @@ pub(crate) fn byte_formed(size: u16, b: u8) -> bool
         return true;
     }
     b == 2 || b == 4
+}
+
+// Question 17 of the memory at a place.
+pub(crate) fn memory_formed(sizes: &[u16; 32], names: usize, bytes: &[u8], at: usize) -> Validity
+    requires { ⌜ (names ≤ 32) × (at + names ≤ length (now bytes)) ⌝ }
+    ensures { λ r. ⌜ ((ns : List ℕ) → parts.SizesIn ns (now (sizes .entry)) names → r ≡ spec.memoryFormed ns (now (bytes .entry)) at) ⌝ }
+{
+    let mut i: usize = 0;
+    while i < names {
+        let v = validation::ask(byte_formed(sizes[i], bytes[at + i]), 17, at + i);
+        if validation::refused(v) {
+            return v;
+        }
+        i += 1;
+    }
+    Validity::Fit
+}
+
+// Question 17 of a start list.
+pub(crate) fn initial_formed(sizes: &[u16; 32], names: usize, bytes: &[u8]) -> Validity
+    requires { ⌜ (0 < names) × (names ≤ 32) ⌝ }
+    ensures { λ r. ⌜ ((ns : List ℕ) → parts.SizesIn ns (now (sizes .entry)) names → r ≡ spec.initialFormed ns (now (bytes .entry))) ⌝ }
+{
+    let count = bytes.len() / names;
+    let mut k: usize = 0;
+    while k < count {
+        let v = memory_formed(sizes, names, bytes, names * k);
+        if validation::refused(v) {
+            return v;
+        }
+        k += 1;
+    }
+    Validity::Fit
+}
+
+// Question 17 of the record at a place of a solution, for a graph of so many nodes.
+fn record_formed(sizes: &[u16; 32], names: usize, nodes: u16, bytes: &[u8], at: usize) -> Validity
+    requires { ⌜ (names ≤ 32) × (at + 2 + names ≤ length (now bytes)) ⌝ }
+    ensures { λ r. ⌜ ((ns : List ℕ) → parts.SizesIn ns (now (sizes .entry)) names → r ≡ parts.recordFormed ns nodes (now (bytes .entry)) at) ⌝ }
+{
+    let node = validation::ask(file::word_at(bytes, at) < nodes, 17, at);
+    if validation::refused(node) {
+        return node;
+    }
+    memory_formed(sizes, names, bytes, at + 2)
+}
+
+// Question 17 of a solution.
+pub(crate) fn solution_formed(sizes: &[u16; 32], names: usize, nodes: u16, bytes: &[u8]) -> Validity
+    requires { ⌜ names ≤ 32 ⌝ }
+    ensures { λ r. ⌜ ((ns : List ℕ) (g : Graph.Graph) → parts.SizesIn ns (now (sizes .entry)) names → g .fresh ≡ nodes → r ≡ spec.solutionFormed ns g (now (bytes .entry))) ⌝ }
+{
+    let width = 2 + names;
+    let count = bytes.len() / width;
+    let mut k: usize = 0;
+    while k < count {
+        let v = record_formed(sizes, names, nodes, bytes, width * k);
+        if validation::refused(v) {
+            return v;
+        }
+        k += 1;
+    }
+    Validity::Fit
 }
 
 // The byte of name `i` from a place on: 0 past the last name.
