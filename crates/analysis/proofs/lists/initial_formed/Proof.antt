@@ -28,9 +28,6 @@ abbrev μ-loop : tie.MeasureT-loop
 inside : (c : tie.In-loop Inv-loop μ-loop) → let a = c .before .before .before .args in a .names * c .before .loop .k + a .names ≤ length (a .bytes .now)
 inside c = record-inside _ _ (c .before .loop .k) (c .loop-test .taken)
 
-div-count : tie.Need-div-count Inv-loop μ-loop
-div-count c = search needs
-
 loop-holds : tie.Need-loop-holds Inv-loop μ-loop
 unfolding askEach firstOf
 loop-holds c = (search needs, λ ns y. refl)
@@ -41,9 +38,6 @@ mul-memory-formed c = omega (arith, inside c)
 memory-formed-requires : tie.Need-memory-formed-requires Inv-loop μ-loop
 memory-formed-requires c κs = (c .before .before .before .pre .1, inside c)
 
-refused-requires : tie.Need-refused-requires Inv-loop μ-loop
-refused-requires c κs = search needs
-
 returns : tie.Need-returns Inv-loop μ-loop
 returns c ns y =
     let turn = c .before .before .before in
@@ -51,9 +45,6 @@ returns c ns y =
 
 add-k : tie.Need-add-k Inv-loop μ-loop
 add-k c = omega (arith, div-le-self (length (c .before .before .before .before .before .before .args .bytes .now)) (c .before .before .before .before .before .before .args .names))
-
-loop-less : tie.Need-loop-less Inv-loop μ-loop
-loop-less c = search needs
 
 loop-again : tie.Need-loop-again Inv-loop μ-loop
 loop-again c =
@@ -66,4 +57,4 @@ returns-2 c ns y =
     rw (← initial-asked y _, ← le-antisymm (l .inv .0) (c .loop-test .left)) (sym (l .inv .1 ns y))
 
 pub initial-formed-spec : {M : Type 1} → statement M
-initial-formed-spec = tie.close (tie.spec Inv-loop μ-loop div-count loop-holds mul-memory-formed memory-formed-requires refused-requires returns add-k loop-less loop-again returns-2)
+initial-formed-spec = tie.close (tie.spec Inv-loop μ-loop (λ c. search needs) loop-holds mul-memory-formed memory-formed-requires (λ c κs. search needs) returns add-k (λ c. search needs) loop-again returns-2)

@@ -28,40 +28,10 @@ loop-holds : tie.Need-loop-holds Inv-loop μ-loop
 unfolding askEach firstOf
 loop-holds c = (search needs, refl)
 
-mul-byte-formed : tie.Need-mul-byte-formed Inv-loop μ-loop
-mul-byte-formed c = search needs
-
-element-copy-out-byte-formed : tie.Need-element-copy-out-byte-formed Inv-loop μ-loop
-element-copy-out-byte-formed c = search needs
-
-add-byte-formed : tie.Need-add-byte-formed Inv-loop μ-loop
-add-byte-formed c = search needs
-
-shared-slice-read-byte-formed : tie.Need-shared-slice-read-byte-formed Inv-loop μ-loop
-shared-slice-read-byte-formed c = search needs
-
-byte-formed-requires : tie.Need-byte-formed-requires Inv-loop μ-loop
-byte-formed-requires c κs = search needs
-
-add-ask : tie.Need-add-ask Inv-loop μ-loop
-add-ask c = search needs
-
-ask-requires : tie.Need-ask-requires Inv-loop μ-loop
-ask-requires c κs = search needs
-
-refused-requires : tie.Need-refused-requires Inv-loop μ-loop
-refused-requires c κs = search needs
-
 returns : tie.Need-returns Inv-loop μ-loop
 returns c ns y =
     let l = c .before .before .before .before .before .before .before .loop in
     each-stops _ _ (l .i) _ _ (c .before .before .before .before .before .before .loop-test .taken) (l .inv .1) (asked (c .before .before)) (c .before .refused .ensures) (c .if1 .taken) ∙ memory-asked y _ _
-
-add-i : tie.Need-add-i Inv-loop μ-loop
-add-i c = search needs
-
-loop-less : tie.Need-loop-less Inv-loop μ-loop
-loop-less c = search needs
 
 loop-again : tie.Need-loop-again Inv-loop μ-loop
 loop-again c =
@@ -74,4 +44,4 @@ returns-2 c ns y =
     rw (← memory-asked y _ _, ← le-antisymm (l .inv .0) (c .loop-test .left)) (sym (l .inv .1))
 
 pub memory-formed-spec : {M : Type 1} → statement M
-memory-formed-spec = tie.close (tie.spec Inv-loop μ-loop loop-holds mul-byte-formed element-copy-out-byte-formed add-byte-formed shared-slice-read-byte-formed byte-formed-requires add-ask ask-requires refused-requires returns add-i loop-less loop-again returns-2)
+memory-formed-spec = tie.close (tie.spec Inv-loop μ-loop loop-holds (λ c. search needs) (λ c. search needs) (λ c. search needs) (λ c. search needs) (λ c κs. search needs) (λ c. search needs) (λ c κs. search needs) (λ c κs. search needs) returns (λ c. search needs) (λ c. search needs) loop-again returns-2)

@@ -19,15 +19,9 @@ returns-2 c =
     let a = c .before .before .before .args in
     rw (lt-ltb _ _ (c .before .if1 .left)) (sym (List·getD-eq-default (a .bytes .now) 0 (omega arith)))
 
-add-byte-at : tie.Need-add-byte-at
-add-byte-at c = search needs
-
-byte-at-requires : tie.Need-byte-at-requires
-byte-at-requires c κs = search needs
-
 returns-3 : tie.Need-returns-3
 unfolding paddedByte
 returns-3 c = rw (lt-ltb _ _ (c .before .before .if1 .left)) (c .byte-at .ensures)
 
 pub padded-byte-spec : {M : Type 1} → statement M
-padded-byte-spec = tie.close (tie.spec returns returns-2 add-byte-at byte-at-requires returns-3)
+padded-byte-spec = tie.close (tie.spec returns returns-2 (λ c. search needs) (λ c κs. search needs) returns-3)

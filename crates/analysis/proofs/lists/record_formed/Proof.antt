@@ -13,28 +13,13 @@ use Rattle.analysis.proofs.lists.record_formed.Tie as tie
 asked : (c : tie.After-ask) → let a = c .before .before .before .args in c .ask .result ≡ ask (ltb (wordAt (a .bytes .now) (a .at)) (a .nodes)) 17 (a .at)
 asked c = c .ask .ensures ∙ rw (c .before .word-at .ensures)
 
-word-at-requires : tie.Need-word-at-requires
-word-at-requires c κs = search needs
-
-ask-requires : tie.Need-ask-requires
-ask-requires c κs = search needs
-
-refused-requires : tie.Need-refused-requires
-refused-requires c κs = search needs
-
 returns : tie.Need-returns
 unfolding recordFormed
 returns c ns y = stops _ _ _ _ (asked (c .before .before)) (c .before .refused .ensures) (c .if1 .taken)
-
-add-memory-formed : tie.Need-add-memory-formed
-add-memory-formed c = search needs
-
-memory-formed-requires : tie.Need-memory-formed-requires
-memory-formed-requires c κs = search needs
 
 returns-2 : tie.Need-returns-2
 unfolding recordFormed
 returns-2 c ns y = goes-on _ _ _ _ _ (asked (c .before .before .before)) (c .before .before .refused .ensures) (c .before .if1 .left) (c .memory-formed .ensures ns y)
 
 pub record-formed-spec : {M : Type 1} → statement M
-record-formed-spec = tie.close (tie.spec word-at-requires ask-requires refused-requires returns add-memory-formed memory-formed-requires returns-2)
+record-formed-spec = tie.close (tie.spec (λ c κs. search needs) (λ c κs. search needs) (λ c κs. search needs) returns (λ c. search needs) (λ c κs. search needs) returns-2)

@@ -27,12 +27,6 @@ abbrev μ-loop : tie.MeasureT-loop
 inside : (c : tie.In-loop Inv-loop μ-loop) → let a = c .before .before .before .args in (2 + a .names) * c .before .loop .k + 2 + a .names ≤ length (a .bytes .now)
 inside c = omega (arith, record-inside _ _ (c .before .loop .k) (c .loop-test .taken))
 
-add-width : tie.Need-add-width Inv-loop μ-loop
-add-width c = search needs
-
-div-count : tie.Need-div-count Inv-loop μ-loop
-div-count c = search needs
-
 loop-holds : tie.Need-loop-holds Inv-loop μ-loop
 unfolding askEach firstOf
 loop-holds c = (search needs, λ ns y. refl)
@@ -43,9 +37,6 @@ mul-record-formed c = omega (arith, inside c)
 record-formed-requires : tie.Need-record-formed-requires Inv-loop μ-loop
 record-formed-requires c κs = (c .before .before .before .pre, inside c)
 
-refused-requires : tie.Need-refused-requires Inv-loop μ-loop
-refused-requires c κs = search needs
-
 returns : tie.Need-returns Inv-loop μ-loop
 returns c ns g y e =
     let turn = c .before .before .before in
@@ -53,9 +44,6 @@ returns c ns g y e =
 
 add-k : tie.Need-add-k Inv-loop μ-loop
 add-k c = omega (arith, div-le-self (length (c .before .before .before .before .before .before .args .bytes .now)) (2 + c .before .before .before .before .before .before .args .names))
-
-loop-less : tie.Need-loop-less Inv-loop μ-loop
-loop-less c = search needs
 
 loop-again : tie.Need-loop-again Inv-loop μ-loop
 loop-again c =
@@ -68,4 +56,4 @@ returns-2 c ns g y e =
     rw (← solution-asked y _ g e, ← le-antisymm (l .inv .0) (c .loop-test .left)) (sym (l .inv .1 ns y))
 
 pub solution-formed-spec : {M : Type 1} → statement M
-solution-formed-spec = tie.close (tie.spec Inv-loop μ-loop add-width div-count loop-holds mul-record-formed record-formed-requires refused-requires returns add-k loop-less loop-again returns-2)
+solution-formed-spec = tie.close (tie.spec Inv-loop μ-loop (λ c. search needs) (λ c. search needs) loop-holds mul-record-formed record-formed-requires (λ c κs. search needs) returns add-k (λ c. search needs) loop-again returns-2)

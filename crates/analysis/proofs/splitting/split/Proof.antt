@@ -20,30 +20,6 @@ both s place e p =
     let q = p ∙ ap (λ (v : Validity). splitBy v (recordWidth (sizes s)) place) (sym e) in
     (q, ap splitNumbers q)
 
-validate-requires : tie.Need-validate-requires
-validate-requires c κs = search needs
-
-enum-told : tie.Need-enum-told
-enum-told c = search needs
-
-name-count-requires : tie.Need-name-count-requires
-name-count-requires c κs = search needs
-
-cast-width : tie.Need-cast-width
-cast-width c = search needs
-
-add-width : tie.Need-add-width
-add-width c = search needs
-
-div-t8 : tie.Need-div-t8
-div-t8 c = search needs
-
-rem-t10 : tie.Need-rem-t10
-rem-t10 c = search needs
-
-enum-known-v : tie.Need-enum-known-v
-enum-known-v c = search needs
-
 returns : tie.Need-returns
 unfolding splitBy recordWidth
 returns c =
@@ -55,4 +31,4 @@ unfolding splitBy
 returns-2 c = both _ _ (sym (c .before .before .before .validate .ensures .0) ∙ c .before .v .given .1) refl
 
 pub split-spec : {M : Type 1} → statement M
-split-spec = tie.close (tie.spec validate-requires enum-told name-count-requires cast-width add-width div-t8 rem-t10 enum-known-v returns returns-2)
+split-spec = tie.close (tie.spec (λ c κs. search needs) (λ c. search needs) (λ c κs. search needs) (λ c. search needs) (λ c. search needs) (λ c. search needs) (λ c. search needs) (λ c. search needs) returns returns-2)
