@@ -1,10 +1,15 @@
 pub mod Open
 pub mod Tabulated
+pub mod Laid
 pub mod Values
 pub mod Negative
 pub mod Meanings
 pub mod Stores
 pub mod Effects
 pub mod Accepted
+pub mod Alike
+pub mod Writing
+pub mod Chains
+pub mod Among
 pub mod ThirdTerm
 pub mod Examples

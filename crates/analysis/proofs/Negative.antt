@@ -1,6 +1,6 @@
 -- Where an expression, a condition or an action is undefined for reason 34, one of its index sets has minus.
 use mathlib.Core.Path.{_≡_, refl, ap, _∙_}
-use mathlib.Core.Bool.{Bool, true, false, cond, not, _&&_}
+use mathlib.Core.Bool.{Bool, true, false, cond, not, _&&_, _||_}
 use mathlib.Core.List.{List, [], _∷_, _++_}
 use Prim.Native.Nat.{ℕ, _+_}
 use native.Mathlib.Omega.{arith}
@@ -31,20 +31,28 @@ use Rattle.semantics.specs.declared.Fault.{Fault}
 use Rattle.semantics.specs.declared.Truth.{Truth}
 use Rattle.semantics.specs.declared.Truth.the-variants.{Known, Undefined as Unknown}
 use Rattle.analysis.specs.Abstraction.{abstractMemory}
-use Rattle.analysis.specs.Index.{arithIndexes, booleanIndexes}
+use Rattle.analysis.specs.Index.{arithIndexes, booleanIndexes, anyNegative}
 use Rattle.analysis.specs.Signs.{signsIn}
 use Rattle.analysis.specs.Soundness.{isNegativeIndex}
 use Rattle.analysis.proofs.Values.{value-sound}
 
--- some set of a list has minus: of two lists, one after the other
+-- some set of a list has minus: the first or one of the others; of two lists, one after the other
+pub any-first : (set : ℕ) (sets : List ℕ) → anyNegative (set ∷ sets) ≡ (has set Minus || anyNegative sets)
+unfolding anyNegative anyOf
+any-first set sets = refl
+
+pub any-append : (xs ys : List ℕ) → anyNegative (xs ++ ys) ≡ (anyNegative xs || anyNegative ys)
+unfolding anyNegative
+any-append xs ys = anyOf-append (λ set. has set Minus) xs ys
+
 abbrev pub SomeMinus : List ℕ → Type 0
-SomeMinus sets = T (anyOf (λ set. has set Minus) sets)
+SomeMinus sets = T (anyNegative sets)
 
 pub first-minus : (xs ys : List ℕ) → SomeMinus xs → SomeMinus (xs ++ ys)
-first-minus xs ys t = rw (anyOf-append (λ set. has set Minus) xs ys) (or-left (anyOf (λ set. has set Minus) xs) (anyOf (λ set. has set Minus) ys) t)
+first-minus xs ys t = rw (any-append xs ys) (or-left (anyNegative xs) (anyNegative ys) t)
 
 pub second-minus : (xs ys : List ℕ) → SomeMinus ys → SomeMinus (xs ++ ys)
-second-minus xs ys t = rw (anyOf-append (λ set. has set Minus) xs ys) (or-right (anyOf (λ set. has set Minus) xs) (anyOf (λ set. has set Minus) ys) t)
+second-minus xs ys t = rw (any-append xs ys) (or-right (anyNegative xs) (anyNegative ys) t)
 
 -- where an evaluation is a number, it is not undefined; where a truth is known, neither
 pub no-fault {ℓ} : {A : Type ℓ} (z : ℤ) (f : Fault) → Number z ≡ Undefined f → A
@@ -92,7 +100,7 @@ module _ (ns : List ℕ) (m : List ℤ) where
   ValueMinus a = (f : Fault) → value ns m a ≡ Undefined f → T (isNegativeIndex f) → SomeMinus (arithIndexes ρ a)
 
   pub place-minus : (x : ℕ) (i : Arith) → T (arithNamed ns i) → ValueMinus i → (f : Fault) → placeOf ns x (value ns m i) ≡ nowhere f → T (isNegativeIndex f) → SomeMinus (signsIn ρ i ∷ arithIndexes ρ i)
-  unfolding placeOf anyOf isNegativeIndex faultNumber reasonNumber signOf
+  unfolding placeOf anyOf anyNegative isNegativeIndex faultNumber reasonNumber signOf
   place-minus x i t below f e u = by (value ns m i) refl e
     where
       fits : (j : ℕ) (b : Bool) → cond b (at (firstCell ns x + j)) (nowhere (fault IndexTooLarge)) ≡ nowhere f → SomeMinus (signsIn ρ i ∷ arithIndexes ρ i)
@@ -101,10 +109,10 @@ module _ (ns : List ℕ) (m : List ℤ) where
 
       by : (v : Evaluation) → value ns m i ≡ v → placeOf ns x v ≡ nowhere f → SomeMinus (signsIn ρ i ∷ arithIndexes ρ i)
       by (Number (pos j)) v e = fits j (ltb j (getD ns x 0)) e
-      by (Number (negsuc j)) v e = or-left (has (signsIn ρ i) Minus) (anyOf (λ set. has set Minus) (arithIndexes ρ i)) (value-sound ns m i t (negsuc j) v)
+      by (Number (negsuc j)) v e = or-left (has (signsIn ρ i) Minus) (anyNegative (arithIndexes ρ i)) (value-sound ns m i t (negsuc j) v)
       by (Undefined g) v e =
           let p : g ≡ f = cc in
-          or-right (has (signsIn ρ i) Minus) (anyOf (λ set. has set Minus) (arithIndexes ρ i)) (below f (v ∙ ap Undefined p) u)
+          or-right (has (signsIn ρ i) Minus) (anyNegative (arithIndexes ρ i)) (below f (v ∙ ap Undefined p) u)
 
   element-minus : (k x : ℕ) (i : Arith) → T (arithNamed ns i) → ValueMinus i → ValueMinus (element k x i)
   unfolding value valueAt arithIndexes

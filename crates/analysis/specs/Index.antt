@@ -30,6 +30,10 @@ indexSets ρ (assigns x a) = arithIndexes ρ a
 indexSets ρ (stores x i a) = signsIn ρ i ∷ (arithIndexes ρ i ++ arithIndexes ρ a)
 indexSets ρ (condition b) = booleanIndexes ρ b
 
+-- whether one of some sets "has minus"
+unfoldable pub anyNegative : List ℕ → Bool
+anyNegative sets = anyOf (λ set. has set Minus) sets
+
 -- whether an action holds an index expression "whose set has minus"
 unfoldable pub mayBeNegative : List ℕ → Meaning → Bool
-mayBeNegative ρ x = anyOf (λ set. has set Minus) (indexSets ρ x)
+mayBeNegative ρ x = anyNegative (indexSets ρ x)

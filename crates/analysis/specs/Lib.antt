@@ -1,7 +1,10 @@
 pub mod Abstraction
 pub mod Records
+pub mod Membership
+pub mod RecordParts
 pub mod Signs
 pub mod Results
+pub mod Changing
 pub mod Index
 pub mod Verdict
 pub mod Solver

@@ -1,5 +1,10 @@
 // Sheets: abstract memories, the sign analysis of actions, candidate solutions judged and solutions computed.
 
+mod evaluator;
+mod membership;
+mod lists;
+pub mod splitting;
+
 use program::Refusal;
 use program::Validity;
 
@@ -25,6 +30,13 @@ pub enum Spot {
 pub enum Mark {
     Clean,
     Unclean { record: u16, edge: u16 },
+}
+
+// The results of an action from an abstract memory: it with a name's set replaced by each of the first `count` sets in turn.
+pub(crate) struct Changes {
+    pub(crate) name: u16,
+    pub(crate) count: usize,
+    pub(crate) sets: [u8; 12],
 }
 
 // What judging a candidate solution answers.

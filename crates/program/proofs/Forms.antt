@@ -1,5 +1,5 @@
 -- The tree at an entry, by what the entry is; and an entry that has parts in its own table is lower than the one that it is a part of.
-use mathlib.Core.Path.{_≡_, refl, _∙_}
+use mathlib.Core.Path.{_≡_, refl, sym, _∙_, ap}
 use Prim.Native.Nat.{ℕ, _≤_, _<_}
 use native.Mathlib.Decide.{decLe}
 use native.Mathlib.Omega.{arith}
@@ -98,7 +98,7 @@ module _ (es : Entries) where
 
   module _ (bound n : ℕ) where
     -- the tree of entry n as a part of entry bound
-    pub arith-form : arithBelow (arithTrees es bound) n ≡ arithTree es n (arithForm es bound n)
+    arith-form : arithBelow (arithTrees es bound) n ≡ arithTree es n (arithForm es bound n)
     unfolding arithForm arithTree arithAt
     arith-form =
         elim (decLe bound n) [
@@ -106,7 +106,7 @@ module _ (es : Entries) where
           | no h ↦ rw (lt-ltb n bound (omega arith)) (arith-below es bound n (omega arith) ∙ arith-kind n _ _ _ _)
         ]
 
-    pub boolean-form : booleanBelow (booleanTrees es bound) n ≡ booleanTree es n (booleanForm es bound n)
+    boolean-form : booleanBelow (booleanTrees es bound) n ≡ booleanTree es n (booleanForm es bound n)
     unfolding booleanForm booleanTree booleanAt
     boolean-form =
         elim (decLe bound n) [
@@ -114,7 +114,7 @@ module _ (es : Entries) where
           | no h ↦ rw (lt-ltb n bound (omega arith)) (boolean-below es bound n (omega arith) ∙ boolean-kind n _ _ _ _)
         ]
 
-    pub command-form : commandBelow (commandTrees es bound) n ≡ commandTree es n (commandForm es bound n)
+    command-form : commandBelow (commandTrees es bound) n ≡ commandTree es n (commandForm es bound n)
     unfolding commandForm commandTree commandAt
     command-form =
         elim (decLe bound n) [
@@ -122,27 +122,37 @@ module _ (es : Entries) where
           | no h ↦ rw (lt-ltb n bound (omega arith)) (command-below es bound n (omega arith) ∙ command-kind n _ _ _ _)
         ]
 
+    -- where code has asked what the entry is, and was told
+    pub arith-told : {x k : ArithNode} → x ≡ arithForm es bound n → x ≡ k → arithBelow (arithTrees es bound) n ≡ arithTree es n k
+    arith-told e told = arith-form ∙ ap (arithTree es n) (sym e ∙ told)
+
+    pub boolean-told : {x k : BooleanNode} → x ≡ booleanForm es bound n → x ≡ k → booleanBelow (booleanTrees es bound) n ≡ booleanTree es n k
+    boolean-told e told = boolean-form ∙ ap (booleanTree es n) (sym e ∙ told)
+
+    pub command-told : {x k : CommandNode} → x ≡ commandForm es bound n → x ≡ k → commandBelow (commandTrees es bound) n ≡ commandTree es n k
+    command-told e told = command-form ∙ ap (commandTree es n) (sym e ∙ told)
+
     -- one that has parts is lower
-    pub arith-lower : {x : ArithNode} → arithForm es bound n ≡ x → ArithParts x → n < bound
+    pub arith-lower : {x k : ArithNode} → x ≡ arithForm es bound n → x ≡ k → ArithParts k → n < bound
     unfolding arithForm
-    arith-lower e parts =
+    arith-lower e told parts =
         elim (decLe bound n) [
-          | yes h ↦ absurd (rw (← e, le-ltb n bound h) at parts)
+          | yes h ↦ absurd (rw (← told, e, le-ltb n bound h) at parts)
           | no h ↦ omega arith
         ]
 
-    pub boolean-lower : {x : BooleanNode} → booleanForm es bound n ≡ x → BooleanParts x → n < bound
+    pub boolean-lower : {x k : BooleanNode} → x ≡ booleanForm es bound n → x ≡ k → BooleanParts k → n < bound
     unfolding booleanForm
-    boolean-lower e parts =
+    boolean-lower e told parts =
         elim (decLe bound n) [
-          | yes h ↦ absurd (rw (← e, le-ltb n bound h) at parts)
+          | yes h ↦ absurd (rw (← told, e, le-ltb n bound h) at parts)
           | no h ↦ omega arith
         ]
 
-    pub command-lower : {x : CommandNode} → commandForm es bound n ≡ x → CommandParts x → n < bound
+    pub command-lower : {x k : CommandNode} → x ≡ commandForm es bound n → x ≡ k → CommandParts k → n < bound
     unfolding commandForm
-    command-lower e parts =
+    command-lower e told parts =
         elim (decLe bound n) [
-          | yes h ↦ absurd (rw (← e, le-ltb n bound h) at parts)
+          | yes h ↦ absurd (rw (← told, e, le-ltb n bound h) at parts)
           | no h ↦ omega arith
         ]

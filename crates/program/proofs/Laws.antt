@@ -1,9 +1,9 @@
 -- The theorems on programs and their graphs for the crates above, on one page. Their proofs are in the modules that they cite.
-use mathlib.Core.Path.{_≡_}
+use mathlib.Core.Path.{_≡_, _∙_}
 use mathlib.Core.Bool.{Bool, true, false}
 use mathlib.Core.List.{List}
 use Prim.Native.Nat.{ℕ, suc, _+_, _*_, _/_, _%_, _≤_, _<_}
-use lib.Dec.{T}
+use lib.Dec.{T, eqb}
 use lib.IntN.{pos}
 use lib.ListN.{length, getD}
 use Rattle.program.specs.Asking.{ask, thenAsk, isRefused, inTurn, askEach}
@@ -14,6 +14,7 @@ use Rattle.program.specs.File.{nameCount, sizeAt, sizes, entryCount, ent
 use Rattle.program.specs.FirstSuch.{firstOf, firstSuch}
 use Rattle.program.specs.Graph.{Edge, edges, edgeCount, nodeCount, actionKind, actionEntry, actionTable, actionOf, graphBytes}
 use Rattle.program.specs.Kind.{isGuarded}
+use Rattle.program.specs.Links.{sourceIn, lowestFrom, links, Linkable, Linked}
 use Rattle.program.specs.Node.{arithForm, arithTree, booleanForm, booleanTree, commandForm, commandTree}
 use Rattle.program.specs.Questions.{validity, inputValidity, programPart, initialPart}
 use Rattle.program.specs.Sorted.{arithNamed, booleanNamed, commandNamed, arithPoints, booleanPoints, isGuardedTree, commandPoints}
@@ -42,6 +43,7 @@ use Rattle.program.proofs.Fit.{Counts as Allowed}
 use Rattle.program.proofs.Forms
 use Rattle.program.proofs.Forms.{ArithParts, BooleanParts, CommandParts}
 use Rattle.program.proofs.Inputs
+use Rattle.program.proofs.Links
 use Rattle.program.proofs.Made.{made}
 use Rattle.program.proofs.Nodes
 use Rattle.program.proofs.Nodes.{Inside}
@@ -132,23 +134,23 @@ module _ (es : Entries) where
   pub command-entry : (n : ℕ) → commandEntry (commandAt es n) ≡ n
   command-entry = Trees.command-entry es
 
-  -- the tree of entry n as a part of entry bound, by what the entry is; one that has parts in its own table is lower
-  pub arith-form : (bound n : ℕ) → arithBelow (arithTrees es bound) n ≡ arithTree es n (arithForm es bound n)
-  arith-form = Forms.arith-form es
+  -- the tree of entry n as a part of entry bound, by what code was told that the entry is; one that has parts in its own table is lower
+  pub arith-told : (bound n : ℕ) {x k : ArithNode} → x ≡ arithForm es bound n → x ≡ k → arithBelow (arithTrees es bound) n ≡ arithTree es n k
+  arith-told = Forms.arith-told es
 
-  pub arith-lower : (bound n : ℕ) {x : ArithNode} → arithForm es bound n ≡ x → ArithParts x → n < bound
+  pub arith-lower : (bound n : ℕ) {x k : ArithNode} → x ≡ arithForm es bound n → x ≡ k → ArithParts k → n < bound
   arith-lower = Forms.arith-lower es
 
-  pub boolean-form : (bound n : ℕ) → booleanBelow (booleanTrees es bound) n ≡ booleanTree es n (booleanForm es bound n)
-  boolean-form = Forms.boolean-form es
+  pub boolean-told : (bound n : ℕ) {x k : BooleanNode} → x ≡ booleanForm es bound n → x ≡ k → booleanBelow (booleanTrees es bound) n ≡ booleanTree es n k
+  boolean-told = Forms.boolean-told es
 
-  pub boolean-lower : (bound n : ℕ) {x : BooleanNode} → booleanForm es bound n ≡ x → BooleanParts x → n < bound
+  pub boolean-lower : (bound n : ℕ) {x k : BooleanNode} → x ≡ booleanForm es bound n → x ≡ k → BooleanParts k → n < bound
   boolean-lower = Forms.boolean-lower es
 
-  pub command-form : (bound n : ℕ) → commandBelow (commandTrees es bound) n ≡ commandTree es n (commandForm es bound n)
-  command-form = Forms.command-form es
+  pub command-told : (bound n : ℕ) {x k : CommandNode} → x ≡ commandForm es bound n → x ≡ k → commandBelow (commandTrees es bound) n ≡ commandTree es n k
+  command-told = Forms.command-told es
 
-  pub command-lower : (bound n : ℕ) {x : CommandNode} → commandForm es bound n ≡ x → CommandParts x → n < bound
+  pub command-lower : (bound n : ℕ) {x k : CommandNode} → x ≡ commandForm es bound n → x ≡ k → CommandParts k → n < bound
   command-lower = Forms.command-lower es
 
 -- ---- Decoded entries
@@ -167,6 +169,9 @@ module _ (d : List ℕ) where
 
   pub command-any : (n : ℕ) → commandAt (decodedEntry d) n ≡ commandBelow (commandTrees (decodedEntry d) 256) n
   command-any = Decoded.command-any d
+
+  pub command-any-told : (n : ℕ) {x k : CommandNode} → x ≡ commandForm (decodedEntry d) 256 n → x ≡ k → commandAt (decodedEntry d) n ≡ commandTree (decodedEntry d) n k
+  command-any-told n e told = command-any n ∙ command-told (decodedEntry d) 256 n e told
 
 -- ---- First such
 
@@ -375,3 +380,20 @@ module _ (s : List ℕ) (fit : inputValidity s ≡ Fit) where
 
   pub initial-few : length (initialPart s) / nameCount (programPart s) ≤ 512
   initial-few = Inputs.initial-few s fit
+
+-- ---- The edges of a node
+
+-- the links of edges that can be linked
+pub links-linked : (bytes : List ℕ) (count : ℕ) → Linkable bytes count → Linked (sourceIn bytes) count (links bytes count)
+links-linked = Links.links-linked
+
+-- the lowest edge from i on leaves the node where there is one, is not below i, and passes over none that leaves the node
+module _ (source : ℕ → ℕ) where
+  pub lowest-leaves : (n i node : ℕ) → lowestFrom n source i node < 255 → source (lowestFrom n source i node) ≡ node
+  lowest-leaves = Links.lowest-leaves source
+
+  pub lowest-at-least : (n i node : ℕ) → i + n ≤ 255 → i ≤ lowestFrom n source i node
+  lowest-at-least = Links.lowest-at-least source
+
+  pub lowest-passes : (n i node j : ℕ) → i ≤ j → j < i + n → j < lowestFrom n source i node → eqb (source j) node ≡ false
+  lowest-passes = Links.lowest-passes source

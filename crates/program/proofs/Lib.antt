@@ -25,6 +25,7 @@ pub mod Counts
 pub mod Strips
 pub mod Drawings
 pub mod EdgeReading
+pub mod Links
 pub mod SameTrees
 pub mod Agreeing
 pub mod Inputs

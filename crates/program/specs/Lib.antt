@@ -12,5 +12,6 @@ pub mod Graph
 pub mod Sorted
 pub mod Drawing
 pub mod DrawingParts
+pub mod Links
 pub mod DecodingParts
 pub mod Examples

@@ -1,5 +1,6 @@
 // Script and graph: a program file read and validated, its syntax trees, and its program graph.
 
+pub mod adjacency;
 pub mod decoding;
 pub mod drawing;
 pub mod file;

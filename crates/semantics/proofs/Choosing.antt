@@ -13,18 +13,17 @@ use Rattle.program.specs.Decoding.{decodedEntry}
 use Rattle.program.specs.Drawing.{edgeRead}
 use Rattle.program.specs.File.{sizes}
 use Rattle.program.specs.Graph.{graph, actionOf}
+use Rattle.program.specs.Links.{sourceIn, lowestFrom}
 use Rattle.program.specs.declared.EdgeBytes.{EdgeBytes}
 use Rattle.program.specs.declared.First.the-variants.{Nothing}
-use Rattle.program.proofs.Laws.{first-such, none-such}
+use Rattle.program.proofs.Laws.{first-such, none-such, lowest-at-least, lowest-leaves, lowest-passes}
 use Rattle.semantics.specs.Action.{isDefined}
 use Rattle.semantics.specs.Budget.{lowestDefined}
 use Rattle.semantics.specs.Coding.{EffectIn}
-use Rattle.semantics.specs.Links.{lowestFrom, sourceIn, Followable}
-use Rattle.semantics.specs.Running.{Ready, Chosen}
+use Rattle.semantics.specs.Running.{Ready, Followable, Chosen}
 use Rattle.semantics.specs.Step.{leaves, edgeEffect}
 use Rattle.semantics.specs.declared.Effect.{Effect}
 use Rattle.semantics.proofs.Drawn.{drawn-leaves, effect-read}
-use Rattle.semantics.proofs.Links.{lowest-at-least, lowest-leaves, lowest-passes}
 
 -- where following the links has come to: edge e leaves the node if there is one, and each edge out of the node before it is undefined, whatever
 -- program this is
@@ -37,7 +36,7 @@ pub record Followed (edges entries szs cells : List ℕ) (count node : ℕ) (m :
 pub next-beyond : (edges links : List ℕ) (count : ℕ) → Followable edges count links → (e : ℕ) → e < count → e < getD links (129 + e) 0
 next-beyond edges links count f e h =
     let far = lowest-at-least (sourceIn edges) (count - suc e) (suc e) (sourceIn edges e) (omega (arith, f .few)) in
-    omega (arith, f .linked .later e (omega arith) h)
+    omega (arith, f .linked .later e h)
 
 module _ (edges entries szs cells : List ℕ) (count : ℕ) (links : List ℕ) (f : Followable edges count links) (node : ℕ) (m : List ℤ) where
   -- where n edges from i on, the last of `count`, are next looked at, the lowest of them that leaves the node follows
@@ -61,7 +60,7 @@ module _ (edges entries szs cells : List ℕ) (count : ℕ) (links : List ℕ) (
 
   pub first-followed : node < 129 → Followed edges entries szs cells count node m (getD links node 0)
   first-followed h =
-      follows count 0 (getD links node 0) (omega arith) (f .linked .lowest node h ∙ ap (λ (n : ℕ). lowestFrom n (sourceIn edges) 0 node) (omega arith))
+      follows count 0 (getD links node 0) (omega arith) (f .linked .lowest node h)
       (λ k l. absurd (omega arith))
 
   module _ (s : List ℕ) (y : Ready s edges entries szs cells count) where
@@ -91,7 +90,7 @@ module _ (edges entries szs cells : List ℕ) (count : ℕ) (links : List ℕ) (
     pub next-followed : isDefined x ≡ false → Followed edges entries szs cells count node m (getD links (129 + e) 0)
     next-followed none =
         follows (count - suc e) (suc e) (getD links (129 + e) 0) (omega arith)
-        (f .linked .later e (omega arith) h ∙ ap (lowestFrom (count - suc e) (sourceIn edges) (suc e)) (at .here h)) earlier
+        (f .linked .later e h ∙ ap (lowestFrom (count - suc e) (sourceIn edges) (suc e)) (at .here h)) earlier
       where
         earlier : (k : ℕ) → k < suc e → eqb (sourceIn edges k) node ≡ true → (s : List ℕ) → Ready s edges entries szs cells count → isDefined (edgeEffect (sizes s) (graph s) m k) ≡ false
         earlier k l t s y =

@@ -9,7 +9,6 @@ pub mod Valued
 pub mod Keys
 pub mod Effects
 pub mod Replies
-pub mod Links
 pub mod Choosing
 pub mod Turns
 pub mod Widened

@@ -12,13 +12,13 @@ use lib.ListN.{length}
 use Rattle.program.specs.Drawing.{edgeRead, edgeNumbers}
 use Rattle.program.specs.File.{sizes}
 use Rattle.program.specs.Graph.{Graph, graph, edges, edgeCount, nodeCount}
+use Rattle.program.specs.Links.{sourceIn, Linkable}
 use Rattle.program.specs.declared.EdgeBytes.{EdgeBytes}
 use Rattle.program.specs.declared.First.the-variants.{At, Nothing}
 use Rattle.program.proofs.Laws.{few-nodes, few-edges, edge-inside}
 use Rattle.program.proofs.Tests.{passed}
 use Rattle.semantics.specs.Action.{after, isDefined}
 use Rattle.semantics.specs.Budget.{lowestDefined, Result, ends, goesOn, runFrom}
-use Rattle.semantics.specs.Links.{sourceIn, Linkable}
 use Rattle.semantics.specs.Running.{Ready, Chosen, endingAt, Reached, EndsAs}
 use Rattle.semantics.specs.Step.{Configuration, fresh, begun, edgeAt, edgeEffect, along}
 use Rattle.semantics.specs.Stepping.{DrawnInto}

@@ -6,6 +6,5 @@ pub mod Step
 pub mod Budget
 pub mod Replay
 pub mod Stepping
-pub mod Links
 pub mod Running
 pub mod Examples

@@ -3,13 +3,12 @@
 ghost use mathlib.Core.Path.{_≡_};
 ghost use mathlib.Core.List.{List};
 ghost use Prim.Native.Nat.{ℕ, _<_, _≤_};
-ghost use lib.ListN.{length, getD};
+ghost use lib.ListN.{length};
 ghost use Rattle.program.specs.File;
 ghost use Rattle.program.specs.Graph;
 ghost use Rattle.semantics.specs.Action;
 ghost use Rattle.semantics.specs.Budget as spec;
 ghost use Rattle.semantics.specs.Cells;
-ghost use Rattle.semantics.specs.Links;
 ghost use Rattle.semantics.specs.Running;
 ghost use Rattle.semantics.specs.Step;
 use crate::Effect;
@@ -21,6 +20,7 @@ use crate::evaluator::action;
 use crate::stepping;
 use program::Refusal;
 use program::Validity;
+use program::adjacency;
 use program::decoding;
 use program::drawing;
 use program::file;
@@ -31,30 +31,6 @@ use signs::Reason;
 struct Choice {
     edge: u16,
     effect: Effect,
-}
-
-// The edges out of each node, linked from the lowest on: each edge, the last first, is put before those of its node.
-fn linked(edges: &[u8], count: u16) -> [u16; 384]
-    requires { ⌜ Links.Linkable (now edges) count ⌝ }
-    ensures { λ r. ⌜ Links.Linked (Links.sourceIn (now (edges .entry))) count 0 r ⌝ }
-{
-    let mut links = [255u16; 384];
-    let mut k: u16 = 0;
-    while k < count {
-        let e = count - 1 - k;
-        let drawn = drawing::edge_at(edges, e);
-        let node = drawn.source as usize;
-        links[129 + e as usize] = links[node];
-        links[node] = e;
-        k += 1;
-    }
-    links
-}
-
-fn link_at(links: &[u16], i: usize) -> u16
-    ensures { λ r. ⌜ r ≡ getD (now (links .entry)) i 0 ⌝ }
-{
-    if i < links.len() { links[i] } else { 0 }
 }
 
 fn is_defined(effect: Effect) -> bool
@@ -95,18 +71,18 @@ fn lowest(
     count: u16,
     node: u16,
 ) -> Choice
-    requires { ⌜ Links.Followable (now edges) count (now links) ⌝ }
+    requires { ⌜ Running.Followable (now edges) count (now links) ⌝ }
     ensures { λ r. ⌜ ((s : List ℕ) → Running.Ready s (now (edges .entry)) (now (entries .entry)) (now (sizes .entry)) (now (cells .entry)) count → node < 129
         → Running.Chosen (File.sizes s) (Graph.graph s) node (now (memory .entry)) r) ⌝ }
 {
-    let mut e = link_at(links, node as usize);
+    let mut e = adjacency::first_edge(links, node);
     while e < count {
         let drawn = drawing::edge_at(edges, e);
         let effect = action::effect(entries, cells, sizes, memory, drawn.kind, drawn.entry);
         if is_defined(effect) {
             return Choice { edge: e, effect };
         }
-        e = link_at(links, 129 + e as usize);
+        e = adjacency::next_edge(links, e);
     }
     Choice {
         edge: count,
@@ -127,7 +103,7 @@ fn run_decoded(
     count: u16,
     budget: u16,
 ) -> Ended
-    requires { ⌜ Links.Followable (now edges) count (now links) ⌝ }
+    requires { ⌜ Running.Followable (now edges) count (now links) ⌝ }
     ensures { λ r. ⌜ ((s : List ℕ) → Running.Ready s (now (edges .entry)) (now (entries .entry)) (now (sizes .entry)) (now (cells .entry)) count
         → Running.EndsAs (spec.runFrom budget (File.sizes s) (Graph.graph s) (Step.begun (now (memory .entry)))) (now (memory .exit)) r) ⌝ }
 {
@@ -170,7 +146,7 @@ fn run_drawn(program: &[u8], edges: &[u8], count: u16, budget: u16, memory: &mut
     let entries = decoding::entries(program);
     let sizes = decoding::name_sizes(program);
     let cells = decoding::name_cells(program);
-    let links = linked(edges, count);
+    let links = adjacency::links(edges, count);
     let mut local = stepping::copied(memory);
     let ended = run_decoded(
         &entries,

@@ -19,6 +19,13 @@ const GRIDS: [[[u8; 3]; 3]; 5] = [
     [[0, 4, 5], [0, 4, 2], [0, 4, 4]],
 ];
 
+// The grids, to be lent: a constant is built anew at each use.
+pub fn grids() -> [[[u8; 3]; 3]; 5]
+    ensures { λ r. ⌜ r ≡ spec.grids ⌝ }
+{
+    GRIDS
+}
+
 // An operator's place among the grids.
 fn grid_number(operator: Operator) -> usize
     ensures { λ r. ⌜ r ≡ spec.gridNumber operator ⌝ }
@@ -44,51 +51,67 @@ fn sign_number(s: Sign) -> usize
 }
 
 // The array's set at three places within it.
-fn at(o: usize, i: usize, j: usize) -> u8
+fn at(grids: &[[[u8; 3]; 3]; 5], o: usize, i: usize, j: usize) -> u8
     requires { ⌜ (o < 5) × (i < 3) × (j < 3) ⌝ }
-    ensures { λ s. ⌜ s ≡ getD (getD (getD spec.grids o []) i []) j 0 ⌝ }
+    ensures { λ s. ⌜ s ≡ getD (getD (getD (now (grids .entry)) o []) i []) j 0 ⌝ }
 {
-    GRIDS[o][i][j]
+    grids[o][i][j]
 }
 
-// The signs that an operator's results can have, by the signs of its sides.
-pub fn grid(operator: Operator, l: Sign, r: Sign) -> u8
-    ensures { λ s. ⌜ s ≡ spec.grid operator l r ⌝ }
+// The signs that an operator's results can have, by the signs of its sides, out of the grids.
+fn grid_by(grids: &[[[u8; 3]; 3]; 5], operator: Operator, l: Sign, r: Sign) -> u8
+    ensures { λ s. ⌜ (now (grids .entry) ≡ spec.grids → s ≡ spec.grid operator l r) ⌝ }
 {
-    at(grid_number(operator), sign_number(l), sign_number(r))
+    at(grids, grid_number(operator), sign_number(l), sign_number(r))
 }
 
 // A pair's entry, where the right set has the pair's right sign.
-fn entry(operator: Operator, l: Sign, r: Sign, b: u8) -> u8
-    ensures { λ s. ⌜ s ≡ cond (has b r) (spec.grid operator l r) 0 ⌝ }
+fn entry(grids: &[[[u8; 3]; 3]; 5], operator: Operator, l: Sign, r: Sign, b: u8) -> u8
+    ensures { λ s. ⌜ (now (grids .entry) ≡ spec.grids → s ≡ cond (has b r) (spec.grid operator l r) 0) ⌝ }
 {
     if sets::has(b, r) {
-        grid(operator, l, r)
+        grid_by(grids, operator, l, r)
     } else {
         0
     }
 }
 
 // The union over the pairs with a given left sign, where the left set has it. Entries are below 8, so `|` is their union.
-fn row(operator: Operator, l: Sign, a: u8, b: u8) -> u8
-    ensures { λ s. ⌜ s ≡ cond (has a l) (spec.gridRow operator l b) 0 ⌝ }
+fn row(grids: &[[[u8; 3]; 3]; 5], operator: Operator, l: Sign, a: u8, b: u8) -> u8
+    ensures { λ s. ⌜ (now (grids .entry) ≡ spec.grids → s ≡ cond (has a l) (spec.gridRow operator l b) 0) ⌝ }
 {
     if sets::has(a, l) {
-        let minus = entry(operator, l, Sign::Minus, b);
-        let zero = entry(operator, l, Sign::Zero, b);
-        let plus = entry(operator, l, Sign::Plus, b);
+        let minus = entry(grids, operator, l, Sign::Minus, b);
+        let zero = entry(grids, operator, l, Sign::Zero, b);
+        let plus = entry(grids, operator, l, Sign::Plus, b);
         minus | zero | plus
     } else {
         0
     }
 }
 
-// An operator on two sets: the union over all pairs of their members.
+// An operator on two sets, out of the grids: the union over all pairs of their members.
+pub fn operate_by(grids: &[[[u8; 3]; 3]; 5], operator: Operator, a: u8, b: u8) -> u8
+    ensures { λ s. ⌜ (now (grids .entry) ≡ spec.grids → s ≡ spec.operate operator a b) ⌝ }
+{
+    let minus = row(grids, operator, Sign::Minus, a, b);
+    let zero = row(grids, operator, Sign::Zero, a, b);
+    let plus = row(grids, operator, Sign::Plus, a, b);
+    minus | zero | plus
+}
+
+// The signs that an operator's results can have, by the signs of its sides.
+pub fn grid(operator: Operator, l: Sign, r: Sign) -> u8
+    ensures { λ s. ⌜ s ≡ spec.grid operator l r ⌝ }
+{
+    let lent = grids();
+    grid_by(&lent, operator, l, r)
+}
+
+// An operator on two sets.
 pub fn operate(operator: Operator, a: u8, b: u8) -> u8
     ensures { λ s. ⌜ s ≡ spec.operate operator a b ⌝ }
 {
-    let minus = row(operator, Sign::Minus, a, b);
-    let zero = row(operator, Sign::Zero, a, b);
-    let plus = row(operator, Sign::Plus, a, b);
-    minus | zero | plus
+    let lent = grids();
+    operate_by(&lent, operator, a, b)
 }

@@ -3,7 +3,7 @@
 use Prim.Native.Nat.{_-_}
 use borrow.Author.Needs.{needs}
 use lib.ListN.{length}
-use mathlib.Core.Path.{_≡_, refl}
+use mathlib.Core.Path.{_≡_}
 use Rattle.semantics_runs.proofs.step_all.Statement.{statement}
 use Rattle.semantics_runs.proofs.step_all.Tie as tie
 

@@ -14,13 +14,13 @@ Inv-loop entries cells sizes memory edges links count node e₀ e = node < 129 �
 abbrev μ-loop : tie.MeasureT-loop
 μ-loop entries cells sizes memory edges links count node e₀ e = count - e
 
-link-at-requires : tie.Need-link-at-requires Inv-loop μ-loop
-link-at-requires c κs = search needs
+first-edge-requires : tie.Need-first-edge-requires Inv-loop μ-loop
+first-edge-requires c κs = search needs
 
 loop-holds : tie.Need-loop-holds Inv-loop μ-loop
 loop-holds c h =
-    let s = c .before .before .before in
-    rw (c .link-at .ensures) (first-followed _ _ _ _ _ _ (s .pre) _ _ h)
+    let s = c .before .before in
+    rw (c .first-edge .ensures) (first-followed _ _ _ _ _ _ (s .pre) _ _ h)
 
 edge-at-requires : tie.Need-edge-at-requires Inv-loop μ-loop
 edge-at-requires c κs = search needs
@@ -34,36 +34,30 @@ is-defined-requires c κs = search needs
 returns : tie.Need-returns Inv-loop μ-loop
 returns c s y h =
     let l = c .before .before .before .before .before .loop in
-    chosen-here _ _ _ _ _ _ (c .before .before .before .before .before .before .before .before .before .pre) _ _ (l .e) (c .before .before .before .before .loop-test .taken) (l .inv h) _ _
+    chosen-here _ _ _ _ _ _ (c .before .before .before .before .before .before .before .before .pre) _ _ (l .e) (c .before .before .before .before .loop-test .taken) (l .inv h) _ _
     (c .before .before .before .edge-at .ensures) (c .before .before .effect .ensures) (sym (c .before .is-defined .ensures) ∙ c .if1 .taken) s y
 
-cast-link-at : tie.Need-cast-link-at Inv-loop μ-loop
-cast-link-at c = search needs
-
-add-link-at : tie.Need-add-link-at Inv-loop μ-loop
-add-link-at c = search needs
-
-link-at-requires-2 : tie.Need-link-at-requires-2 Inv-loop μ-loop
-link-at-requires-2 c κs = search needs
+next-edge-requires : tie.Need-next-edge-requires Inv-loop μ-loop
+next-edge-requires c κs = search needs
 
 loop-less : tie.Need-loop-less Inv-loop μ-loop
 loop-less c =
-    let l = c .before .before .before .before .before .before .before .loop in
-    let more = next-beyond _ _ _ (c .before .before .before .before .before .before .before .before .before .before .before .pre) (l .e) (c .before .before .before .before .before .before .loop-test .taken) in
-    omega (arith, c .link-at2 .ensures)
+    let l = c .before .before .before .before .before .before .loop in
+    let more = next-beyond _ _ _ (c .before .before .before .before .before .before .before .before .before .pre) (l .e) (c .before .before .before .before .before .loop-test .taken) in
+    omega (arith, c .next-edge .ensures)
 
 loop-again : tie.Need-loop-again Inv-loop μ-loop
 loop-again c h =
-    let l = c .before .before .before .before .before .before .before .loop in
-    rw (c .link-at2 .ensures)
-    (next-followed _ _ _ _ _ _ (c .before .before .before .before .before .before .before .before .before .before .before .pre) _ _ (l .e) (c .before .before .before .before .before .before .loop-test .taken) (l .inv h) _ _
-    (c .before .before .before .before .before .edge-at .ensures) (c .before .before .before .before .effect .ensures) (sym (c .before .before .before .is-defined .ensures) ∙ c .before .before .if1 .left))
+    let l = c .before .before .before .before .before .before .loop in
+    rw (c .next-edge .ensures)
+    (next-followed _ _ _ _ _ _ (c .before .before .before .before .before .before .before .before .before .pre) _ _ (l .e) (c .before .before .before .before .before .loop-test .taken) (l .inv h) _ _
+    (c .before .before .before .before .edge-at .ensures) (c .before .before .before .effect .ensures) (sym (c .before .before .is-defined .ensures) ∙ c .before .if1 .left))
 
 returns-2 : tie.Need-returns-2 Inv-loop μ-loop
 unfolding isDefined
 returns-2 c s y h =
     let l = c .before .loop in
-    record { lowest = none-chosen _ _ _ _ _ _ (c .before .before .before .before .before .pre) _ _ s y (l .e) (l .inv h) (c .loop-test .left); there = λ t. absurd t }
+    record { lowest = none-chosen _ _ _ _ _ _ (c .before .before .before .before .pre) _ _ s y (l .e) (l .inv h) (c .loop-test .left); there = λ t. absurd t }
 
 pub lowest-spec : {M : Type 1} → statement M
 lowest-spec =
@@ -71,15 +65,13 @@ lowest-spec =
     (tie.spec
     Inv-loop
     μ-loop
-    link-at-requires
+    first-edge-requires
     loop-holds
     edge-at-requires
     effect-requires
     is-defined-requires
     returns
-    cast-link-at
-    add-link-at
-    link-at-requires-2
+    next-edge-requires
     loop-less
     loop-again
     returns-2)

@@ -1,7 +1,7 @@
 -- `running::run_drawn`: the run of the decoded program, in the copied memory.
 use borrow.Author.Needs.{needs}
 use native.Mathlib.Omega.{arith}
-use Rattle.program.proofs.Laws.{few-cells}
+use Rattle.program.proofs.Laws.{few-cells, links-linked}
 use Rattle.semantics.proofs.Turns.{linkable}
 use Rattle.semantics.proofs.Widened.{ends-copied}
 use Rattle.semantics.proofs.running.run_drawn.Statement.{statement}
@@ -16,14 +16,16 @@ name-sizes-requires c κs = search needs
 name-cells-requires : tie.Need-name-cells-requires
 name-cells-requires c κs = search needs
 
-linked-requires : tie.Need-linked-requires
-linked-requires c κs = linkable _ _ _ _ (c .before .before .before .before .before .pre .drawn .drawing)
+links-requires : tie.Need-links-requires
+links-requires c κs = search needs
 
 copied-requires : tie.Need-copied-requires
 copied-requires c κs = search needs
 
 run-decoded-requires : tie.Need-run-decoded-requires
-run-decoded-requires c κs = record { few = linkable _ _ _ _ (c .before .before .before .before .before .before .before .before .before .before .before .before .before .pre .drawn .drawing) .few; linked = c .before .before .before .before .before .before .before .linked .ensures }
+run-decoded-requires c κs =
+    let all = linkable _ _ _ _ (c .before .before .before .before .before .before .before .before .before .before .before .before .before .pre .drawn .drawing) in
+    record { few = all .few; linked = rw (c .before .before .before .before .before .before .before .links .ensures) (links-linked _ _ all) }
 
 copy-back-requires : tie.Need-copy-back-requires
 copy-back-requires c κs = omega (arith, c .before .before .before .before .before .before .before .before .before .before .before .before .before .before .before .before .pre .room, few-cells _ (c .before .before .before .before .before .before .before .before .before .before .before .before .before .before .before .before .pre .drawn .drawing .fit))
@@ -43,7 +45,7 @@ run-drawn-spec =
     entries-requires
     name-sizes-requires
     name-cells-requires
-    linked-requires
+    links-requires
     copied-requires
     run-decoded-requires
     copy-back-requires

@@ -1,30 +1,14 @@
 -- `evaluator::action::effect`: by the action's kind.
-use mathlib.Core.Path.{_≡_, refl}
-use mathlib.Core.List.{[], _∷_}
-use mathlib.Core.Logic.{⊎-elim}
-use Prim.Native.Nat.{ℕ, _≤_}
-use native.Mathlib.Nat.{eq-zero-or-pos}
-use native.Mathlib.Omega.{arith}
-use lib.ListN.{List·getD-eq-default}
-use Rattle.program.specs.Graph.{perform, test, leave, actionOf}
+use mathlib.Core.Path.{refl}
+use Rattle.program.specs.Graph.{actionOf}
 use Rattle.program.specs.Syntax.{skip}
-use Rattle.program.specs.Tree.{Entries, commandAt, booleanAt}
 use Rattle.program.proofs.Laws.{boolean-any, command-any}
 use Rattle.semantics.specs.Action.{performing}
 use Rattle.semantics.proofs.Coded.{handed}
 use Rattle.semantics.proofs.Effects.{no-effect, test-effect, leave-effect}
+use Rattle.semantics.proofs.Keys.{other-kind}
 use Rattle.semantics.proofs.evaluator.action.effect.Statement.{statement}
 use Rattle.semantics.proofs.evaluator.action.effect.Tie as tie
-
-other : (es : Entries) (kind n : ℕ) → (kind ≡ 1 → ⊥) → (kind ≡ 2 → ⊥) → (kind ≡ 3 → ⊥) → actionOf es kind n ≡ perform (skip n)
-unfolding actionOf
-other es kind n a b c =
-    ⊎-elim
-    (λ e. rw e)
-    (λ h.
-    let past : 4 ≤ kind = omega (arith, a, b, c) in
-    List·getD-eq-default (perform (skip n) ∷ perform (commandAt es n) ∷ test (booleanAt es n) ∷ leave (commandAt es n) ∷ []) (perform (skip n)) past)
-    (eq-zero-or-pos kind)
 
 returns : tie.Need-returns
 unfolding actionOf
@@ -50,7 +34,7 @@ returns-4 : tie.Need-returns-4
 unfolding performing
 returns-4 c =
     let s = c .before in
-    rw (other _ (s .args .kind) (s .args .n) (c .match .rest .0 .0 .1) (c .match .rest .0 .1) (c .match .rest .1)) (no-effect (skip (s .args .n)) refl)
+    rw (other-kind _ (s .args .n) (s .args .kind) (c .match .rest)) (no-effect (skip (s .args .n)) refl)
 
 pub effect-spec : {M : Type 1} → statement M
 effect-spec =

@@ -1,42 +1,12 @@
 -- `evaluator::action::performed`: by what the entry is.
-use mathlib.Core.Path.{_≡_, refl, sym, _∙_, ap}
-use mathlib.Core.List.{[], _∷_}
-use Prim.Native.Nat.{ℕ}
+use mathlib.Core.Path.{refl}
 use borrow.Author.Needs.{needs}
-use denote.Enum.Declared.{tagOf}
-use types.Run.{OneOf}
-use Rattle.program.specs.Decoding.{decodedEntry}
 use Rattle.program.specs.Node.{commandTree}
-use Rattle.program.specs.Tree.{Entries, commandAt}
-use Rattle.program.specs.declared.CommandNode.{CommandNode}
-use Rattle.program.specs.declared.CommandNode.the-variants.{Skip, Assign, Store, Sequence, Conditional, Iteration, Guarded, Choice}
-use Rattle.program.proofs.CommandNode.{the-type}
-use Rattle.program.proofs.Laws.{command-form, command-any}
-use Rattle.semantics.specs.Action.{nothing, performing}
+use Rattle.program.proofs.Laws.{command-any-told}
 use Rattle.semantics.proofs.Effects.{no-effect}
-use Rattle.semantics.proofs.Keys.{isKey, one-key}
+use Rattle.semantics.proofs.Keys.{means-nothing}
 use Rattle.semantics.proofs.evaluator.action.performed.Statement.{statement}
 use Rattle.semantics.proofs.evaluator.action.performed.Tie as tie
-
--- what neither assigns nor stores means nothing
-plain : (es : Entries) (n : ℕ) (x : CommandNode) → OneOf (0 ∷ 3 ∷ 4 ∷ 5 ∷ 6 ∷ 7 ∷ []) (tagOf the-type x) → performing (commandTree es n x) ≡ nothing
-unfolding commandTree performing isKey
-plain es n Skip k = refl
-plain es n (Assign x a) k = absurd (one-key 0 (3 ∷ 4 ∷ 5 ∷ 6 ∷ 7 ∷ []) 1 k)
-plain es n (Store x i a) k = absurd (one-key 0 (3 ∷ 4 ∷ 5 ∷ 6 ∷ 7 ∷ []) 2 k)
-plain es n (Sequence p q) k = refl
-plain es n (Conditional p) k = refl
-plain es n (Iteration p) k = refl
-plain es n (Guarded g p) k = refl
-plain es n (Choice p q) k = refl
-
-same : (c : tie.After-command-node) {k : CommandNode} → c .command-node .result ≡ k
-    → commandAt (decodedEntry (c .before .args .entries .now)) (c .before .args .n) ≡ commandTree (decodedEntry (c .before .args .entries .now)) (c .before .args .n) k
-same c told =
-    let s = c .before .args in
-    command-any (s .entries .now) (s .n)
-    ∙ command-form (decodedEntry (s .entries .now)) 256 (s .n)
-    ∙ ap (commandTree (decodedEntry (s .entries .now)) (s .n)) (sym (c .command-node .ensures) ∙ told)
 
 enum-known-node : tie.Need-enum-known-node
 enum-known-node c = search needs
@@ -46,14 +16,14 @@ enum-known-node-2 c = search needs
 
 returns : tie.Need-returns
 unfolding commandTree
-returns c = let k = c .before in rw (same (k .before .before .before) (k .before .node .given .1)) (c .assigned .ensures _)
+returns c = let k = c .before in rw (command-any-told _ _ (k .before .before .before .command-node .ensures) (k .before .node .given .1)) (c .assigned .ensures _)
 
 returns-2 : tie.Need-returns-2
 unfolding commandTree
-returns-2 c = let k = c .before in rw (same (k .before .before .before) (k .before .node2 .given .1)) (c .element-stored .ensures _)
+returns-2 c = let k = c .before in rw (command-any-told _ _ (k .before .before .before .command-node .ensures) (k .before .node2 .given .1)) (c .element-stored .ensures _)
 
 returns-3 : tie.Need-returns-3
-returns-3 c = rw (same (c .before) refl) (no-effect _ (plain _ _ (c .before .command-node .result) (c .match .keys3)))
+returns-3 c = rw (command-any-told _ _ (c .before .command-node .ensures) refl) (no-effect _ (means-nothing _ _ (c .before .command-node .result) (c .match .keys3)))
 
 pub performed-spec : {M : Type 1} → statement M
 performed-spec =

@@ -1,5 +1,5 @@
 -- The cycle of calls {`semantics::evaluator::arithmetic::value`}: a part is lower than what it is a part of, so the measure is `bound`.
-use mathlib.Core.Path.{_≡_, sym, _∙_, ap}
+use mathlib.Core.Path.{_≡_}
 use Prim.Native.Nat.{ℕ, _<_}
 use native.Mathlib.Omega.{arith}
 use borrow.Author.Needs.{needs}
@@ -8,12 +8,10 @@ use borrow.Fn.PlainCycle.{Measures, is, falls, and}
 use mir.Syntax.{w32}
 use mir.Val.{SFits}
 use Rattle.signs.proofs.Signed.{widens, wide-is}
-use Rattle.program.specs.Decoding.{decodedEntry}
 use Rattle.program.specs.Node.{arithTree}
-use Rattle.program.specs.Tree.{Entries, arithBelow, arithTrees}
 use Rattle.program.specs.declared.ArithNode.{ArithNode}
 use Rattle.program.proofs.Forms.{ArithParts}
-use Rattle.program.proofs.Laws.{arith-form, arith-lower}
+use Rattle.program.proofs.Laws.{arith-told, arith-lower}
 use Rattle.semantics.proofs.Coded.{handed, tested}
 use Rattle.semantics.proofs.Valued.{number-valued, variable-valued, element-valued, operator-left, operator-valued}
 use Rattle.semantics.proofs.evaluator.arithmetic.value.Reads as reads
@@ -40,17 +38,9 @@ abbrev claims : ℕ → lts.Claims
 claims t =
     (arith-node-reads.Asked, arith-node-reads.Learnt, variable-reads.Asked, variable-reads.Learnt, value-below t, reads.Post, element-reads.Asked, element-reads.Learnt, is-fault-reads.Asked, is-fault-reads.Learnt, operate-reads.Asked, operate-reads.Learnt)
 
--- where it is known what the entry is
-module _ (t : ℕ) (c : lts.After-arith-node (claims t) (value-at t) reads.Post) where
-  abbrev entries : Entries
-  entries = decodedEntry (c .before .args .entries .now)
-
-  module _ {k : ArithNode} (told : c .arith-node .result ≡ k) where
-    same : arithBelow (arithTrees entries (c .before .args .bound)) (c .before .args .n) ≡ arithTree entries (c .before .args .n) k
-    same = arith-form entries (c .before .args .bound) (c .before .args .n) ∙ ap (arithTree entries (c .before .args .n)) (sym (c .arith-node .ensures) ∙ told)
-
-    lower : ArithParts k → c .before .args .n < t
-    lower p = omega (arith, arith-lower entries (c .before .args .bound) (c .before .args .n) (sym (c .arith-node .ensures) ∙ told) p, c .before .pre .0)
+-- a part in the same table may be asked about
+lower : (t : ℕ) (c : lts.After-arith-node (claims t) (value-at t) reads.Post) {k : ArithNode} → c .arith-node .result ≡ k → ArithParts k → c .before .args .n < t
+lower t c told p = omega (arith, arith-lower _ _ _ (c .arith-node .ensures) told p, c .before .pre .0)
 
 enum-known-node : (t : ℕ) → lts.Need-enum-known-node (claims t) (value-at t) reads.Post
 enum-known-node t c = search needs
@@ -85,7 +75,7 @@ returns t c =
     let a = c .before .before in
     let at = a .before .before .before .before in
     let told = a .before .before .node4 .given .1 in
-    rw (handed (a .value2 .result) (a .value2 .ok), same t at told)
+    rw (handed (a .value2 .result) (a .value2 .ok), arith-told _ _ _ (at .arith-node .ensures) told)
     (operator-left _ _ (a .value2 .ensures) (tested (a .value2 .result) record { sfits = a .value2 .ok } (c .before .is-fault .ensures) (c .if1 .taken)))
 
 value-requires-3 : (t : ℕ) → lts.Need-value-requires-3 (claims t) (value-at t) reads.Post
@@ -101,14 +91,14 @@ operate-requires t c κs =
 returns-2 : (t : ℕ) → lts.Need-returns-2 (claims t) (value-at t) reads.Post
 unfolding arithTree
 returns-2 t c =
-    rw (wide-is (c .before .node .given .0 .0) (fits t c), same t (c .before .before .before) (c .before .node .given .1))
+    rw (wide-is (c .before .node .given .0 .0) (fits t c), arith-told _ _ _ (c .before .before .before .arith-node .ensures) (c .before .node .given .1))
     (number-valued _ _ (fits t c))
 
 returns-3 : (t : ℕ) → lts.Need-returns-3 (claims t) (value-at t) reads.Post
 unfolding arithTree
 returns-3 t c =
     let k = c .before in
-    rw (handed (c .variable .result) (c .variable .ok), same t (k .before .before .before) (k .before .node2 .given .1))
+    rw (handed (c .variable .result) (c .variable .ok), arith-told _ _ _ (k .before .before .before .arith-node .ensures) (k .before .node2 .given .1))
     (variable-valued _ _ (c .variable .ensures .0) (c .variable .ensures .1))
 
 returns-4 : (t : ℕ) → lts.Need-returns-4 (claims t) (value-at t) reads.Post
@@ -116,7 +106,7 @@ unfolding arithTree
 returns-4 t c =
     let v = c .before in
     let k = v .before in
-    rw (handed (c .element .result) (c .element .ok), same t (k .before .before .before) (k .before .node3 .given .1))
+    rw (handed (c .element .result) (c .element .ok), arith-told _ _ _ (k .before .before .before .arith-node .ensures) (k .before .node3 .given .1))
     (element-valued _ _ (v .value .ensures) (c .element .ensures .0) (rw (handed (v .value .result) (v .value .ok)) at (c .element .ensures .1)))
 
 returns-5 : (t : ℕ) → lts.Need-returns-5 (claims t) (value-at t) reads.Post
@@ -125,7 +115,7 @@ returns-5 t c =
     let b = c .before in
     let a = b .before .before .before in
     let k = a .before in
-    rw (handed (c .operate .result) (c .operate .ok), same t (k .before .before .before) (k .before .node4 .given .1))
+    rw (handed (c .operate .result) (c .operate .ok), arith-told _ _ _ (k .before .before .before .arith-node .ensures) (k .before .node4 .given .1))
     (operator-valued _ _ (a .value2 .ensures) (b .value3 .ensures) (c .operate .ensures .0)
     (rw (handed (a .value2 .result) (a .value2 .ok), handed (b .value3 .result) (b .value3 .ok)) at (c .operate .ensures .1)))
 

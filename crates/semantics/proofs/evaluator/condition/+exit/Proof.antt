@@ -1,25 +1,17 @@
 -- The cycle of calls {`semantics::evaluator::condition::exit`}: a part is lower than what it is a part of, so the measure is `bound`.
-use mathlib.Core.Path.{_≡_, refl, sym, _∙_, ap}
-use mathlib.Core.List.{[], _∷_}
+use mathlib.Core.Path.{_≡_, refl}
 use Prim.Native.Nat.{ℕ, _<_}
 use native.Mathlib.Omega.{arith}
 use borrow.Author.Needs.{needs}
 use borrow.Fn.Kinds.{In}
 use borrow.Fn.PlainCycle.{Measures, is, falls, and}
-use denote.Enum.Declared.{tagOf}
-use types.Run.{OneOf}
-use Rattle.program.specs.Decoding.{decodedEntry}
 use Rattle.program.specs.Graph.{done}
 use Rattle.program.specs.Node.{commandTree}
-use Rattle.program.specs.Syntax.{truth}
-use Rattle.program.specs.Tree.{Entries, commandBelow, commandTrees}
 use Rattle.program.specs.declared.CommandNode.{CommandNode}
-use Rattle.program.specs.declared.CommandNode.the-variants.{Skip, Assign, Store, Sequence, Conditional, Iteration, Guarded, Choice}
-use Rattle.program.proofs.CommandNode.{the-type}
 use Rattle.program.proofs.Forms.{CommandParts}
-use Rattle.program.proofs.Laws.{command-form, command-lower, boolean-any}
+use Rattle.program.proofs.Laws.{command-told, command-lower, boolean-any}
 use Rattle.semantics.proofs.Coded.{handed}
-use Rattle.semantics.proofs.Keys.{isKey, one-key}
+use Rattle.semantics.proofs.Keys.{left-at-once}
 use Rattle.semantics.proofs.Valued.{true-holds, negation-holds, conjunction-holds}
 use Rattle.semantics.proofs.evaluator.condition.exit.Reads as reads
 use Rattle.semantics.proofs.evaluator.condition.exit.Kinds as kinds
@@ -44,29 +36,9 @@ abbrev claims : ℕ → lts.Claims
 claims t =
     (command-node-reads.Asked, command-node-reads.Learnt, truth-reads.Asked, truth-reads.Learnt, negated-reads.Asked, negated-reads.Learnt, exit-below t, reads.Post, both-reads.Asked, both-reads.Learnt)
 
--- a do of what is no guarded command is left at once
-plain : (es : Entries) (n : ℕ) (x : CommandNode) → OneOf (0 ∷ 1 ∷ 2 ∷ 3 ∷ 4 ∷ 5 ∷ []) (tagOf the-type x) → done (commandTree es n x) ≡ truth n
-unfolding commandTree done isKey
-plain es n Skip k = refl
-plain es n (Assign x a) k = refl
-plain es n (Store x i a) k = refl
-plain es n (Sequence p q) k = refl
-plain es n (Conditional p) k = refl
-plain es n (Iteration p) k = refl
-plain es n (Guarded g p) k = absurd (one-key 0 (1 ∷ 2 ∷ 3 ∷ 4 ∷ 5 ∷ []) 6 k)
-plain es n (Choice p q) k = absurd (one-key 0 (1 ∷ 2 ∷ 3 ∷ 4 ∷ 5 ∷ []) 7 k)
-
--- where it is known what the entry is
-module _ (t : ℕ) (c : lts.After-command-node (claims t) (exit-at t) reads.Post) where
-  abbrev entries : Entries
-  entries = decodedEntry (c .before .args .entries .now)
-
-  module _ {k : CommandNode} (told : c .command-node .result ≡ k) where
-    same : commandBelow (commandTrees entries (c .before .args .bound)) (c .before .args .n) ≡ commandTree entries (c .before .args .n) k
-    same = command-form entries (c .before .args .bound) (c .before .args .n) ∙ ap (commandTree entries (c .before .args .n)) (sym (c .command-node .ensures) ∙ told)
-
-    lower : CommandParts k → c .before .args .n < t
-    lower p = omega (arith, command-lower entries (c .before .args .bound) (c .before .args .n) (sym (c .command-node .ensures) ∙ told) p, c .before .pre .0)
+-- a part in the same table may be asked about
+lower : (t : ℕ) (c : lts.After-command-node (claims t) (exit-at t) reads.Post) {k : CommandNode} → c .command-node .result ≡ k → CommandParts k → c .before .args .n < t
+lower t c told p = omega (arith, command-lower _ _ _ (c .command-node .ensures) told p, c .before .pre .0)
 
 enum-known-node : (t : ℕ) → lts.Need-enum-known-node (claims t) (exit-at t) reads.Post
 enum-known-node t c = search needs
@@ -86,7 +58,7 @@ returns t c =
     let a = c .before in
     let k = a .before in
     let at = k .before .before .before in
-    rw (handed (c .negated .result) (c .negated .ok), same t at (k .before .node .given .1), boolean-any (at .before .args .entries .now))
+    rw (handed (c .negated .result) (c .negated .ok), command-told _ _ _ (at .command-node .ensures) (k .before .node .given .1), boolean-any (at .before .args .entries .now))
     (negation-holds _ (a .truth .ensures) (rw (handed (a .truth .result) (a .truth .ok)) at (c .negated .ensures)))
 
 returns-2 : (t : ℕ) → lts.Need-returns-2 (claims t) (exit-at t) reads.Post
@@ -95,12 +67,12 @@ returns-2 t c =
     let b = c .before in
     let a = b .before in
     let k = a .before in
-    rw (handed (c .both .result) (c .both .ok), same t (k .before .before .before) (k .before .node2 .given .1))
+    rw (handed (c .both .result) (c .both .ok), command-told _ _ _ (k .before .before .before .command-node .ensures) (k .before .node2 .given .1))
     (conjunction-holds _ (a .exit .ensures) (b .exit2 .ensures)
     (rw (handed (a .exit .result) (a .exit .ok), handed (b .exit2 .result) (b .exit2 .ok)) at (c .both .ensures)))
 
 returns-3 : (t : ℕ) → lts.Need-returns-3 (claims t) (exit-at t) reads.Post
-returns-3 t c = rw (same t (c .before) refl, plain (entries t (c .before)) (c .before .before .args .n) (c .before .command-node .result) (c .match .keys3)) (true-holds _)
+returns-3 t c = rw (command-told _ _ _ (c .before .command-node .ensures) refl, left-at-once _ _ (c .before .command-node .result) (c .match .keys3)) (true-holds _)
 
 pub +exit-spec : {M : Type 1} → statement M
 +exit-spec =

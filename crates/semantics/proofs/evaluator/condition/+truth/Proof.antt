@@ -1,16 +1,14 @@
 -- The cycle of calls {`semantics::evaluator::condition::truth`}: a part is lower than what it is a part of, so the measure is `bound`.
-use mathlib.Core.Path.{_≡_, sym, _∙_, ap}
+use mathlib.Core.Path.{_≡_}
 use Prim.Native.Nat.{ℕ, _<_}
 use native.Mathlib.Omega.{arith}
 use borrow.Author.Needs.{needs}
 use borrow.Fn.Kinds.{In}
 use borrow.Fn.PlainCycle.{Measures, is, falls, and}
-use Rattle.program.specs.Decoding.{decodedEntry}
 use Rattle.program.specs.Node.{booleanTree}
-use Rattle.program.specs.Tree.{Entries, booleanBelow, booleanTrees}
 use Rattle.program.specs.declared.BooleanNode.{BooleanNode}
 use Rattle.program.proofs.Forms.{BooleanParts}
-use Rattle.program.proofs.Laws.{boolean-form, boolean-lower}
+use Rattle.program.proofs.Laws.{boolean-told, boolean-lower}
 use Rattle.semantics.proofs.Coded.{handed, one-decided, other-decided}
 use Rattle.semantics.proofs.Valued.{true-holds, negation-holds, conjunction-holds, short-right, short-left}
 use Rattle.semantics.proofs.evaluator.condition.truth.Reads as reads
@@ -36,17 +34,9 @@ abbrev claims : ℕ → lts.Claims
 claims t =
     (boolean-node-reads.Asked, boolean-node-reads.Learnt, comparison-reads.Asked, comparison-reads.Learnt, truth-below t, reads.Post, both-reads.Asked, both-reads.Learnt, negated-reads.Asked, negated-reads.Learnt)
 
--- where it is known what the entry is
-module _ (t : ℕ) (c : lts.After-boolean-node (claims t) (truth-at t) reads.Post) where
-  abbrev entries : Entries
-  entries = decodedEntry (c .before .args .entries .now)
-
-  module _ {k : BooleanNode} (told : c .boolean-node .result ≡ k) where
-    same : booleanBelow (booleanTrees entries (c .before .args .bound)) (c .before .args .n) ≡ booleanTree entries (c .before .args .n) k
-    same = boolean-form entries (c .before .args .bound) (c .before .args .n) ∙ ap (booleanTree entries (c .before .args .n)) (sym (c .boolean-node .ensures) ∙ told)
-
-    lower : BooleanParts k → c .before .args .n < t
-    lower p = omega (arith, boolean-lower entries (c .before .args .bound) (c .before .args .n) (sym (c .boolean-node .ensures) ∙ told) p, c .before .pre .0)
+-- a part in the same table may be asked about
+lower : (t : ℕ) (c : lts.After-boolean-node (claims t) (truth-at t) reads.Post) {k : BooleanNode} → c .boolean-node .result ≡ k → BooleanParts k → c .before .args .n < t
+lower t c told p = omega (arith, boolean-lower _ _ _ (c .boolean-node .ensures) told p, c .before .pre .0)
 
 enum-told : (t : ℕ) → lts.Need-enum-told (claims t) (truth-at t) reads.Post
 enum-told t c = search needs
@@ -80,13 +70,13 @@ truth-requires-5 t c κs = (lower t (c .before .before .before) (c .before .node
 
 returns : (t : ℕ) → lts.Need-returns (claims t) (truth-at t) reads.Post
 unfolding booleanTree
-returns t c = rw (same t (c .before .before) (c .enum-told .given .1)) (true-holds _)
+returns t c = rw (boolean-told _ _ _ (c .before .before .boolean-node .ensures) (c .enum-told .given .1)) (true-holds _)
 
 returns-2 : (t : ℕ) → lts.Need-returns-2 (claims t) (truth-at t) reads.Post
 unfolding booleanTree
 returns-2 t c =
     let k = c .before in
-    rw (handed (c .comparison .result) (c .comparison .ok), same t (k .before .before .before) (k .before .node .given .1)) (c .comparison .ensures _)
+    rw (handed (c .comparison .result) (c .comparison .ok), boolean-told _ _ _ (k .before .before .before .boolean-node .ensures) (k .before .node .given .1)) (c .comparison .ensures _)
 
 returns-3 : (t : ℕ) → lts.Need-returns-3 (claims t) (truth-at t) reads.Post
 unfolding booleanTree
@@ -94,7 +84,7 @@ returns-3 t c =
     let b = c .before in
     let a = b .before in
     let k = a .before in
-    rw (handed (c .both .result) (c .both .ok), same t (k .before .before .before) (k .before .node2 .given .1))
+    rw (handed (c .both .result) (c .both .ok), boolean-told _ _ _ (k .before .before .before .boolean-node .ensures) (k .before .node2 .given .1))
     (conjunction-holds _ (a .truth .ensures) (b .truth2 .ensures)
     (rw (handed (a .truth .result) (a .truth .ok), handed (b .truth2 .result) (b .truth2 .ok)) at (c .both .ensures)))
 
@@ -103,7 +93,7 @@ unfolding booleanTree
 returns-4 t c =
     let a = c .before .before in
     let k = a .before in
-    rw (handed (c .truth4 .result) (c .truth4 .ok), same t (k .before .before .before) (k .before .node3 .given .1))
+    rw (handed (c .truth4 .result) (c .truth4 .ok), boolean-told _ _ _ (k .before .before .before .boolean-node .ensures) (k .before .node3 .given .1))
     (short-right _ (a .truth3 .ensures) (one-decided (a .truth3 .result) record { sfits = a .truth3 .ok } (c .before .if1 .taken)) (c .truth4 .ensures))
 
 returns-5 : (t : ℕ) → lts.Need-returns-5 (claims t) (truth-at t) reads.Post
@@ -111,7 +101,7 @@ unfolding booleanTree
 returns-5 t c =
     let a = c .before in
     let k = a .before in
-    rw (handed (a .truth3 .result) (a .truth3 .ok), same t (k .before .before .before) (k .before .node3 .given .1))
+    rw (handed (a .truth3 .result) (a .truth3 .ok), boolean-told _ _ _ (k .before .before .before .boolean-node .ensures) (k .before .node3 .given .1))
     (short-left _ (a .truth3 .ensures) (λ y. other-decided (a .truth3 .result) y (c .if1 .left)))
 
 returns-6 : (t : ℕ) → lts.Need-returns-6 (claims t) (truth-at t) reads.Post
@@ -119,7 +109,7 @@ unfolding booleanTree
 returns-6 t c =
     let a = c .before in
     let k = a .before in
-    rw (handed (c .negated .result) (c .negated .ok), same t (k .before .before .before) (k .before .node4 .given .1))
+    rw (handed (c .negated .result) (c .negated .ok), boolean-told _ _ _ (k .before .before .before .boolean-node .ensures) (k .before .node4 .given .1))
     (negation-holds _ (a .truth5 .ensures) (rw (handed (a .truth5 .result) (a .truth5 .ok)) at (c .negated .ensures)))
 
 pub +truth-spec : {M : Type 1} → statement M

@@ -1,0 +1,155 @@
+-- Membership as an index answers it: of the records of a list of bytes, and of those that begin one. Bytes past them do not matter.
+use mathlib.Core.Path.{_≡_, refl, sym, ap, _∙_}
+use mathlib.Core.Bool.{Bool, _&&_, _||_, and-assoc}
+use mathlib.Core.List.{List, [], _∷_, _++_, flatten, append-assoc}
+use Prim.Native.Nat.{ℕ, zero, suc, _+_, _*_, _/_, _%_, _<_, _≤_}
+use native.Mathlib.Decide.{ℕ-discrete}
+use native.Mathlib.Nat.{zero-add, suc-add, mul-zero, mul-suc, mul-div-le}
+use native.Mathlib.Omega.{arith}
+use borrow.Author.Tests.{eq-eqb, ne-eqb}
+use lib.Dec.{eqb}
+use lib.ListN.{length, getD, take, drop, length-append, length-drop}
+use lib.Seq.{length-take-le, take-all, take-nil, take-at, drop-at, drop-drop, take-take, getD-take, getD-drop}
+use Rattle.signs.specs.Lists.{anyOf, tabulate}
+use Rattle.signs.proofs.Lists.{or-assoc, or-false, anyOf-append}
+use Rattle.program.specs.File.{byteAt, wordAt}
+use Rattle.program.specs.Graph.{wordBytes}
+use Rattle.analysis.specs.Membership.{anyBelow, among, bucket, Indexed}
+use Rattle.analysis.specs.Records.{recordWidth, recordCount, recordAt, recordsOf, recordFor, nodeOf, memoryOf, sameSigns, gives, listed, hasAt}
+use Rattle.analysis.proofs.Chains.{last-same, record-inside}
+
+-- tests below n: the same where they agree, the first apart from the others, and of what a list or a function has
+any-same : (p q : ℕ → Bool) (n : ℕ) → ((k : ℕ) → k < n → p k ≡ q k) → anyBelow n p ≡ anyBelow n q
+unfolding anyBelow
+any-same p q zero h = refl
+any-same p q (suc n) h = rw (h n (omega arith), any-same p q n (λ k l. h k (omega arith)))
+
+any-first : (p : ℕ → Bool) (n : ℕ) → anyBelow (suc n) p ≡ (p 0 || anyBelow n (λ k. p (suc k)))
+unfolding anyBelow
+any-first p zero = sym (or-false (p 0))
+any-first p (suc n) = ap (λ (b : Bool). b || p (suc n)) (any-first p n) ∙ or-assoc (p 0) (anyBelow n (λ k. p (suc k))) (p (suc n))
+
+module _ {A : Type 0} (p : A → Bool) where
+  any-tabulated : (n : ℕ) (f : ℕ → A) → anyOf p (tabulate n f) ≡ anyBelow n (λ k. p (f k))
+  unfolding anyOf tabulate anyBelow
+  any-tabulated zero f = refl
+  any-tabulated (suc n) f = rw (anyOf-append p (tabulate n f) (f n ∷ []), any-tabulated n f, or-false (p (f n)))
+
+  any-listed : (xs : List A) (d : A) → anyOf p xs ≡ anyBelow (length xs) (λ k. p (getD xs k d))
+  unfolding anyOf anyBelow
+  any-listed [] d = refl
+  any-listed (x ∷ xs) d = ap (λ (b : Bool). p x || b) (any-listed xs d) ∙ sym (any-first (λ k. p (getD (x ∷ xs) k d)) (length xs))
+
+-- a record that gives a node and signs is the record of them
+same-word : (a b node : ℕ) → a < 256 → b < 256 → node < 65536 → eqb (a * 256 + b) node ≡ (eqb a (node / 256 % 256) && eqb b (node % 256))
+same-word a b node ha hb hn =
+    elim (ℕ-discrete a (node / 256 % 256)) [
+      | yes p ↦
+          elim (ℕ-discrete b (node % 256)) [
+            | yes q ↦ rw (eq-eqb a (node / 256 % 256) p, eq-eqb b (node % 256) q) (eq-eqb (a * 256 + b) node (omega arith))
+            | no d ↦ rw (eq-eqb a (node / 256 % 256) p, ne-eqb b (node % 256) d) (ne-eqb (a * 256 + b) node (λ e. d (omega arith)))
+          ]
+      | no d ↦ rw (ne-eqb a (node / 256 % 256) d) (ne-eqb (a * 256 + b) node (λ e. d (omega arith)))
+    ]
+
+pub gives-same : (ns : List ℕ) (node : ℕ) (ρ r : List ℕ) → node < 65536 → length r ≡ recordWidth ns → getD r 0 0 < 256 → getD r 1 0 < 256
+    → gives ns node ρ r ≡ sameSigns r (recordFor node ρ)
+unfolding gives nodeOf memoryOf recordFor recordWidth wordBytes wordAt byteAt sameSigns
+gives-same ns node ρ [] hn l ha hb = absurd (omega arith)
+gives-same ns node ρ (a ∷ []) hn l ha hb = absurd (omega arith)
+gives-same ns node ρ (a ∷ b ∷ signs) hn l ha hb =
+    rw (take-all (length ns) signs (omega arith), same-word a b node ha hb hn) (and-assoc (eqb a (node / 256 % 256)) (eqb b (node % 256)) (sameSigns signs ρ))
+
+-- of the bytes of a list, a node and signs: each record there gives them where it is the record of them
+module _ (ns bytes : List ℕ) (small : (i : ℕ) → getD bytes i 0 < 256) (node : ℕ) (ρ : List ℕ) (low : node < 65536) where
+  record-gives : (k n : ℕ) → k < n → recordWidth ns * n ≤ length bytes → gives ns node ρ (recordAt (recordWidth ns) bytes k) ≡ sameSigns (recordAt (recordWidth ns) bytes k) (recordFor node ρ)
+  unfolding recordAt recordWidth
+  record-gives k n h room =
+      gives-same ns node ρ _ low
+      (length-take-le (recordWidth ns) _ (rw length-drop (omega (arith, record-inside (recordWidth ns) k n (length bytes) h room))))
+      (at 0 (omega arith))
+      (at 1 (omega arith))
+    where
+      at : (i : ℕ) → i < recordWidth ns → getD (recordAt (recordWidth ns) bytes k) i 0 < 256
+      at i l = rw (getD-take (recordWidth ns) (drop (recordWidth ns * k) bytes) i 0 l, getD-drop) (small _)
+
+  any-gives : (n : ℕ) → recordWidth ns * n ≤ length bytes
+      → anyBelow n (λ k. gives ns node ρ (recordAt (recordWidth ns) bytes k)) ≡ among (recordWidth ns) bytes n (recordFor node ρ)
+  unfolding among
+  any-gives n room = any-same _ _ n (λ k h. record-gives k n h room)
+
+  -- membership in a solution
+  pub has-among : hasAt ns bytes node ρ ≡ among (recordWidth ns) bytes (recordCount (recordWidth ns) bytes) (recordFor node ρ)
+  unfolding hasAt listed recordsOf recordCount
+  has-among =
+      any-tabulated (gives ns node ρ) (length bytes / recordWidth ns) (recordAt (recordWidth ns) bytes)
+      ∙ any-gives (length bytes / recordWidth ns) (mul-div-le (length bytes) (recordWidth ns))
+
+-- records of one width, one after the other
+abbrev pub OfWidth : ℕ → List (List ℕ) → Type 0
+OfWidth width rs = (k : ℕ) → k < length rs → length (getD rs k []) ≡ width
+
+module _ (width : ℕ) where
+  pub flatten-length : (rs : List (List ℕ)) → OfWidth width rs → length (flatten rs) ≡ width * length rs
+  unfolding flatten
+  flatten-length [] w = sym (mul-zero width)
+  flatten-length (r ∷ rs) w =
+      rw (length-append r (flatten rs), flatten-length rs (λ k h. w (suc k) (omega arith))) (omega (arith, w 0 (omega arith), mul-suc width (length rs)))
+
+  pub record-of : (rs : List (List ℕ)) (rest : List ℕ) → OfWidth width rs → (k : ℕ) → k < length rs → recordAt width (flatten rs ++ rest) k ≡ getD rs k []
+  unfolding recordAt flatten
+  record-of [] rest w k h = absurd (omega arith)
+  record-of (r ∷ rs) rest w zero h = rw (mul-zero width, append-assoc r (flatten rs) rest) (take-at r (flatten rs ++ rest) width (w 0 (omega arith)))
+  record-of (r ∷ rs) rest w (suc k) h =
+      let step : width * suc k ≡ width + width * k = omega (arith, mul-suc width k) in
+      rw (step, append-assoc r (flatten rs) rest, ← drop-drop (width * k) width (r ++ (flatten rs ++ rest)), drop-at r (flatten rs ++ rest) width (w 0 (omega arith)))
+      (record-of rs rest (λ j l. w (suc j) (omega arith)) k (omega arith))
+
+-- membership in the records that begin a list
+pub listed-among : (ns bytes : List ℕ) (small : (i : ℕ) → getD bytes i 0 < 256) (node : ℕ) (ρ : List ℕ) (low : node < 65536) (rs : List (List ℕ)) (rest : List ℕ)
+    → OfWidth (recordWidth ns) rs → bytes ≡ flatten rs ++ rest → listed ns rs node ρ ≡ among (recordWidth ns) bytes (length rs) (recordFor node ρ)
+unfolding listed
+listed-among ns bytes small node ρ low rs rest w e =
+    any-listed (gives ns node ρ) rs []
+    ∙ any-same _ _ (length rs) (λ k h. ap (gives ns node ρ) (sym (ap (λ (b : List ℕ). recordAt (recordWidth ns) b k) e ∙ record-of (recordWidth ns) rs rest w k h)))
+    ∙ any-gives ns bytes small node ρ low (length rs) (omega (arith, flatten-length (recordWidth ns) rs w, ap length e, length-append (flatten rs) rest))
+
+-- one record more
+pub among-more : (width : ℕ) (bytes : List ℕ) (n : ℕ) (r : List ℕ) → among width bytes (suc n) r ≡ (among width bytes n r || sameSigns (recordAt width bytes n) r)
+unfolding among anyBelow
+among-more width bytes n r = refl
+
+-- the first n records alone matter
+take-of-drop : (m n : ℕ) (l : List ℕ) → take m (drop n l) ≡ drop n (take (n + m) l)
+take-of-drop m zero l = rw (zero-add m)
+take-of-drop m (suc n) [] = rw (take-nil m, suc-add n m)
+take-of-drop m (suc n) (x ∷ l) = rw (suc-add n m) (take-of-drop m n l)
+
+module _ (width n : ℕ) (bytes bytes′ : List ℕ) (same : take (width * n) bytes ≡ take (width * n) bytes′) where
+  pub record-kept : (k : ℕ) → k < n → recordAt width bytes k ≡ recordAt width bytes′ k
+  unfolding recordAt
+  record-kept k h = up bytes ∙ ap (λ (l : List ℕ). drop (width * k) (take (width * k + width) l)) same ∙ sym (up bytes′)
+    where
+      up : (l : List ℕ) → take width (drop (width * k) l) ≡ drop (width * k) (take (width * k + width) (take (width * n) l))
+      up l = take-of-drop width (width * k) l ∙ ap (drop (width * k)) (sym (take-take (width * k + width) (width * n) l (record-inside width k n (width * n) h (omega arith))))
+
+  pub among-kept : (r : List ℕ) → among width bytes n r ≡ among width bytes′ n r
+  unfolding among
+  among-kept r = any-same _ _ n (λ k h. ap (λ (s : List ℕ). sameSigns s r) (record-kept k h))
+
+  pub indexed-kept : (fs heads next : List ℕ) → width * n ≤ length bytes′ → Indexed fs width bytes n heads next → Indexed fs width bytes′ n heads next
+  indexed-kept fs heads next room x =
+      record {
+        few = x .few;
+        room = room;
+        chained =
+            record {
+              heads-room = x .chained .heads-room;
+              next-room = x .chained .next-room;
+              last = λ h l. x .chained .last h l ∙ last-same _ _ n (λ k b. ap (λ (j : ℕ). eqb j h) (hash-kept k b));
+              lower = λ k b. x .chained .lower k b ∙ last-same _ _ k (λ j a. cc (hash-kept j (omega arith), hash-kept k b));
+            };
+      }
+    where
+      hash-kept : (k : ℕ) → k < n → bucket fs (recordAt width bytes k) ≡ bucket fs (recordAt width bytes′ k)
+      hash-kept k h = ap (bucket fs) (record-kept k h)

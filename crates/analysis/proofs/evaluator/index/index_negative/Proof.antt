@@ -1,0 +1,6 @@
+-- `evaluator::index::index_negative` meets its contract.
+use Rattle.analysis.proofs.evaluator.index.index_negative.Statement.{statement}
+use Rattle.analysis.proofs.evaluator.index.index_negative.Tie as tie
+
+pub index-negative-spec : {M : Type 1} → statement M
+index-negative-spec = tie.close (tie.spec (λ c κs. c .pre) (λ c κs. tt) (λ c. rw (← c .before .signs .ensures) (c .has .ensures)))

@@ -1,0 +1,59 @@
+-- `lists::solution_formed`: each record passed is well formed.
+use borrow.Author.Needs.{needs}
+use mathlib.Core.Path.{_≡_, refl, sym, _∙_}
+use mathlib.Core.List.{List}
+use Prim.Native.Nat.{ℕ, _+_, _*_, _≤_, _-_}
+use native.Mathlib.Nat.{le-antisymm, div-le-self}
+use native.Mathlib.Numerals.{add-one}
+use native.Mathlib.Omega.{arith}
+use lib.ListN.{length}
+use Rattle.program.specs.Asking.{askEach}
+use Rattle.program.specs.FirstSuch.{firstOf}
+use Rattle.program.specs.declared.Validity.the-variants.{Fit}
+use Rattle.program.proofs.Laws.{each-stops, each-goes-on}
+use Rattle.analysis.specs.RecordParts.{SizesIn, recordFormed}
+use Rattle.analysis.proofs.Laid.{record-inside, solution-asked}
+use Rattle.analysis.proofs.lists.solution_formed.Statement.{statement}
+use Rattle.analysis.proofs.lists.solution_formed.Tie as tie
+
+abbrev Inv-loop : tie.InvT-loop
+Inv-loop sizes names nodes bytes width count k₀ k =
+    (k ≤ count) × ((ns : List ℕ) → SizesIn ns sizes names → askEach k (λ k. recordFormed ns nodes bytes ((2 + names) * k)) ≡ Fit)
+
+abbrev μ-loop : tie.MeasureT-loop
+μ-loop sizes names nodes bytes width count k₀ k = count - k
+
+-- the record passed is inside the list
+inside : (c : tie.In-loop Inv-loop μ-loop) → let a = c .before .before .before .args in (2 + a .names) * c .before .loop .k + 2 + a .names ≤ length (a .bytes .now)
+inside c = omega (arith, record-inside _ _ (c .before .loop .k) (c .loop-test .taken))
+
+loop-holds : tie.Need-loop-holds Inv-loop μ-loop
+unfolding askEach firstOf
+loop-holds c = (search needs, λ ns y. refl)
+
+mul-record-formed : tie.Need-mul-record-formed Inv-loop μ-loop
+mul-record-formed c = omega (arith, inside c)
+
+record-formed-requires : tie.Need-record-formed-requires Inv-loop μ-loop
+record-formed-requires c κs = (c .before .before .before .pre, inside c)
+
+returns : tie.Need-returns Inv-loop μ-loop
+returns c ns g y e =
+    let turn = c .before .before .before in
+    each-stops _ _ (turn .before .loop .k) _ _ (turn .loop-test .taken) (turn .before .loop .inv .1 ns y) (c .before .before .record-formed .ensures ns y) (c .before .refused .ensures) (c .if1 .taken) ∙ solution-asked y _ g e
+
+add-k : tie.Need-add-k Inv-loop μ-loop
+add-k c = omega (arith, div-le-self (length (c .before .before .before .before .before .before .args .bytes .now)) (2 + c .before .before .before .before .before .before .args .names))
+
+loop-again : tie.Need-loop-again Inv-loop μ-loop
+loop-again c =
+    let turn = c .before .before .before in
+    (search needs, λ ns y. rw add-one (each-goes-on _ (turn .before .loop .k) _ _ (turn .before .loop .inv .1 ns y) (c .before .before .record-formed .ensures ns y) (c .before .refused .ensures) (c .if1 .left)))
+
+returns-2 : tie.Need-returns-2 Inv-loop μ-loop
+returns-2 c ns g y e =
+    let l = c .before .loop in
+    rw (← solution-asked y _ g e, ← le-antisymm (l .inv .0) (c .loop-test .left)) (sym (l .inv .1 ns y))
+
+pub solution-formed-spec : {M : Type 1} → statement M
+solution-formed-spec = tie.close (tie.spec Inv-loop μ-loop (λ c. search needs) (λ c. search needs) loop-holds mul-record-formed record-formed-requires (λ c κs. search needs) returns add-k (λ c. search needs) loop-again returns-2)

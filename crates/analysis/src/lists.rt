@@ -1,0 +1,148 @@
+// Lists of records: questions 16 and 17, and the reading and writing of a record.
+
+ghost use mathlib.Core.Path.{_≡_};
+ghost use mathlib.Core.List.{List, _++_};
+ghost use Prim.Native.Nat.{ℕ, _<_, _≤_, _+_};
+ghost use lib.ListN.{length};
+ghost use Rattle.program.specs.DrawingParts;
+ghost use Rattle.program.specs.Graph;
+ghost use Rattle.analysis.specs.Abstraction;
+ghost use Rattle.analysis.specs.RecordParts as parts;
+ghost use Rattle.analysis.specs.Records as spec;
+use program::Validity;
+use program::file;
+use program::validation;
+
+// Question 16 of a list: whether it is whole records of a width, at most 4,096.
+pub(crate) fn whole(bytes: &[u8], width: usize) -> bool
+    requires { ⌜ 0 < width ⌝ }
+    ensures { λ r. ⌜ r ≡ spec.wholeRecords width (now (bytes .entry)) ⌝ }
+{
+    bytes.len() % width == 0 && bytes.len() / width <= 4096
+}
+
+// Whether a byte is right for a name of a size.
+pub(crate) fn byte_formed(size: u16, b: u8) -> bool
+    ensures { λ r. ⌜ r ≡ Abstraction.wellFormed size b ⌝ }
+{
+    if size != 0 {
+        return 1 <= b && b <= 7;
+    }
+    if b == 1 {
+        return true;
+    }
+    b == 2 || b == 4
+}
+
+// Question 17 of the memory at a place.
+pub(crate) fn memory_formed(sizes: &[u16; 32], names: usize, bytes: &[u8], at: usize) -> Validity
+    requires { ⌜ (names ≤ 32) × (at + names ≤ length (now bytes)) ⌝ }
+    ensures { λ r. ⌜ ((ns : List ℕ) → parts.SizesIn ns (now (sizes .entry)) names → r ≡ spec.memoryFormed ns (now (bytes .entry)) at) ⌝ }
+{
+    let mut i: usize = 0;
+    while i < names {
+        let v = validation::ask(byte_formed(sizes[i], bytes[at + i]), 17, at + i);
+        if validation::refused(v) {
+            return v;
+        }
+        i += 1;
+    }
+    Validity::Fit
+}
+
+// Question 17 of a start list.
+pub(crate) fn initial_formed(sizes: &[u16; 32], names: usize, bytes: &[u8]) -> Validity
+    requires { ⌜ (0 < names) × (names ≤ 32) ⌝ }
+    ensures { λ r. ⌜ ((ns : List ℕ) → parts.SizesIn ns (now (sizes .entry)) names → r ≡ spec.initialFormed ns (now (bytes .entry))) ⌝ }
+{
+    let count = bytes.len() / names;
+    let mut k: usize = 0;
+    while k < count {
+        let v = memory_formed(sizes, names, bytes, names * k);
+        if validation::refused(v) {
+            return v;
+        }
+        k += 1;
+    }
+    Validity::Fit
+}
+
+// Question 17 of the record at a place of a solution, for a graph of so many nodes.
+fn record_formed(sizes: &[u16; 32], names: usize, nodes: u16, bytes: &[u8], at: usize) -> Validity
+    requires { ⌜ (names ≤ 32) × (at + 2 + names ≤ length (now bytes)) ⌝ }
+    ensures { λ r. ⌜ ((ns : List ℕ) → parts.SizesIn ns (now (sizes .entry)) names → r ≡ parts.recordFormed ns nodes (now (bytes .entry)) at) ⌝ }
+{
+    let node = validation::ask(file::word_at(bytes, at) < nodes, 17, at);
+    if validation::refused(node) {
+        return node;
+    }
+    memory_formed(sizes, names, bytes, at + 2)
+}
+
+// Question 17 of a solution.
+pub(crate) fn solution_formed(sizes: &[u16; 32], names: usize, nodes: u16, bytes: &[u8]) -> Validity
+    requires { ⌜ names ≤ 32 ⌝ }
+    ensures { λ r. ⌜ ((ns : List ℕ) (g : Graph.Graph) → parts.SizesIn ns (now (sizes .entry)) names → g .fresh ≡ nodes → r ≡ spec.solutionFormed ns g (now (bytes .entry))) ⌝ }
+{
+    let width = 2 + names;
+    let count = bytes.len() / width;
+    let mut k: usize = 0;
+    while k < count {
+        let v = record_formed(sizes, names, nodes, bytes, width * k);
+        if validation::refused(v) {
+            return v;
+        }
+        k += 1;
+    }
+    Validity::Fit
+}
+
+// The byte of name `i` from a place on: 0 past the last name.
+fn padded_byte(bytes: &[u8], at: usize, names: usize, i: usize) -> u8
+    requires { ⌜ i < 32 ⌝ }
+    ensures { λ r. ⌜ r ≡ parts.paddedByte (now (bytes .entry)) at names i ⌝ }
+{
+    if names <= i {
+        return 0;
+    }
+    if bytes.len() <= at {
+        return 0;
+    }
+    file::byte_at(bytes, at + i)
+}
+
+// The bytes of so many names from a place on, and zeros after them.
+pub(crate) fn memory_at(bytes: &[u8], at: usize, names: usize) -> [u8; 32]
+    ensures { λ r. ⌜ r ≡ parts.padded (now (bytes .entry)) at names ⌝ }
+{
+    let mut out = [0u8; 32];
+    let mut i: usize = 0;
+    while i < 32 {
+        out[i] = padded_byte(bytes, at, names, i);
+        i += 1;
+    }
+    out
+}
+
+// A record's bytes over a buffer from a place on.
+pub(crate) fn put(buffer: &mut [u8], at: usize, row: &[u8])
+    requires { ⌜ at + length (now row) ≤ length (now buffer) ⌝ }
+    ensures { λ _. ⌜ now (buffer .exit) ≡ DrawingParts.overAt at (now (row .entry)) (now (buffer .entry)) ⌝ }
+{
+    let mut i: usize = 0;
+    while i < row.len() {
+        buffer[at + i] = row[i];
+        i += 1;
+    }
+}
+
+// The record of a memory at a node.
+pub(crate) fn record_for(node: u16, rho: &[u8; 32]) -> [u8; 34]
+    ensures { λ r. ⌜ r ≡ Graph.wordBytes node ++ now (rho .entry) ⌝ }
+{
+    let mut out = [0u8; 34];
+    out[0] = (node / 256 % 256) as u8;
+    out[1] = (node % 256) as u8;
+    put(&mut out, 2, rho);
+    out
+}
