@@ -880,7 +880,7 @@ fn sampled(kind: u8, left: Set, right: Set) -> Set {
     set
 }
 
-/// Names x, then the two sides; their bytes in the record are `left` and `right`, and their sets at their places in the script `l` and `r`.
+/// An assignment to x, which is zero, over two more names whose bytes in the record are given: at node 1, x has each sign expected.
 fn operator_case(out: &mut Out, names: &str, text: &str, bytes: [Set; 2], expected: Set, mark: Mark) {
     let [left, right] = bytes;
     let mut sheet = at_node(0, &[ZERO, left, right]);

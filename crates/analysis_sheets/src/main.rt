@@ -15,10 +15,13 @@
 use analysis::Mark;
 use analysis::Records;
 use analysis::Solving;
+use analysis::Split;
 use analysis::Verdict;
 use analysis::WrongByte;
+use analysis::splitting;
 use libc::STDOUT_FILENO;
 use program::Refusal;
+use program::Validity;
 use program::file;
 use semantics::Fault;
 use semantics::Outcome;
@@ -147,6 +150,24 @@ fn farther(at: usize, by: u16) -> usize {
     if at < 1000000 { at + by as usize } else { at }
 }
 
+fn print_told(x: Refusal) {
+    print_refusal(x);
+    print(b" ");
+}
+
+fn print_split(split: Split) {
+    let validity = split.validity;
+    match validity {
+        Validity::Fit => {}
+        Validity::Refused(x) => print_told(x),
+    }
+    print(b"record ");
+    print_number(wide_number(split.record));
+    print(b" column ");
+    print_number(wide_number(split.column));
+    print(b"; ");
+}
+
 // Whether a record of so many bytes starts at a byte of a list.
 fn starts(i: usize, width: usize) -> bool {
     width > 0 && i % width == 0
@@ -205,7 +226,7 @@ fn answer_solve(s: &[u8], initial: &[u8], buffer: &mut [u8]) -> u16 {
 }
 
 fn answer_split(s: &[u8], at: u32) {
-    print(b"later; ");
+    print_split(splitting::split(s, at));
 }
 
 // Mode 1: the verdict, and the offending record.
