@@ -1545,6 +1545,42 @@ fn splits(out: &mut Out) {
     out.known("no place", &file, &Ask::Split(Vec::new()), "");
 }
 
+/// The largest files, the deepest expressions and the widest loops.
+fn limits(out: &mut Out) {
+    out.group("limit");
+    for (shape, word) in [(0, "left"), (1, "right"), (2, "in halves")] {
+        let told = out.put(&format!("128 skips nested {word}"), &sequence(128, shape).bytes(), &solving(&[4], 400));
+        assert!(told.starts_with("finished with 129; accepted index clean"), "{told}");
+    }
+    let told = out.put("127 loops", &loops(127).bytes(), &solving(&[4], 400));
+    // Each loop's guard is true: the exits are not taken.
+    assert!(told.starts_with("finished with 128; accepted index clean"), "{told}");
+    // A[A[..A[7]..]], 511 elements deep: through plus only, through plus or minus, and through minus, where nothing is below.
+    let deep = exact(&[0, 9], 512, 0, 1).bytes();
+    finishes(out, "511 elements, plus", &deep, &[2, 4], &sheet_of("0 2 4; 1 4 4"), CLEAN);
+    finishes(out, "511 elements, plus and minus", &deep, &[2, 5], &sheet_of("0 2 5; 1 1 5; 1 4 5"), Some((0, 0)));
+    finishes(out, "511 elements, minus", &deep, &[2, 1], &sheet_of("0 2 1"), Some((0, 0)));
+    // 255 negations of true as a loop's guard, and 254.
+    finishes(out, "255 negations", &exact(&[0, 9], 0, 256, 3).bytes(), &[2, 4], &sheet_of("0 2 4; 1 2 4"), CLEAN);
+    finishes(out, "254 negations", &exact(&[0, 9], 0, 255, 3).bytes(), &[2, 4], &sheet_of("0 2 4; 2 2 4"), CLEAN);
+    let arms = |special: &str, at: usize| (0..85).map(|k| format!("{} -> skip", if k == at { special } else { "!true" })).collect::<Vec<_>>().join(" [] ");
+    for (special, at, sheet) in [("!true", 0, "0 4; 1 4"), ("true", 84, "0 4; 86 4"), ("x > x", 84, "0 4; 86 4; 1 4"), ("true", 0, "0 4; 2 4"), ("x / 0 = 0", 84, "0 4")] {
+        let text = format!("do {} od", arms(special, at));
+        finishes(out, &format!("85 arms, {special} at {at}"), &file_of("x", &text), &[4], &sheet_of(sheet), CLEAN);
+    }
+    // A record at every node, so that every entry is asked about: the assignment of the deepest element is that of the innermost loop.
+    let largest = Lesson::of(exact(&full_names(), 512, 256, 256));
+    let file = largest.script.bytes();
+    for array in [1, 2, 4, 5, 7] {
+        let record = [vec![MINUS; 20], vec![array; 12]].concat();
+        let everywhere: Vec<u8> = (0..largest.graph.nodes).flat_map(|node| at_node(node, &record)).collect();
+        out.put(&format!("largest file, arrays {array}"), &file, &solving(&record.repeat(2), 20000));
+        let mark = out.put(&format!("largest file, arrays {array}, marked"), &file, &Ask::Mark(Chunks::of(&everywhere)));
+        assert_eq!(mark == "index clean", array & MINUS == 0, "{mark}");
+        out.put(&format!("largest file, arrays {array}, judged"), &file, &judging(&record, &everywhere));
+    }
+}
+
 /// One refusal of a file by each operation. The lists would be refused too.
 fn refuses(out: &mut Out, title: &str, file: &[u8], initial: &[u8], sheet: &[u8], no: &str) {
     out.known(&format!("{title}, judged"), file, &judging(initial, sheet), &format!("{no}; offending"));
@@ -1916,6 +1952,7 @@ fn main() {
     rooms(&mut out);
     start_lists(&mut out);
     splits(&mut out);
+    limits(&mut out);
     refusals(&mut out);
     changed(&mut out);
     random(&mut out);
