@@ -1,4 +1,4 @@
--- `analysis_sheets::answer_front` is safe.
+-- `analysis_sheets::answer_front` is safe: a part that was tested to be no longer than its whole has the length asked for.
 -- Assumes nothing.
 use mathlib.Core.Path.{sym}
 use lib.Seq.{length-take-le}

@@ -1,4 +1,4 @@
--- `analysis_sheets::answer_splits` is safe.
+-- `analysis_sheets::answer_splits` is safe and ends. The measure is what is left to go through; nothing else has to hold from turn to turn.
 -- Assumes nothing.
 use Prim.Native.Nat.{_-_}
 use lib.ListN.{length}

@@ -1,4 +1,4 @@
--- `analysis_sheets::follow` is safe.
+-- `analysis_sheets::follow` is safe and ends. The measure is what is left to go through; a step keeps the memory's length.
 -- Assumes nothing.
 use Prim.Native.Nat.{_-_}
 use lib.ListN.{length}

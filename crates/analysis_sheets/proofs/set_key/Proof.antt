@@ -1,4 +1,4 @@
--- `analysis_sheets::set_key` is safe.
+-- `analysis_sheets::set_key` is safe and ends. The measure is what is left to go through; what is written keeps the list's length.
 -- Assumes nothing.
 use Prim.Native.Nat.{_-_}
 use lib.ListN.{length}

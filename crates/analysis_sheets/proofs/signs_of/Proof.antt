@@ -1,4 +1,4 @@
--- `analysis_sheets::signs_of` is safe.
+-- `analysis_sheets::signs_of` is safe and ends. The measure is what is left to go through; nothing else has to hold from turn to turn.
 -- Assumes nothing.
 use Prim.Native.Nat.{_-_}
 use borrow.Author.Needs.{needs}
