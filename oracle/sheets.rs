@@ -1682,20 +1682,26 @@ fn changed(out: &mut Out) {
     for (names, text, initial) in lessons {
         changes(out, &mut r, text, &file_of(names, text), &starts(initial), true);
     }
-    // A long sheet, in another order, and without a record in its middle.
+    // Long sheets in another order, and with another record in place of one.
     let (file, initial) = fan(6);
-    let (_, sheet) = solved(&file, &initial);
-    let mut records: Vec<&[u8]> = sheet.chunks(9).collect();
-    assert_eq!(records.len(), 1093);
+    replaced(out, &mut r, "1093 records", &file, &initial, &[0, 546, 1092]);
+    replaced(out, &mut r, "4096 records", &file_of("A4 B4 C4 D4", "skip"), &different(2048), &[4095]);
+}
+
+fn replaced(out: &mut Out, r: &mut Random, title: &str, file: &[u8], initial: &[u8], places: &[usize]) {
+    let width = read(file, 4).ok().unwrap().names.len() + 2;
+    let (_, sheet) = solved(file, initial);
+    let mut records: Vec<&[u8]> = sheet.chunks(width).collect();
+    assert!(title.starts_with(&records.len().to_string()));
     for k in (1..records.len()).rev() {
         records.swap(k, r.below(k + 1));
     }
-    out.known("1093 records", &file, &judging(&initial, &records.concat()), "accepted index clean; offending");
-    for k in [0, 546, 1092] {
-        let mut fewer = records.clone();
-        fewer.remove(k);
-        let told = out.put(&format!("1093 records without record {k}"), &file, &judging(&initial, &fewer.concat()));
-        assert!(told.starts_with("42"), "{told}");
+    out.known(title, file, &judging(initial, &records.concat()), "accepted index clean; offending");
+    for &k in places {
+        let mut other = records.clone();
+        other[k] = records[(k + 7) % records.len()];
+        let told = out.put(&format!("{title} without record {k}"), file, &judging(initial, &other.concat()));
+        assert!(told.starts_with("41") || told.starts_with("42"), "{told}");
     }
 }
 
