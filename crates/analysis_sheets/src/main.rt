@@ -150,7 +150,7 @@ fn farther(at: usize, by: u16) -> usize {
     if at < 1000000 { at + by as usize } else { at }
 }
 
-fn print_told(x: Refusal) {
+fn print_refused(x: Refusal) {
     print_refusal(x);
     print(b" ");
 }
@@ -159,7 +159,7 @@ fn print_split(split: Split) {
     let validity = split.validity;
     match validity {
         Validity::Fit => {}
-        Validity::Refused(x) => print_told(x),
+        Validity::Refused(x) => print_refused(x),
     }
     print(b"record ");
     print_number(wide_number(split.record));
