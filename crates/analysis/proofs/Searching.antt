@@ -1,14 +1,13 @@
 -- A solution is searched through its index: what is found of one abstract memory, of the results of an edge, and of the edges out of a node.
-use mathlib.Core.Path.{_≡_, refl, sym, ap, subst, _∙_}
-use mathlib.Core.Bool.{Bool, true, false, not}
+use mathlib.Core.Path.{_≡_, sym, ap, _∙_}
 use mathlib.Core.List.{List, _++_}
-use Prim.Native.Nat.{ℕ, suc, _+_, _*_, _<_, _≤_}
+use Prim.Native.Nat.{ℕ, _+_, _*_, _<_, _≤_}
 use native.Mathlib.Omega.{arith}
 use lib.ListN.{length, getD, set, take, length-set}
 use Rattle.program.specs.Graph.{wordBytes}
 use Rattle.analysis.specs.Changing.{Alike}
 use Rattle.analysis.specs.Judging.{Searchable, ReadInto}
-use Rattle.analysis.specs.Membership.{among, Indexed}
+use Rattle.analysis.specs.Membership.{among}
 use Rattle.analysis.specs.Records.{recordWidth, recordCount, recordFor, hasAt}
 use Rattle.analysis.proofs.Among.{has-among}
 use Rattle.analysis.proofs.Laid.{record-changed}

@@ -1,14 +1,13 @@
 // A candidate solution judged.
 
 ghost use mathlib.Core.Path.{_≡_};
-ghost use mathlib.Core.List.{List, map, _++_};
-ghost use Prim.Native.Nat.{ℕ, _+_, _<_, _≤_};
-ghost use lib.ListN.{length, set, take};
+ghost use mathlib.Core.List.{List, _++_};
+ghost use Prim.Native.Nat.{ℕ, _+_, _<_};
+ghost use lib.ListN.{set};
 ghost use Rattle.program.specs.Graph;
 ghost use Rattle.analysis.specs.Judging as parts;
 ghost use Rattle.analysis.specs.Membership;
 ghost use Rattle.analysis.specs.Records;
-use crate::Changes;
 use crate::lists;
 use crate::membership;
 
