@@ -8,11 +8,25 @@ use lib.ListN.{length, getD, set, take, length-set}
 use lib.Seq.{take-suc}
 use Rattle.signs.specs.Lists.{anyOf}
 use Rattle.signs.proofs.Lists.{anyOf-append, anyOf-map}
-use Rattle.program.specs.Graph.{wordBytes}
-use Rattle.analysis.specs.Changing.{Alike}
-use Rattle.analysis.specs.Judging.{anyMissing, Searchable, ReadInto}
+use Rattle.program.specs.Decoding.{decodedEntry}
+use Rattle.program.specs.Drawing.{edgeRead}
+use Rattle.program.specs.File.{sizes}
+use Rattle.program.specs.Graph.{graph, wordBytes, actionOf}
+use Rattle.program.specs.Links.{Followed}
+use Rattle.program.specs.declared.EdgeBytes.{EdgeBytes}
+use Rattle.program.specs.declared.First.the-variants.{At, Nothing}
+use Rattle.semantics.specs.Action.{meaning}
+use Rattle.semantics.specs.Step.{edgeAt}
+use Rattle.semantics.proofs.Laws.{drawn-action, drawn-target, first-along, none-along}
+use Rattle.analysis.specs.Changing.{Alike, ResultsIn}
+use Rattle.analysis.specs.Index.{mayBeNegative}
+use Rattle.analysis.specs.Judging.{anyMissing, picks, firstPicked, Searchable, Searched, ReadInto}
 use Rattle.analysis.specs.Membership.{among}
 use Rattle.analysis.specs.Records.{recordWidth, recordCount, recordFor, hasAt}
+use Rattle.analysis.specs.declared.Changes.{Changes}
+use Rattle.analysis.specs.declared.judging.Query.{Query}
+use Rattle.analysis.specs.declared.judging.Query.the-variants.{MissingResult, NegativeIndex}
+use Rattle.analysis.proofs.Alike.{negative-alike}
 use Rattle.analysis.proofs.Among.{has-among}
 use Rattle.analysis.proofs.Laid.{record-changed}
 
@@ -72,3 +86,43 @@ module _ (ns solution : List ℕ) (node : ℕ) (ρ : List ℕ) (name : ℕ) (set
   pub one-missing : (j n : ℕ) → j < n → n ≤ length sets → hasAt ns solution node (set ρ name (getD sets j 0)) ≡ false → SomeMissing n true
   unfolding anyMissing
   one-missing j n h room p = anyOf-map _ _ (take n sets) ∙ any-here _ sets j n h room (rw p)
+
+-- an edge, as the code reads it and asks for its results or its indexes
+module _ {s edges entries : List ℕ} {edge-count names count : ℕ} {solution fs heads next : List ℕ} (x : Searched s edges entries edge-count names count solution fs heads next)
+    (e : ℕ) (h : e < edge-count) (r : EdgeBytes) (read : r ≡ edgeRead edges e) {ρ rho : List ℕ} (y : ReadInto ρ rho names) where
+  meaning-read : meaning (actionOf (decodedEntry entries) (r .kind) (r .entry)) ≡ meaning (edgeAt (graph s) e .action)
+  meaning-read =
+      ap meaning
+      (ap (λ (l : List ℕ). actionOf (decodedEntry l) (r .kind) (r .entry)) (x .entries-decoded)
+      ∙ drawn-action s edges _ edge-count (x .drawn .drawing) e r h read)
+
+  pub picks-missing : (c : Changes) → ResultsIn rho (meaning (actionOf (decodedEntry entries) (r .kind) (r .entry))) c
+      → anyMissing (sizes s) solution (r .target) (map (set ρ (c .name)) (take (c .count) (c .sets))) ≡ picks (sizes s) (graph s) solution MissingResult ρ e
+  unfolding picks
+  picks-missing c k =
+      rw (← k .gives ρ (y .alike), ← meaning-read, ← drawn-target s edges _ edge-count (x .drawn .drawing) e r h read)
+
+  pub picks-negative : mayBeNegative rho (meaning (actionOf (decodedEntry entries) (r .kind) (r .entry))) ≡ picks (sizes s) (graph s) solution NegativeIndex ρ e
+  unfolding picks
+  picks-negative = ap (mayBeNegative rho) meaning-read ∙ sym (negative-alike ρ rho (y .alike) (meaning (edgeAt (graph s) e .action)))
+
+-- an edge that a query does not pick, whatever program these bytes are decoded from and whatever abstract memory was read
+abbrev pub Unpicked : (q : Query) (edges entries : List ℕ) (edge-count names : ℕ) (solution fs heads next rho : List ℕ) (e : ℕ) → Type 0
+Unpicked q edges entries edge-count names solution fs heads next rho e =
+    (s : List ℕ) (count : ℕ) (ρ : List ℕ) → Searched s edges entries edge-count names count solution fs heads next → ReadInto ρ rho names
+    → picks (sizes s) (graph s) solution q ρ e ≡ false
+
+-- the first edge out of a node that is picked, as following the links finds it; and that there is none
+module _ (q : Query) (edges entries : List ℕ) (edge-count names : ℕ) (solution fs heads next rho : List ℕ) (node e : ℕ)
+    (at : Followed edges edge-count node (Unpicked q edges entries edge-count names solution fs heads next rho) e)
+    (s : List ℕ) (count : ℕ) (ρ : List ℕ) (x : Searched s edges entries edge-count names count solution fs heads next) (y : ReadInto ρ rho names) where
+  unpicked-before : Followed edges edge-count node (λ k. picks (sizes s) (graph s) solution q ρ k ≡ false) e
+  unpicked-before = record { here = at .here; before = λ k h l t. at .before k h l t s count ρ x y }
+
+  pub picked-here : e < edge-count → picks (sizes s) (graph s) solution q ρ e ≡ true → firstPicked (sizes s) (graph s) solution q node ρ ≡ At e
+  unfolding firstPicked
+  picked-here h p = first-along s edges _ edge-count (x .drawn .drawing) node _ e unpicked-before h p
+
+  pub none-picked : edge-count ≤ e → firstPicked (sizes s) (graph s) solution q node ρ ≡ Nothing
+  unfolding firstPicked
+  none-picked h = none-along s edges _ edge-count (x .drawn .drawing) node _ e unpicked-before h

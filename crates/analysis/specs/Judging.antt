@@ -1,16 +1,18 @@
 -- What the functions that judge a solution promise each other. No public contract cites these.
 use mathlib.Core.Path.{_≡_}
-use mathlib.Core.Bool.{Bool, not}
+use mathlib.Core.Bool.{Bool, not, _&&_}
 use mathlib.Core.List.{List}
 use Prim.Native.Nat.{ℕ, _+_, _≤_}
 use lib.ListN.{length}
 use Rattle.signs.specs.Lists.{anyOf}
 use Rattle.program.specs.Decoding.{decodedEntries}
 use Rattle.program.specs.File.{sizes}
+use Rattle.program.specs.FirstSuch.{firstSuch}
 use Rattle.program.specs.Graph.{Graph}
+use Rattle.program.specs.declared.First.{First}
 use Rattle.semantics.specs.Action.{meaning}
 use Rattle.semantics.specs.Running.{DrawnEdges}
-use Rattle.semantics.specs.Step.{edgeAt}
+use Rattle.semantics.specs.Step.{edgeAt, leaves}
 use Rattle.analysis.specs.Changing.{Alike}
 use Rattle.analysis.specs.Index.{mayBeNegative}
 use Rattle.analysis.specs.Membership.{Indexed}
@@ -27,6 +29,10 @@ anyMissing ns solution node σs = anyOf (λ σ. not (hasAt ns solution node σ))
 unfoldable pub picks : List ℕ → Graph → List ℕ → Query → List ℕ → ℕ → Bool
 picks ns g solution MissingResult ρ e = anyMissing ns solution (edgeAt g e .target) (results ρ (meaning (edgeAt g e .action)))
 picks ns g solution NegativeIndex ρ e = mayBeNegative ρ (meaning (edgeAt g e .action))
+
+-- the first edge out of a node that a query picks
+unfoldable pub firstPicked : List ℕ → Graph → List ℕ → Query → ℕ → List ℕ → First
+firstPicked ns g solution q node ρ = firstSuch (length (g .edges)) (λ e. leaves g e node && picks ns g solution q ρ e)
 
 -- a solution that can be searched: of at most 32 names, and indexed
 pub record Ordered (names : ℕ) (solution fs heads next : List ℕ) : Type 0 where
