@@ -4,7 +4,7 @@ use mathlib.Core.Bool.{Bool, _&&_, _||_, and-assoc}
 use mathlib.Core.List.{List, [], _∷_, _++_, flatten, append-assoc}
 use Prim.Native.Nat.{ℕ, zero, suc, _+_, _*_, _/_, _%_, _<_, _≤_}
 use native.Mathlib.Decide.{ℕ-discrete}
-use native.Mathlib.Nat.{zero-add, suc-add, mul-zero, mul-suc, mul-div-le}
+use native.Mathlib.Nat.{zero-add, suc-add, mul-zero, mul-suc}
 use native.Mathlib.Omega.{arith}
 use borrow.Author.Tests.{eq-eqb, ne-eqb}
 use lib.Dec.{eqb}
@@ -60,30 +60,28 @@ gives-same ns node ρ (a ∷ []) hn l ha hb = absurd (omega arith)
 gives-same ns node ρ (a ∷ b ∷ signs) hn l ha hb =
     rw (take-all (length ns) signs (omega arith), same-word a b node ha hb hn) (and-assoc (eqb a (node / 256 % 256)) (eqb b (node % 256)) (sameSigns signs ρ))
 
--- of the bytes of a list, a node and signs: each record there gives them where it is the record of them
-module _ (ns bytes : List ℕ) (small : (i : ℕ) → getD bytes i 0 < 256) (node : ℕ) (ρ : List ℕ) (low : node < 65536) where
-  record-gives : (k n : ℕ) → k < n → recordWidth ns * n ≤ length bytes → gives ns node ρ (recordAt (recordWidth ns) bytes k) ≡ sameSigns (recordAt (recordWidth ns) bytes k) (recordFor node ρ)
+-- of the first n records of a list, whose nodes are two bytes each: each gives a node and signs where it is the record of them
+module _ (ns bytes : List ℕ) (n : ℕ) (room : recordWidth ns * n ≤ length bytes)
+    (small : (k i : ℕ) → k < n → i < 2 → getD bytes (recordWidth ns * k + i) 0 < 256) (node : ℕ) (ρ : List ℕ) (low : node < 65536) where
+  record-gives : (k : ℕ) → k < n → gives ns node ρ (recordAt (recordWidth ns) bytes k) ≡ sameSigns (recordAt (recordWidth ns) bytes k) (recordFor node ρ)
   unfolding recordAt recordWidth
-  record-gives k n h room =
+  record-gives k h =
       gives-same ns node ρ _ low
       (length-take-le (recordWidth ns) _ (rw length-drop (omega (arith, record-inside (recordWidth ns) k n (length bytes) h room))))
       (at 0 (omega arith))
       (at 1 (omega arith))
     where
-      at : (i : ℕ) → i < recordWidth ns → getD (recordAt (recordWidth ns) bytes k) i 0 < 256
-      at i l = rw (getD-take (recordWidth ns) (drop (recordWidth ns * k) bytes) i 0 l, getD-drop) (small _)
+      at : (i : ℕ) → i < 2 → getD (recordAt (recordWidth ns) bytes k) i 0 < 256
+      at i l = rw (getD-take (recordWidth ns) (drop (recordWidth ns * k) bytes) i 0 (omega arith), getD-drop) (small k i h l)
 
-  any-gives : (n : ℕ) → recordWidth ns * n ≤ length bytes
-      → anyBelow n (λ k. gives ns node ρ (recordAt (recordWidth ns) bytes k)) ≡ among (recordWidth ns) bytes n (recordFor node ρ)
+  any-gives : anyBelow n (λ k. gives ns node ρ (recordAt (recordWidth ns) bytes k)) ≡ among (recordWidth ns) bytes n (recordFor node ρ)
   unfolding among
-  any-gives n room = any-same _ _ n (λ k h. record-gives k n h room)
+  any-gives = any-same _ _ n (λ k h. record-gives k h)
 
-  -- membership in a solution
-  pub has-among : hasAt ns bytes node ρ ≡ among (recordWidth ns) bytes (recordCount (recordWidth ns) bytes) (recordFor node ρ)
-  unfolding hasAt listed recordsOf recordCount
-  has-among =
-      any-tabulated (gives ns node ρ) (length bytes / recordWidth ns) (recordAt (recordWidth ns) bytes)
-      ∙ any-gives (length bytes / recordWidth ns) (mul-div-le (length bytes) (recordWidth ns))
+  -- membership in a solution of n records
+  pub has-among : recordCount (recordWidth ns) bytes ≡ n → hasAt ns bytes node ρ ≡ among (recordWidth ns) bytes n (recordFor node ρ)
+  unfolding hasAt listed recordsOf
+  has-among e = rw e (any-tabulated (gives ns node ρ) n (recordAt (recordWidth ns) bytes) ∙ any-gives)
 
 -- records of one width, one after the other
 abbrev pub OfWidth : ℕ → List (List ℕ) → Type 0
@@ -106,13 +104,14 @@ module _ (width : ℕ) where
       (record-of rs rest (λ j l. w (suc j) (omega arith)) k (omega arith))
 
 -- membership in the records that begin a list
-pub listed-among : (ns bytes : List ℕ) (small : (i : ℕ) → getD bytes i 0 < 256) (node : ℕ) (ρ : List ℕ) (low : node < 65536) (rs : List (List ℕ)) (rest : List ℕ)
-    → OfWidth (recordWidth ns) rs → bytes ≡ flatten rs ++ rest → listed ns rs node ρ ≡ among (recordWidth ns) bytes (length rs) (recordFor node ρ)
+pub listed-among : (ns bytes : List ℕ) (rs : List (List ℕ)) (rest : List ℕ) → OfWidth (recordWidth ns) rs → bytes ≡ flatten rs ++ rest
+    → ((k i : ℕ) → k < length rs → i < 2 → getD bytes (recordWidth ns * k + i) 0 < 256) → (node : ℕ) (ρ : List ℕ) → node < 65536
+    → listed ns rs node ρ ≡ among (recordWidth ns) bytes (length rs) (recordFor node ρ)
 unfolding listed
-listed-among ns bytes small node ρ low rs rest w e =
+listed-among ns bytes rs rest w e small node ρ low =
     any-listed (gives ns node ρ) rs []
     ∙ any-same _ _ (length rs) (λ k h. ap (gives ns node ρ) (sym (ap (λ (b : List ℕ). recordAt (recordWidth ns) b k) e ∙ record-of (recordWidth ns) rs rest w k h)))
-    ∙ any-gives ns bytes small node ρ low (length rs) (omega (arith, flatten-length (recordWidth ns) rs w, ap length e, length-append (flatten rs) rest))
+    ∙ any-gives ns bytes (length rs) (omega (arith, flatten-length (recordWidth ns) rs w, ap length e, length-append (flatten rs) rest)) small node ρ low
 
 -- one record more
 pub among-more : (width : ℕ) (bytes : List ℕ) (n : ℕ) (r : List ℕ) → among width bytes (suc n) r ≡ (among width bytes n r || sameSigns (recordAt width bytes n) r)

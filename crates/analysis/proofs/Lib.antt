@@ -1,6 +1,7 @@
 pub mod Open
 pub mod Tabulated
 pub mod Laid
+pub mod Searching
 pub mod Values
 pub mod Negative
 pub mod Meanings

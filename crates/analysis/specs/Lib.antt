@@ -2,6 +2,7 @@ pub mod Abstraction
 pub mod Records
 pub mod Membership
 pub mod RecordParts
+pub mod Judging
 pub mod Signs
 pub mod Results
 pub mod Changing

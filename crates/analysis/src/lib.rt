@@ -1,8 +1,9 @@
 // Sheets: abstract memories, the sign analysis of actions, candidate solutions judged and solutions computed.
 
 mod evaluator;
-mod membership;
+pub mod judging;
 mod lists;
+mod membership;
 pub mod splitting;
 
 use program::Refusal;

@@ -1,0 +1,128 @@
+-- A solution is searched through its index: what is found of one abstract memory, of the results of an edge, and of the edges out of a node.
+use mathlib.Core.Path.{_≡_, refl, sym, ap, _∙_}
+use mathlib.Core.Bool.{Bool, true, false, not, _||_}
+use mathlib.Core.List.{List, [], _∷_, _++_, map}
+use Prim.Native.Nat.{ℕ, zero, suc, _+_, _*_, _<_, _≤_}
+use native.Mathlib.Omega.{arith}
+use lib.ListN.{length, getD, set, take, length-set}
+use lib.Seq.{take-suc}
+use Rattle.signs.specs.Lists.{anyOf}
+use Rattle.signs.proofs.Lists.{anyOf-append, anyOf-map}
+use Rattle.program.specs.Decoding.{decodedEntry}
+use Rattle.program.specs.Drawing.{edgeRead}
+use Rattle.program.specs.File.{sizes}
+use Rattle.program.specs.Graph.{graph, wordBytes, actionOf}
+use Rattle.program.specs.Links.{Followed}
+use Rattle.program.specs.declared.EdgeBytes.{EdgeBytes}
+use Rattle.program.specs.declared.First.the-variants.{At, Nothing}
+use Rattle.semantics.specs.Action.{meaning}
+use Rattle.semantics.specs.Step.{edgeAt}
+use Rattle.semantics.proofs.Laws.{drawn-action, drawn-target, first-along, none-along}
+use Rattle.analysis.specs.Changing.{Alike, ResultsIn}
+use Rattle.analysis.specs.Index.{mayBeNegative}
+use Rattle.analysis.specs.Judging.{anyMissing, picks, firstPicked, Searchable, Searched, ReadInto}
+use Rattle.analysis.specs.Membership.{among}
+use Rattle.analysis.specs.Records.{recordWidth, recordCount, recordFor, hasAt}
+use Rattle.analysis.specs.declared.Changes.{Changes}
+use Rattle.analysis.specs.declared.judging.Query.{Query}
+use Rattle.analysis.specs.declared.judging.Query.the-variants.{MissingResult, NegativeIndex}
+use Rattle.analysis.proofs.Alike.{negative-alike}
+use Rattle.analysis.proofs.Among.{has-among}
+use Rattle.analysis.proofs.Laid.{record-changed}
+
+-- what the index says of an abstract memory with one name changed, as the code asks it
+pub has-found : (ns : List ℕ) (names count : ℕ) (solution fs heads next : List ℕ) → Searchable ns names count solution fs heads next
+    → ((i : ℕ) → getD solution i 0 < 256) → (node : ℕ) → node < 65536 → (ρ rho : List ℕ) → ReadInto ρ rho names → names ≤ 32 → (name signs : ℕ)
+    → (row : List ℕ) → row ≡ set (wordBytes node ++ rho) (2 + name) signs → length row ≡ 34
+    → among (2 + names) solution count (take (2 + names) row) ≡ hasAt ns solution node (set ρ name signs)
+unfolding recordWidth Alike wordBytes
+has-found ns names count solution fs heads next x small node low ρ rho y few name signs row e long =
+    ap (among (2 + names) solution count) taken
+    ∙ ap (λ (n : ℕ). among (2 + n) solution count (recordFor node (set ρ name signs))) (sym (x .names-are))
+    ∙ sym
+    (has-among ns solution count (omega (arith, whole, x .indexed .room)) (λ k i h l. small (recordWidth ns * k + i)) node (set ρ name signs) low
+    (ap (λ (n : ℕ). recordCount (2 + n) solution) (x .names-are) ∙ x .counted))
+  where
+    whole : (2 + length ns) * count ≡ (2 + names) * count
+    whole = ap (λ (n : ℕ). (2 + n) * count) (x .names-are)
+
+    room : length rho ≡ 32
+    room = omega (arith, long, ap length e, length-set (wordBytes node ++ rho) (2 + name) signs)
+
+    taken : take (2 + names) row ≡ recordFor node (set ρ name signs)
+    taken =
+        ap (take (2 + names)) e ∙ ap (λ (n : ℕ). take (2 + n) (set (wordBytes node ++ rho) (2 + name) signs)) (sym (y .sized))
+        ∙ record-changed node ρ rho (omega (arith, y .sized, room), λ k l. y .alike k) name signs
+
+-- a test of the elements of a list, one by one
+any-more : (q : ℕ → Bool) (xs : List ℕ) (j : ℕ) → j < length xs → anyOf q (take j xs) ≡ false → q (getD xs j 0) ≡ false → anyOf q (take (suc j) xs) ≡ false
+unfolding anyOf
+any-more q xs j h e p = rw (take-suc xs j 0 h, anyOf-append q (take j xs) (getD xs j 0 ∷ []), e, p)
+
+any-here : (q : ℕ → Bool) (xs : List ℕ) (j n : ℕ) → j < n → n ≤ length xs → q (getD xs j 0) ≡ true → anyOf q (take n xs) ≡ true
+unfolding anyOf
+any-here q [] j n h room p = absurd (omega arith)
+any-here q (x ∷ xs) j zero h room p = absurd (omega arith)
+any-here q (x ∷ xs) zero (suc n) h room p = rw p
+any-here q (x ∷ xs) (suc j) (suc n) h room p = rw (any-here q xs j n (omega arith) (omega arith) p) (or-true (q x))
+  where
+    or-true : (a : Bool) → (a || true) ≡ true
+    or-true true = refl
+    or-true false = refl
+
+-- the results of an edge, as the code asks for them set by set
+module _ (ns solution : List ℕ) (node : ℕ) (ρ : List ℕ) (name : ℕ) (sets : List ℕ) where
+  abbrev pub SomeMissing : ℕ → Bool → Type 0
+  SomeMissing j b = anyMissing ns solution node (map (set ρ name) (take j sets)) ≡ b
+
+  pub none-asked : SomeMissing 0 false
+  unfolding anyMissing anyOf
+  none-asked = refl
+
+  pub one-listed : (j : ℕ) → j < length sets → SomeMissing j false → hasAt ns solution node (set ρ name (getD sets j 0)) ≡ true → SomeMissing (suc j) false
+  unfolding anyMissing
+  one-listed j h e p = anyOf-map _ _ (take (suc j) sets) ∙ any-more _ sets j h (sym (anyOf-map _ _ (take j sets)) ∙ e) (rw p)
+
+  pub one-missing : (j n : ℕ) → j < n → n ≤ length sets → hasAt ns solution node (set ρ name (getD sets j 0)) ≡ false → SomeMissing n true
+  unfolding anyMissing
+  one-missing j n h room p = anyOf-map _ _ (take n sets) ∙ any-here _ sets j n h room (rw p)
+
+-- an edge, as the code reads it and asks for its results or its indexes
+module _ {s edges entries : List ℕ} {edge-count names count : ℕ} {solution fs heads next : List ℕ} (x : Searched s edges entries edge-count names count solution fs heads next)
+    (e : ℕ) (h : e < edge-count) (r : EdgeBytes) (read : r ≡ edgeRead edges e) {ρ rho : List ℕ} (y : ReadInto ρ rho names) where
+  meaning-read : meaning (actionOf (decodedEntry entries) (r .kind) (r .entry)) ≡ meaning (edgeAt (graph s) e .action)
+  meaning-read =
+      ap meaning
+      (ap (λ (l : List ℕ). actionOf (decodedEntry l) (r .kind) (r .entry)) (x .entries-decoded)
+      ∙ drawn-action s edges _ edge-count (x .drawn .drawing) e r h read)
+
+  pub picks-missing : (c : Changes) → ResultsIn rho (meaning (actionOf (decodedEntry entries) (r .kind) (r .entry))) c
+      → anyMissing (sizes s) solution (r .target) (map (set ρ (c .name)) (take (c .count) (c .sets))) ≡ picks (sizes s) (graph s) solution MissingResult ρ e
+  unfolding picks
+  picks-missing c k =
+      rw (← k .gives ρ (y .alike), ← meaning-read, ← drawn-target s edges _ edge-count (x .drawn .drawing) e r h read)
+
+  pub picks-negative : mayBeNegative rho (meaning (actionOf (decodedEntry entries) (r .kind) (r .entry))) ≡ picks (sizes s) (graph s) solution NegativeIndex ρ e
+  unfolding picks
+  picks-negative = ap (mayBeNegative rho) meaning-read ∙ sym (negative-alike ρ rho (y .alike) (meaning (edgeAt (graph s) e .action)))
+
+-- an edge that a query does not pick, whatever program these bytes are decoded from and whatever abstract memory was read
+abbrev pub Unpicked : (q : Query) (edges entries : List ℕ) (edge-count names : ℕ) (solution fs heads next rho : List ℕ) (e : ℕ) → Type 0
+Unpicked q edges entries edge-count names solution fs heads next rho e =
+    (s : List ℕ) (count : ℕ) (ρ : List ℕ) → Searched s edges entries edge-count names count solution fs heads next → ReadInto ρ rho names
+    → picks (sizes s) (graph s) solution q ρ e ≡ false
+
+-- the first edge out of a node that is picked, as following the links finds it; and that there is none
+module _ (q : Query) (edges entries : List ℕ) (edge-count names : ℕ) (solution fs heads next rho : List ℕ) (node e : ℕ)
+    (at : Followed edges edge-count node (Unpicked q edges entries edge-count names solution fs heads next rho) e)
+    (s : List ℕ) (count : ℕ) (ρ : List ℕ) (x : Searched s edges entries edge-count names count solution fs heads next) (y : ReadInto ρ rho names) where
+  unpicked-before : Followed edges edge-count node (λ k. picks (sizes s) (graph s) solution q ρ k ≡ false) e
+  unpicked-before = record { here = at .here; before = λ k h l t. at .before k h l t s count ρ x y }
+
+  pub picked-here : e < edge-count → picks (sizes s) (graph s) solution q ρ e ≡ true → firstPicked (sizes s) (graph s) solution q node ρ ≡ At e
+  unfolding firstPicked
+  picked-here h p = first-along s edges _ edge-count (x .drawn .drawing) node _ e unpicked-before h p
+
+  pub none-picked : edge-count ≤ e → firstPicked (sizes s) (graph s) solution q node ρ ≡ Nothing
+  unfolding firstPicked
+  none-picked h = none-along s edges _ edge-count (x .drawn .drawing) node _ e unpicked-before h

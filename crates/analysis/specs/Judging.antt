@@ -1,0 +1,58 @@
+-- What the functions that judge a solution promise each other. No public contract cites these.
+use mathlib.Core.Path.{_≡_}
+use mathlib.Core.Bool.{Bool, not, _&&_}
+use mathlib.Core.List.{List}
+use Prim.Native.Nat.{ℕ, _+_, _≤_}
+use lib.ListN.{length}
+use Rattle.signs.specs.Lists.{anyOf}
+use Rattle.program.specs.Decoding.{decodedEntries}
+use Rattle.program.specs.File.{sizes}
+use Rattle.program.specs.FirstSuch.{firstSuch}
+use Rattle.program.specs.Graph.{Graph}
+use Rattle.program.specs.declared.First.{First}
+use Rattle.semantics.specs.Action.{meaning}
+use Rattle.semantics.specs.Running.{DrawnEdges}
+use Rattle.semantics.specs.Step.{edgeAt, leaves}
+use Rattle.analysis.specs.Changing.{Alike}
+use Rattle.analysis.specs.Index.{mayBeNegative}
+use Rattle.analysis.specs.Membership.{Indexed}
+use Rattle.analysis.specs.Records.{recordCount, hasAt}
+use Rattle.analysis.specs.Results.{results}
+use Rattle.analysis.specs.declared.judging.Query.{Query}
+use Rattle.analysis.specs.declared.judging.Query.the-variants.{MissingResult, NegativeIndex}
+
+-- whether one of some abstract memories is missing at a node
+unfoldable pub anyMissing : List ℕ → List ℕ → ℕ → List (List ℕ) → Bool
+anyMissing ns solution node σs = anyOf (λ σ. not (hasAt ns solution node σ)) σs
+
+-- whether a query picks an abstract memory and an edge: 42 of the verdict, or the index mark
+unfoldable pub picks : List ℕ → Graph → List ℕ → Query → List ℕ → ℕ → Bool
+picks ns g solution MissingResult ρ e = anyMissing ns solution (edgeAt g e .target) (results ρ (meaning (edgeAt g e .action)))
+picks ns g solution NegativeIndex ρ e = mayBeNegative ρ (meaning (edgeAt g e .action))
+
+-- the first edge out of a node that a query picks
+unfoldable pub firstPicked : List ℕ → Graph → List ℕ → Query → ℕ → List ℕ → First
+firstPicked ns g solution q node ρ = firstSuch (length (g .edges)) (λ e. leaves g e node && picks ns g solution q ρ e)
+
+-- a solution that can be searched: of at most 32 names, and indexed
+pub record Ordered (names : ℕ) (solution fs heads next : List ℕ) : Type 0 where
+  pub few : names ≤ 32
+  pub count : ℕ
+  pub indexed : Indexed fs (2 + names) solution count heads next
+
+-- all of its records are indexed, of the names' number
+pub record Searchable (ns : List ℕ) (names count : ℕ) (solution fs heads next : List ℕ) : Type 0 where
+  pub names-are : length ns ≡ names
+  pub counted : recordCount (2 + names) solution ≡ count
+  pub indexed : Indexed fs (2 + names) solution count heads next
+
+-- a well-formed program as a solution of it is searched: drawn and decoded, with the solution
+pub record Searched (s edges entries : List ℕ) (edge-count names count : ℕ) (solution fs heads next : List ℕ) : Type 0 where
+  pub drawn : DrawnEdges s edges edge-count
+  pub entries-decoded : entries ≡ decodedEntries s
+  pub searchable : Searchable (sizes s) names count solution fs heads next
+
+-- an abstract memory of so many names, and the array that it was read into
+pub record ReadInto (ρ rho : List ℕ) (names : ℕ) : Type 0 where
+  pub sized : length ρ ≡ names
+  pub alike : Alike ρ rho

@@ -1,0 +1,154 @@
+// A candidate solution judged.
+
+ghost use mathlib.Core.Path.{_≡_};
+ghost use mathlib.Core.List.{List, map, _++_};
+ghost use Prim.Native.Nat.{ℕ, _+_, _≤_, _<_};
+ghost use lib.ListN.{set, take};
+ghost use Rattle.signs.specs.Grid;
+ghost use Rattle.program.specs.File;
+ghost use Rattle.program.specs.Graph;
+ghost use Rattle.program.specs.Links;
+ghost use Rattle.analysis.specs.Judging as parts;
+ghost use Rattle.analysis.specs.Records;
+use crate::Changes;
+use crate::evaluator::index;
+use crate::evaluator::results;
+use crate::lists;
+use crate::membership;
+use program::First;
+use program::adjacency;
+use program::drawing;
+
+// What is looked for, in the records of a solution and the edges out of their nodes: 42, or the index mark.
+enum Query {
+    MissingResult,
+    NegativeIndex,
+}
+
+// The record of an abstract memory, one name with another set, at a node.
+fn record_with(node: u16, rho: &[u8; 32], name: u16, signs: u8) -> [u8; 34]
+    ensures { λ r. ⌜ r ≡ set (Graph.wordBytes node ++ now (rho .entry)) (2 + name) signs ⌝ }
+{
+    let mut row = lists::record_for(node, rho);
+    let column = 2 + name as usize;
+    if column < 34 {
+        row[column] = signs;
+    }
+    row
+}
+
+// Whether a solution has an abstract memory, one name with another set, at a node.
+fn listed(
+    factors: &[u16; 34],
+    heads: &[u16; 8192],
+    next: &[u16; 4096],
+    solution: &[u8],
+    names: usize,
+    rho: &[u8; 32],
+    node: u16,
+    name: u16,
+    signs: u8,
+) -> bool
+    requires { ⌜ parts.Ordered names (now solution) (now factors) (now heads) (now next) ⌝ }
+    ensures { λ r. ⌜ ((ns : List ℕ) (count : ℕ) (ρ : List ℕ)
+        → parts.Searchable ns names count (now (solution .entry)) (now (factors .entry)) (now (heads .entry)) (now (next .entry))
+        → parts.ReadInto ρ (now (rho .entry)) names → r ≡ Records.hasAt ns (now (solution .entry)) node (set ρ name signs)) ⌝ }
+{
+    let row = record_with(node, rho, name, signs);
+    let width = 2 + names;
+    membership::find(factors, heads, next, solution, width, &row[..width])
+}
+
+// Whether one of the results of an edge is missing at its target.
+fn any_missing(
+    factors: &[u16; 34],
+    heads: &[u16; 8192],
+    next: &[u16; 4096],
+    solution: &[u8],
+    names: usize,
+    rho: &[u8; 32],
+    node: u16,
+    changes: Changes,
+) -> bool
+    requires { ⌜ parts.Ordered names (now solution) (now factors) (now heads) (now next) ⌝ }
+    requires { ⌜ changes .count ≤ 12 ⌝ }
+    ensures { λ r. ⌜ ((ns : List ℕ) (count : ℕ) (ρ : List ℕ)
+        → parts.Searchable ns names count (now (solution .entry)) (now (factors .entry)) (now (heads .entry)) (now (next .entry))
+        → parts.ReadInto ρ (now (rho .entry)) names
+        → r ≡ parts.anyMissing ns (now (solution .entry)) node (map (set ρ (changes .name)) (take (changes .count) (changes .sets)))) ⌝ }
+{
+    let count = changes.count;
+    let name = changes.name;
+    let sets = changes.sets;
+    let mut j: usize = 0;
+    while j < count {
+        if !listed(factors, heads, next, solution, names, rho, node, name, sets[j]) {
+            return true;
+        }
+        j += 1;
+    }
+    false
+}
+
+// Whether a query picks an abstract memory and an edge.
+fn picked(
+    query: Query,
+    entries: &[u16; 4096],
+    grids: &[[[u8; 3]; 3]; 5],
+    edges: &[u8],
+    factors: &[u16; 34],
+    heads: &[u16; 8192],
+    next: &[u16; 4096],
+    solution: &[u8],
+    names: usize,
+    rho: &[u8; 32],
+    e: u16,
+) -> bool
+    requires { ⌜ parts.Ordered names (now solution) (now factors) (now heads) (now next) ⌝ }
+    requires { ⌜ now grids ≡ Grid.grids ⌝ }
+    ensures { λ r. ⌜ ((s : List ℕ) (edge-count count : ℕ) (ρ : List ℕ)
+        → parts.Searched s (now (edges .entry)) (now (entries .entry)) edge-count names count (now (solution .entry)) (now (factors .entry)) (now (heads .entry)) (now (next .entry))
+        → parts.ReadInto ρ (now (rho .entry)) names → e < edge-count → r ≡ parts.picks (File.sizes s) (Graph.graph s) (now (solution .entry)) query ρ e) ⌝ }
+{
+    let drawn = drawing::edge_at(edges, e);
+    match query {
+        Query::MissingResult => {
+            let found = results::changes(entries, grids, rho, drawn.kind, drawn.entry);
+            any_missing(factors, heads, next, solution, names, rho, drawn.target, found)
+        }
+        Query::NegativeIndex => index::may_be_negative(entries, grids, rho, drawn.kind, drawn.entry),
+    }
+}
+
+// The first edge out of a node that a query picks.
+fn first_picked(
+    query: Query,
+    entries: &[u16; 4096],
+    grids: &[[[u8; 3]; 3]; 5],
+    edges: &[u8],
+    links: &[u16; 384],
+    edge_count: u16,
+    factors: &[u16; 34],
+    heads: &[u16; 8192],
+    next: &[u16; 4096],
+    solution: &[u8],
+    names: usize,
+    rho: &[u8; 32],
+    node: u16,
+) -> First
+    requires { ⌜ parts.Ordered names (now solution) (now factors) (now heads) (now next) ⌝ }
+    requires { ⌜ now grids ≡ Grid.grids ⌝ }
+    requires { ⌜ Links.Followable (now edges) «edge_count» (now links) ⌝ }
+    ensures { λ r. ⌜ ((s : List ℕ) (count : ℕ) (ρ : List ℕ)
+        → parts.Searched s (now (edges .entry)) (now (entries .entry)) «edge_count» names count (now (solution .entry)) (now (factors .entry)) (now (heads .entry)) (now (next .entry))
+        → parts.ReadInto ρ (now (rho .entry)) names → node < 129 → r ≡ parts.firstPicked (File.sizes s) (Graph.graph s) (now (solution .entry)) query node ρ) ⌝ }
+{
+    let mut e = adjacency::first_edge(links, node);
+    while e < edge_count {
+        if picked(query, entries, grids, edges, factors, heads, next, solution, names, rho, e) {
+            return First::At(e);
+        }
+        e = adjacency::next_edge(links, e);
+    }
+    First::Nothing
+}
