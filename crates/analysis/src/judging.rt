@@ -1,6 +1,7 @@
 // A candidate solution judged.
 
 ghost use mathlib.Core.Path.{_≡_};
+ghost use mathlib.Core.Bool.{true, _&&_};
 ghost use mathlib.Core.List.{List, map, _++_};
 ghost use Prim.Native.Nat.{ℕ, _+_, _≤_, _<_};
 ghost use lib.ListN.{set, take};
@@ -8,16 +9,30 @@ ghost use Rattle.signs.specs.Grid;
 ghost use Rattle.program.specs.File;
 ghost use Rattle.program.specs.Graph;
 ghost use Rattle.program.specs.Links;
+ghost use Rattle.semantics.specs.Stepping;
 ghost use Rattle.analysis.specs.Judging as parts;
 ghost use Rattle.analysis.specs.Records;
+ghost use Rattle.analysis.specs.Soundness;
+ghost use Rattle.analysis.specs.Verdict as spec;
 use crate::Changes;
+use crate::Mark;
+use crate::Records as Lists;
+use crate::Spot;
+use crate::Verdict;
+use crate::WrongByte;
 use crate::evaluator::index;
 use crate::evaluator::results;
 use crate::lists;
 use crate::membership;
 use program::First;
+use program::Refusal;
+use program::Validity;
 use program::adjacency;
+use program::decoding;
 use program::drawing;
+use program::file;
+use program::validation;
+use signs::grid;
 
 // What is looked for, in the records of a solution and the edges out of their nodes: 42, or the index mark.
 enum Query {
@@ -82,7 +97,17 @@ fn any_missing(
     let sets = changes.sets;
     let mut j: usize = 0;
     while j < count {
-        if !listed(factors, heads, next, solution, names, rho, node, name, sets[j]) {
+        if !listed(
+            factors,
+            heads,
+            next,
+            solution,
+            names,
+            rho,
+            node,
+            name,
+            sets[j],
+        ) {
             return true;
         }
         j += 1;
@@ -114,9 +139,24 @@ fn picked(
     match query {
         Query::MissingResult => {
             let found = results::changes(entries, grids, rho, drawn.kind, drawn.entry);
-            any_missing(factors, heads, next, solution, names, rho, drawn.target, found)
+            any_missing(
+                factors,
+                heads,
+                next,
+                solution,
+                names,
+                rho,
+                drawn.target,
+                found,
+            )
         }
-        Query::NegativeIndex => index::may_be_negative(entries, grids, rho, drawn.kind, drawn.entry),
+        Query::NegativeIndex => index::may_be_negative(
+            entries,
+            grids,
+            rho,
+            drawn.kind,
+            drawn.entry,
+        ),
     }
 }
 
@@ -145,10 +185,441 @@ fn first_picked(
 {
     let mut e = adjacency::first_edge(links, node);
     while e < edge_count {
-        if picked(query, entries, grids, edges, factors, heads, next, solution, names, rho, e) {
+        if picked(
+            query,
+            entries,
+            grids,
+            edges,
+            factors,
+            heads,
+            next,
+            solution,
+            names,
+            rho,
+            e,
+        ) {
             return First::At(e);
         }
         e = adjacency::next_edge(links, e);
     }
     First::Nothing
+}
+
+// What a query finds at record k.
+fn spot_at(
+    query: Query,
+    entries: &[u16; 4096],
+    grids: &[[[u8; 3]; 3]; 5],
+    edges: &[u8],
+    links: &[u16; 384],
+    edge_count: u16,
+    factors: &[u16; 34],
+    heads: &[u16; 8192],
+    next: &[u16; 4096],
+    solution: &[u8],
+    names: usize,
+    records: u16,
+    k: u16,
+) -> Spot
+    requires { ⌜ parts.OrderedTo names records (now solution) (now factors) (now heads) (now next) × (k < records) ⌝ }
+    requires { ⌜ now grids ≡ Grid.grids ⌝ }
+    requires { ⌜ Links.Followable (now edges) «edge_count» (now links) ⌝ }
+    ensures { λ r. ⌜ ((s : List ℕ)
+        → parts.Searched s (now (edges .entry)) (now (entries .entry)) «edge_count» names records (now (solution .entry)) (now (factors .entry)) (now (heads .entry)) (now (next .entry))
+        → r ≡ parts.spotOf (File.sizes s) (Graph.graph s) (now (solution .entry)) query k) ⌝ }
+{
+    let at = (2 + names) * k as usize;
+    let node = file::word_at(solution, at);
+    let rho = lists::memory_at(solution, at + 2, names);
+    let found = first_picked(
+        query,
+        entries,
+        grids,
+        edges,
+        links,
+        edge_count,
+        factors,
+        heads,
+        next,
+        solution,
+        names,
+        &rho,
+        node,
+    );
+    match found {
+        First::At(e) => Spot::At { record: k, edge: e },
+        First::Nothing => Spot::Nowhere,
+    }
+}
+
+fn is_here(spot: Spot) -> bool
+    ensures { λ r. ⌜ r ≡ spec.isHere spot ⌝ }
+{
+    match spot {
+        Spot::At { record: _, edge: _ } => true,
+        Spot::Nowhere => false,
+    }
+}
+
+// The first record, and the first edge out of its node, that a query picks.
+fn first_spot(
+    query: Query,
+    entries: &[u16; 4096],
+    grids: &[[[u8; 3]; 3]; 5],
+    edges: &[u8],
+    links: &[u16; 384],
+    edge_count: u16,
+    factors: &[u16; 34],
+    heads: &[u16; 8192],
+    next: &[u16; 4096],
+    solution: &[u8],
+    names: usize,
+    records: u16,
+) -> Spot
+    requires { ⌜ parts.OrderedTo names records (now solution) (now factors) (now heads) (now next) ⌝ }
+    requires { ⌜ now grids ≡ Grid.grids ⌝ }
+    requires { ⌜ Links.Followable (now edges) «edge_count» (now links) ⌝ }
+    ensures { λ r. ⌜ ((s : List ℕ)
+        → parts.Searched s (now (edges .entry)) (now (entries .entry)) «edge_count» names records (now (solution .entry)) (now (factors .entry)) (now (heads .entry)) (now (next .entry))
+        → r ≡ spec.firstSpot (File.sizes s) (Graph.graph s) (now (solution .entry)) (parts.picks (File.sizes s) (Graph.graph s) (now (solution .entry)) query)) ⌝ }
+{
+    let mut k: u16 = 0;
+    while k < records {
+        let spot = spot_at(
+            query,
+            entries,
+            grids,
+            edges,
+            links,
+            edge_count,
+            factors,
+            heads,
+            next,
+            solution,
+            names,
+            records,
+            k,
+        );
+        if is_here(spot) {
+            return spot;
+        }
+        k += 1;
+    }
+    Spot::Nowhere
+}
+
+// Whether a solution has start record k at node 0.
+fn initial_listed(
+    factors: &[u16; 34],
+    heads: &[u16; 8192],
+    next: &[u16; 4096],
+    initial: &[u8],
+    solution: &[u8],
+    names: usize,
+    k: u16,
+) -> bool
+    requires { ⌜ parts.Ordered names (now solution) (now factors) (now heads) (now next) ⌝ }
+    ensures { λ r. ⌜ ((ns : List ℕ) (count : ℕ)
+        → parts.Searchable ns names count (now (solution .entry)) (now (factors .entry)) (now (heads .entry)) (now (next .entry))
+        → k < Records.recordCount names (now (initial .entry))
+        → r ≡ Records.hasAt ns (now (solution .entry)) 0 (Records.recordAt (Records.initialWidth ns) (now (initial .entry)) k)) ⌝ }
+{
+    let rho = lists::memory_at(initial, names * k as usize, names);
+    let first = rho[0];
+    listed(factors, heads, next, solution, names, &rho, 0, 0, first)
+}
+
+// 41: the first start record that is missing at node 0.
+fn first_initial(
+    factors: &[u16; 34],
+    heads: &[u16; 8192],
+    next: &[u16; 4096],
+    initial: &[u8],
+    solution: &[u8],
+    names: usize,
+    count: u16,
+) -> First
+    requires { ⌜ parts.Ordered names (now solution) (now factors) (now heads) (now next) ⌝ }
+    ensures { λ r. ⌜ ((ns : List ℕ) (n : ℕ)
+        → parts.Searchable ns names n (now (solution .entry)) (now (factors .entry)) (now (heads .entry)) (now (next .entry))
+        → count ≡ Records.recordCount names (now (initial .entry)) → r ≡ spec.missingInitial ns (now (initial .entry)) (now (solution .entry))) ⌝ }
+{
+    let mut k: u16 = 0;
+    while k < count {
+        if !initial_listed(factors, heads, next, initial, solution, names, k) {
+            return First::At(k);
+        }
+        k += 1;
+    }
+    First::Nothing
+}
+
+// The index mark, by what was found.
+fn mark_of(spot: Spot) -> Mark
+    ensures { λ r. ⌜ r ≡ spec.markOf spot ⌝ }
+{
+    match spot {
+        Spot::At { record, edge } => Mark::Unclean { record, edge },
+        Spot::Nowhere => Mark::Clean,
+    }
+}
+
+// The index mark of a solution that is indexed.
+fn mark_indexed(
+    entries: &[u16; 4096],
+    grids: &[[[u8; 3]; 3]; 5],
+    edges: &[u8],
+    links: &[u16; 384],
+    edge_count: u16,
+    factors: &[u16; 34],
+    heads: &[u16; 8192],
+    next: &[u16; 4096],
+    solution: &[u8],
+    names: usize,
+    records: u16,
+) -> Mark
+    requires { ⌜ parts.OrderedTo names records (now solution) (now factors) (now heads) (now next) ⌝ }
+    requires { ⌜ now grids ≡ Grid.grids ⌝ }
+    requires { ⌜ Links.Followable (now edges) «edge_count» (now links) ⌝ }
+    ensures { λ r. ⌜ ((s : List ℕ)
+        → parts.Searched s (now (edges .entry)) (now (entries .entry)) «edge_count» names records (now (solution .entry)) (now (factors .entry)) (now (heads .entry)) (now (next .entry))
+        → r ≡ spec.indexMark (File.sizes s) (Graph.graph s) (now (solution .entry))) ⌝ }
+{
+    let spot = first_spot(
+        Query::NegativeIndex,
+        entries,
+        grids,
+        edges,
+        links,
+        edge_count,
+        factors,
+        heads,
+        next,
+        solution,
+        names,
+        records,
+    );
+    mark_of(spot)
+}
+
+// 42, or accepted with the index mark, of a solution that is indexed.
+fn results_indexed(
+    entries: &[u16; 4096],
+    grids: &[[[u8; 3]; 3]; 5],
+    edges: &[u8],
+    links: &[u16; 384],
+    edge_count: u16,
+    factors: &[u16; 34],
+    heads: &[u16; 8192],
+    next: &[u16; 4096],
+    solution: &[u8],
+    names: usize,
+    records: u16,
+) -> Verdict
+    requires { ⌜ parts.OrderedTo names records (now solution) (now factors) (now heads) (now next) ⌝ }
+    requires { ⌜ now grids ≡ Grid.grids ⌝ }
+    requires { ⌜ Links.Followable (now edges) «edge_count» (now links) ⌝ }
+    ensures { λ r. ⌜ ((s : List ℕ)
+        → parts.Searched s (now (edges .entry)) (now (entries .entry)) «edge_count» names records (now (solution .entry)) (now (factors .entry)) (now (heads .entry)) (now (next .entry))
+        → r ≡ spec.verdictBy First.Nothing (spec.missingResult (File.sizes s) (Graph.graph s) (now (solution .entry))) (spec.indexMark (File.sizes s) (Graph.graph s) (now (solution .entry)))) ⌝ }
+{
+    let spot = first_spot(
+        Query::MissingResult,
+        entries,
+        grids,
+        edges,
+        links,
+        edge_count,
+        factors,
+        heads,
+        next,
+        solution,
+        names,
+        records,
+    );
+    match spot {
+        Spot::At { record, edge } => Verdict::ResultMissing { record, edge },
+        Spot::Nowhere => Verdict::Accepted(mark_indexed(
+            entries,
+            grids,
+            edges,
+            links,
+            edge_count,
+            factors,
+            heads,
+            next,
+            solution,
+            names,
+            records,
+        )),
+    }
+}
+
+// The number of records of a width in a list of at most 4,096.
+fn record_count(bytes: &[u8], width: usize) -> u16
+    requires { ⌜ (0 < width) × (Records.recordCount width (now bytes) ≤ 4096) ⌝ }
+    ensures { λ r. ⌜ r ≡ Records.recordCount width (now (bytes .entry)) ⌝ }
+{
+    (bytes.len() / width) as u16
+}
+
+// 41, 42, or accepted with the index mark, of two lists of whole, well-formed records.
+fn judge_formed(
+    program: &[u8],
+    edges: &[u8],
+    edge_count: u16,
+    initial: &[u8],
+    solution: &[u8],
+    names: usize,
+) -> Verdict
+    requires { ⌜ parts.Readable (now program) (now edges) «edge_count» names (now solution) × (Records.wholeRecords names (now initial) ≡ true) ⌝ }
+    ensures { λ r. ⌜ r ≡ parts.found (now (program .entry)) (now (initial .entry)) (now (solution .entry)) ⌝ }
+{
+    let entries = decoding::entries(program);
+    let grids = grid::grids();
+    let links = adjacency::links(edges, edge_count);
+    let factors = membership::factors();
+    let width = 2 + names;
+    let records = record_count(solution, width);
+    let mut heads = [0u16; 8192];
+    let mut next = [0u16; 4096];
+    membership::index_all(
+        &factors,
+        &mut heads,
+        &mut next,
+        solution,
+        width,
+        records as usize,
+    );
+    let count = record_count(initial, names);
+    let missing = first_initial(&factors, &heads, &next, initial, solution, names, count);
+    match missing {
+        First::At(k) => Verdict::InitialMissing { record: k },
+        First::Nothing => results_indexed(
+            &entries,
+            &grids,
+            edges,
+            &links,
+            edge_count,
+            &factors,
+            &heads,
+            &next,
+            solution,
+            names,
+            records,
+        ),
+    }
+}
+
+// The index mark of a list of whole, well-formed records.
+fn mark_formed(program: &[u8], edges: &[u8], edge_count: u16, solution: &[u8], names: usize) -> Mark
+    requires { ⌜ parts.Readable (now program) (now edges) «edge_count» names (now solution) ⌝ }
+    ensures { λ r. ⌜ r ≡ spec.indexMark (File.sizes (now (program .entry))) (Graph.graph (now (program .entry))) (now (solution .entry)) ⌝ }
+{
+    let entries = decoding::entries(program);
+    let grids = grid::grids();
+    let links = adjacency::links(edges, edge_count);
+    let factors = membership::factors();
+    let width = 2 + names;
+    let records = record_count(solution, width);
+    let mut heads = [0u16; 8192];
+    let mut next = [0u16; 4096];
+    membership::index_all(
+        &factors,
+        &mut heads,
+        &mut next,
+        solution,
+        width,
+        records as usize,
+    );
+    mark_indexed(
+        &entries,
+        &grids,
+        edges,
+        &links,
+        edge_count,
+        &factors,
+        &heads,
+        &next,
+        solution,
+        names,
+        records,
+    )
+}
+
+fn malformed(list: Lists, x: Refusal) -> WrongByte
+    ensures { λ r. ⌜ r ≡ Records.wrongByte list x ⌝ }
+{
+    WrongByte {
+        list,
+        offset: x.offset,
+    }
+}
+
+// 17 of both lists, the start list first; then the verdict.
+fn judge_whole(
+    program: &[u8],
+    edges: &[u8],
+    nodes: u16,
+    edge_count: u16,
+    initial: &[u8],
+    solution: &[u8],
+    names: usize,
+) -> Verdict
+    requires { ⌜ parts.Whole (now program) (now edges) nodes «edge_count» names (now initial) (now solution) ⌝ }
+    ensures { λ r. ⌜ r ≡ parts.foundFormed (now (program .entry)) (now (initial .entry)) (now (solution .entry)) ⌝ }
+{
+    let sizes = decoding::name_sizes(program);
+    let first = lists::initial_formed(&sizes, names, initial);
+    if let Validity::Refused(x) = first {
+        return Verdict::Malformed(malformed(Lists::Initial, x));
+    }
+    let second = lists::solution_formed(&sizes, names, nodes, solution);
+    match second {
+        Validity::Fit => judge_formed(program, edges, edge_count, initial, solution, names),
+        Validity::Refused(x) => Verdict::Malformed(malformed(Lists::Solution, x)),
+    }
+}
+
+// Whether both lists are whole records, at most 4,096 each.
+fn both_whole(initial: &[u8], solution: &[u8], names: usize) -> bool
+    requires { ⌜ (0 < names) × (names ≤ 32) ⌝ }
+    ensures { λ r. ⌜ r ≡ (Records.wholeRecords names (now (initial .entry)) && Records.wholeRecords (2 + names) (now (solution .entry))) ⌝ }
+{
+    lists::whole(initial, names) && lists::whole(solution, 2 + names)
+}
+
+// 16 of both lists, and then the verdict.
+fn judge_drawn(
+    program: &[u8],
+    edges: &[u8],
+    nodes: u16,
+    edge_count: u16,
+    initial: &[u8],
+    solution: &[u8],
+) -> Verdict
+    requires { ⌜ Stepping.DrawnInto (now program) (now edges) nodes «edge_count» ⌝ }
+    ensures { λ r. ⌜ r ≡ spec.judged (File.sizes (now (program .entry))) (Graph.graph (now (program .entry))) (now (initial .entry)) (now (solution .entry)) ⌝ }
+{
+    let names = file::name_count(program) as usize;
+    let whole = validation::ask(both_whole(initial, solution, names), 16, 0);
+    match whole {
+        Validity::Fit => judge_whole(program, edges, nodes, edge_count, initial, solution, names),
+        Validity::Refused(x) => Verdict::Refused(x),
+    }
+}
+
+// The verdict on a candidate solution.
+pub fn judge(program: &[u8], initial: &[u8], solution: &[u8]) -> Verdict
+    ensures { λ r. ⌜ r ≡ spec.verdict (now (program .entry)) (now (initial .entry)) (now (solution .entry)) ⌝ }
+    ensures numbers { λ r. ⌜ spec.verdictNumbers r ≡ spec.verdictNumbers (spec.verdict (now (program .entry)) (now (initial .entry)) (now (solution .entry))) ⌝ }
+    ensures third { λ r. ⌜ Soundness.ThirdTermFor (now (program .entry)) (now (initial .entry)) (now (solution .entry)) r ⌝ }
+{
+    let mut edges = [0u8; 1785];
+    let drawn = drawing::draw_edges(program, &mut edges);
+    let v = drawn.validity;
+    match v {
+        Validity::Fit => judge_drawn(program, &edges, drawn.nodes, drawn.edges, initial, solution),
+        Validity::Refused(x) => Verdict::Refused(x),
+    }
 }
