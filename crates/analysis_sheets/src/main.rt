@@ -18,6 +18,7 @@ use analysis::Solving;
 use analysis::Split;
 use analysis::Verdict;
 use analysis::WrongByte;
+use analysis::judging;
 use analysis::splitting;
 use libc::STDOUT_FILENO;
 use program::Refusal;
@@ -208,7 +209,7 @@ fn mix_bytes(bytes: &[u8]) -> u64 {
 // The calls of the library that are asked about, each in a function of its own.
 
 fn answer_judge(s: &[u8], initial: &[u8], sheet: &[u8]) {
-    print(b"later");
+    print_verdict(judging::judge(s, initial, sheet));
 }
 
 fn answer_offending(s: &[u8], initial: &[u8], sheet: &[u8]) {
