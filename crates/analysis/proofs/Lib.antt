@@ -12,5 +12,6 @@ pub mod Alike
 pub mod Writing
 pub mod Chains
 pub mod Among
+pub mod Growing
 pub mod ThirdTerm
 pub mod Examples
