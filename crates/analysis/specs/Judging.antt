@@ -2,7 +2,7 @@
 use mathlib.Core.Path.{_≡_}
 use mathlib.Core.Bool.{Bool, not}
 use mathlib.Core.List.{List}
-use Prim.Native.Nat.{ℕ, _+_, _≤_, _<_}
+use Prim.Native.Nat.{ℕ, _+_, _≤_}
 use lib.ListN.{length}
 use Rattle.signs.specs.Lists.{anyOf}
 use Rattle.program.specs.Decoding.{decodedEntries}
@@ -28,12 +28,13 @@ unfoldable pub picks : List ℕ → Graph → List ℕ → Query → List ℕ �
 picks ns g solution MissingResult ρ e = anyMissing ns solution (edgeAt g e .target) (results ρ (meaning (edgeAt g e .action)))
 picks ns g solution NegativeIndex ρ e = mayBeNegative ρ (meaning (edgeAt g e .action))
 
--- so many names, one at least
-pub record FewNames (names : ℕ) : Type 0 where
-  pub some : 0 < names
+-- a solution that can be searched: of at most 32 names, and indexed
+pub record Ordered (names : ℕ) (solution fs heads next : List ℕ) : Type 0 where
   pub few : names ≤ 32
+  pub count : ℕ
+  pub indexed : Indexed fs (2 + names) solution count heads next
 
--- a solution of so many records as it is searched: indexed
+-- all of its records are indexed, of the names' number
 pub record Searchable (ns : List ℕ) (names count : ℕ) (solution fs heads next : List ℕ) : Type 0 where
   pub names-are : length ns ≡ names
   pub counted : recordCount (2 + names) solution ≡ count

@@ -3,7 +3,7 @@ use mathlib.Core.Path.{_≡_, _∙_}
 use mathlib.Core.Bool.{Bool, true, false}
 use mathlib.Core.List.{List}
 use Prim.Native.Nat.{ℕ, suc, _+_, _*_, _/_, _%_, _≤_, _<_}
-use lib.Dec.{T, eqb}
+use lib.Dec.{T}
 use lib.IntN.{pos}
 use lib.ListN.{length, getD}
 use Rattle.program.specs.Asking.{ask, thenAsk, isRefused, inTurn, askEach}
@@ -14,7 +14,7 @@ use Rattle.program.specs.File.{nameCount, sizeAt, sizes, entryCount, ent
 use Rattle.program.specs.FirstSuch.{firstOf, firstSuch}
 use Rattle.program.specs.Graph.{Edge, edges, edgeCount, nodeCount, actionKind, actionEntry, actionTable, actionOf, graphBytes}
 use Rattle.program.specs.Kind.{isGuarded}
-use Rattle.program.specs.Links.{sourceIn, lowestFrom, links, Linkable, Linked}
+use Rattle.program.specs.Links.{sourceIn, links, Linkable, Linked, Followable, Followed}
 use Rattle.program.specs.Node.{arithForm, arithTree, booleanForm, booleanTree, commandForm, commandTree}
 use Rattle.program.specs.Questions.{validity, inputValidity, programPart, initialPart}
 use Rattle.program.specs.Sorted.{arithNamed, booleanNamed, commandNamed, arithPoints, booleanPoints, isGuardedTree, commandPoints}
@@ -387,13 +387,13 @@ module _ (s : List ℕ) (fit : inputValidity s ≡ Fit) where
 pub links-linked : (bytes : List ℕ) (count : ℕ) → Linkable bytes count → Linked (sourceIn bytes) count (links bytes count)
 links-linked = Links.links-linked
 
--- the lowest edge from i on leaves the node where there is one, is not below i, and passes over none that leaves the node
-module _ (source : ℕ → ℕ) where
-  pub lowest-leaves : (n i node : ℕ) → lowestFrom n source i node < 255 → source (lowestFrom n source i node) ≡ node
-  lowest-leaves = Links.lowest-leaves source
+-- following them: a next edge is beyond the last; the first edge follows with nothing before it, and the next with what holds of this one
+module _ {bytes : List ℕ} {count : ℕ} {ls : List ℕ} (f : Followable bytes count ls) where
+  pub next-beyond : (e : ℕ) → e < count → e < getD ls (129 + e) 0
+  next-beyond = Links.next-beyond f
 
-  pub lowest-at-least : (n i node : ℕ) → i + n ≤ 255 → i ≤ lowestFrom n source i node
-  lowest-at-least = Links.lowest-at-least source
+  pub first-followed : (node : ℕ) (P : ℕ → Type 0) → node < 129 → Followed bytes count node P (getD ls node 0)
+  first-followed = Links.first-followed f
 
-  pub lowest-passes : (n i node j : ℕ) → i ≤ j → j < i + n → j < lowestFrom n source i node → eqb (source j) node ≡ false
-  lowest-passes = Links.lowest-passes source
+  pub next-followed : (node : ℕ) (P : ℕ → Type 0) (e : ℕ) → e < count → Followed bytes count node P e → P e → Followed bytes count node P (getD ls (129 + e) 0)
+  next-followed = Links.next-followed f

@@ -10,7 +10,7 @@ use lib.Dec.{eqb, ltb}
 use lib.ListN.{length, getD, set, replicate, length-set, getD-replicate, length-append, List·getD-append}
 use lib.Seq.{getD-set-same, getD-set-other, getD-append-add, ext-getD}
 use Rattle.signs.specs.Lists.{tabulate}
-use Rattle.program.specs.Links.{sourceIn, lowestFrom, laterFrom, links, linkedOne, Linkable, Linked}
+use Rattle.program.specs.Links.{sourceIn, lowestFrom, laterFrom, links, linkedOne, Linkable, Linked, Followable, Followed}
 use Rattle.program.proofs.Lists.{length-tabulate, getD-tabulate}
 
 module _ (source : ℕ → ℕ) where
@@ -190,3 +190,40 @@ module _ (bytes : List ℕ) (count : ℕ) where
     where
       whole : min count 255 ≡ count
       whole = omega (arith, l .few)
+
+-- following the links of a node
+module _ {bytes : List ℕ} {count : ℕ} {ls : List ℕ} (f : Followable bytes count ls) where
+  -- a next edge is beyond the last
+  pub next-beyond : (e : ℕ) → e < count → e < getD ls (129 + e) 0
+  next-beyond e h =
+      let far = lowest-at-least (sourceIn bytes) (count - suc e) (suc e) (sourceIn bytes e) (omega (arith, f .few)) in
+      omega (arith, f .linked .later e h)
+
+  -- where n edges from i on, the last of `count`, are next looked at, the lowest of them that leaves the node follows
+  follows : (node : ℕ) (P : ℕ → Type 0) (m i e : ℕ) → i + m ≡ count → e ≡ lowestFrom m (sourceIn bytes) i node
+      → ((k : ℕ) → k < i → eqb (sourceIn bytes k) node ≡ true → P k) → Followed bytes count node P e
+  follows node P m i e all p earlier =
+      record {
+        here = λ h. ap (sourceIn bytes) p ∙ lowest-leaves (sourceIn bytes) m i node (omega (arith, f .few));
+        before = at;
+      }
+    where
+      at : (k : ℕ) → k < e → k < count → eqb (sourceIn bytes k) node ≡ true → P k
+      at k h l t =
+          elim (decLe (suc k) i) [
+            | yes b ↦ earlier k b t
+            | no b ↦
+                let other : true ≡ false = sym t ∙ lowest-passes (sourceIn bytes) m i node k (omega arith) (omega arith) (omega arith) in
+                absurd (let z : _≡_ {A = ℕ} 0 1 = cc in omega arith)
+          ]
+
+  pub first-followed : (node : ℕ) (P : ℕ → Type 0) → node < 129 → Followed bytes count node P (getD ls node 0)
+  first-followed node P h = follows node P count 0 (getD ls node 0) (omega arith) (f .linked .lowest node h) (λ k l. absurd (omega arith))
+
+  pub next-followed : (node : ℕ) (P : ℕ → Type 0) (e : ℕ) → e < count → Followed bytes count node P e → P e → Followed bytes count node P (getD ls (129 + e) 0)
+  next-followed node P e h at now =
+      follows node P (count - suc e) (suc e) (getD ls (129 + e) 0) (omega arith)
+      (f .linked .later e h ∙ ap (lowestFrom (count - suc e) (sourceIn bytes) (suc e)) (at .here h)) earlier
+    where
+      earlier : (k : ℕ) → k < suc e → eqb (sourceIn bytes k) node ≡ true → P k
+      earlier k l t = elim (ℕ-discrete k e) [ yes p ↦ subst P (sym p) now | no d ↦ at .before k (omega arith) (omega arith) t ]

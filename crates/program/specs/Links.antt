@@ -1,7 +1,7 @@
 -- The edges out of a node as a list, in an array: from a node to its lowest edge, and from an edge to the next one out of the same node. For the
 -- crates above, which go along the edges of a node again and again.
 use Prim.Native.Nat.{ℕ, zero, suc, _+_, _-_, _<_, _≤_, min}
-use mathlib.Core.Bool.{cond, _&&_}
+use mathlib.Core.Bool.{true, cond, _&&_}
 use mathlib.Core.List.{List, _++_}
 use mathlib.Core.Path.{_≡_}
 use lib.Dec.{eqb, ltb}
@@ -41,3 +41,13 @@ pub record Linkable (bytes : List ℕ) (count : ℕ) : Type 0 where
 pub record Linked (source : ℕ → ℕ) (count : ℕ) (ls : List ℕ) : Type 0 where
   pub lowest : (node : ℕ) → node < 129 → getD ls node 0 ≡ lowestFrom count source 0 node
   pub later : (e : ℕ) → e < count → getD ls (129 + e) 0 ≡ lowestFrom (count - suc e) source (suc e) (source e)
+
+-- links that can be followed: few edges, all of them linked
+pub record Followable (bytes : List ℕ) (count : ℕ) (ls : List ℕ) : Type 0 where
+  pub few : count ≤ 255
+  pub linked : Linked (sourceIn bytes) count ls
+
+-- where following the links of a node has come to: edge e leaves the node, if there is one, and something holds of each edge out of the node before it
+pub record Followed (bytes : List ℕ) (count node : ℕ) (P : ℕ → Type 0) (e : ℕ) : Type 0 where
+  pub here : e < count → sourceIn bytes e ≡ node
+  pub before : (k : ℕ) → k < e → k < count → eqb (sourceIn bytes k) node ≡ true → P k

@@ -4,14 +4,19 @@ use mathlib.Core.Bool.{false}
 use mathlib.Core.List.{List}
 use mathlib.Core.Logic.{_≢_}
 use Prim.Native.Nat.{ℕ, _+_, _≤_, _<_, min}
-use lib.Dec.{T}
+use lib.Dec.{T, eqb}
 use lib.IntN.{ℤ}
 use lib.ListN.{length, getD, replicate}
+use Rattle.program.specs.Decoding.{decodedEntries, decodedEntry}
+use Rattle.program.specs.Drawing.{drawnBy, drawnBufferBy, edgeRead}
 use Rattle.program.specs.File.{sizes, cellsOf, cellCount, firstCell}
-use Rattle.program.specs.Graph.{Graph, Action, graph}
+use Rattle.program.specs.Graph.{Graph, Action, graph, actionOf}
+use Rattle.program.specs.Links.{Linkable}
 use Rattle.program.specs.Questions.{validity}
 use Rattle.program.specs.Sorted.{isVariable, isArray, arithNamed, booleanNamed, actionNamed}
 use Rattle.program.specs.Syntax.{Arith, Boolean}
+use Rattle.program.specs.declared.Drawn.{Drawn as Reply}
+use Rattle.program.specs.declared.EdgeBytes.{EdgeBytes}
 use Rattle.program.specs.declared.First.the-variants.{At, Nothing}
 use Rattle.program.specs.declared.Refusal.{Refusal}
 use Rattle.program.specs.declared.Validity.the-variants.{Fit, Refused}
@@ -20,17 +25,20 @@ use Rattle.semantics.specs.Budget.{lowestDefined, Result, ends, runFrom,
 use Rattle.semantics.specs.Expression.{cellValue, at, placeOf, value, truthIn}
 use Rattle.semantics.specs.Replay.{replay, outcomes}
 use Rattle.semantics.specs.Step.{Configuration, begun, edgeAt, leaves, edgeEffect, memoryValidity, outcome, along, step, programOutcome, programStep}
+use Rattle.semantics.specs.Stepping.{DrawnInto}
 use Rattle.semantics.specs.declared.Effect.{Effect}
 use Rattle.semantics.specs.declared.Effect.the-variants.{Stored}
 use Rattle.semantics.specs.declared.Ending.the-variants.{Arrived, Spent, Stuck, Refused as Ends}
 use Rattle.semantics.specs.declared.Evaluation.{Evaluation}
 use Rattle.semantics.specs.declared.Outcome.the-variants.{Taken, Refused as Refuses}
+use Rattle.semantics.proofs.Drawn
 use Rattle.semantics.proofs.Named
 use Rattle.semantics.proofs.Named.{meaningNamed}
 use Rattle.semantics.proofs.Runs
 use Rattle.semantics.proofs.Runs.{Replayed, Stops}
 use Rattle.semantics.proofs.Steps
 use Rattle.semantics.proofs.Steps.{Takable}
+use Rattle.semantics.proofs.Turns
 
 -- ---- A step
 
@@ -209,3 +217,32 @@ module _ (s : List ℕ) where
 
   pub program-budgeted-length : (budget : ℕ) (m : List ℤ) → length (programBudgeted s budget m .final .memory) ≡ length m
   program-budgeted-length = Runs.program-budgeted-length s
+
+-- ---- A drawn graph
+
+-- what drawing replied, and the graph drawn into an array where it is well formed
+pub drawn-validity : (s : List ℕ) (r : Reply) → r ≡ drawnBy s (validity s) → r .validity ≡ validity s
+drawn-validity = Drawn.drawn-validity
+
+pub drawn-into : (s before bytes : List ℕ) (r : Reply) → r ≡ drawnBy s (validity s) → bytes ≡ drawnBufferBy s before (validity s) → r .validity ≡ Fit
+    → DrawnInto s bytes (r .nodes) (r .edges)
+drawn-into = Drawn.drawn-into
+
+pub drawn-length : (s before bytes : List ℕ) → validity s ≡ Fit → bytes ≡ drawnBufferBy s before (validity s) → length before ≡ 1785 → length bytes ≡ 1785
+drawn-length = Drawn.drawn-length
+
+module _ (s bytes : List ℕ) (nodes count : ℕ) (d : DrawnInto s bytes nodes count) where
+  -- an edge of it leaves the node, has the target and the action that its bytes say
+  pub drawn-leaves : (e node : ℕ) (r : EdgeBytes) → e < count → r ≡ edgeRead bytes e → eqb (r .source) node ≡ leaves (graph s) e node
+  drawn-leaves = Drawn.drawn-leaves s bytes nodes count d
+
+  pub drawn-target : (e : ℕ) (r : EdgeBytes) → e < count → r ≡ edgeRead bytes e → r .target ≡ edgeAt (graph s) e .target
+  drawn-target = Drawn.drawn-target s bytes nodes count d
+
+  pub drawn-action : (e : ℕ) (r : EdgeBytes) → e < count → r ≡ edgeRead bytes e
+      → actionOf (decodedEntry (decodedEntries s)) (r .kind) (r .entry) ≡ edgeAt (graph s) e .action
+  drawn-action = Drawn.drawn-action s bytes nodes count d
+
+  -- its edges can be linked
+  pub linkable : Linkable bytes count
+  linkable = Turns.linkable s bytes nodes count d

@@ -2,14 +2,13 @@
 use mathlib.Core.Path.{_≡_}
 use mathlib.Core.Bool.{cond}
 use mathlib.Core.List.{List}
-use Prim.Native.Nat.{ℕ, _<_, _≤_}
+use Prim.Native.Nat.{ℕ, _<_}
 use lib.Dec.{T, eqb}
 use lib.IntN.{ℤ}
 use lib.ListN.{length}
 use Rattle.program.specs.Decoding.{decodedEntries, decodedSizes, decodedCells}
 use Rattle.program.specs.File.{sizes, cellCount}
 use Rattle.program.specs.Graph.{Graph}
-use Rattle.program.specs.Links.{sourceIn, Linked}
 use Rattle.program.specs.declared.First.the-variants.{At, Nothing}
 use Rattle.semantics.specs.Action.{isDefined}
 use Rattle.semantics.specs.Budget.{lowestDefined, Result, runFrom}
@@ -33,11 +32,6 @@ pub record Ready (s edges entries szs cells : List ℕ) (count : ℕ) : Type 0 w
   pub entries-decoded : entries ≡ decodedEntries s
   pub sizes-decoded : szs ≡ decodedSizes s
   pub cells-decoded : cells ≡ decodedCells s
-
--- links that can be followed: few edges, all of them linked
-pub record Followable (bytes : List ℕ) (count : ℕ) (ls : List ℕ) : Type 0 where
-  pub few : count ≤ 255
-  pub linked : Linked (sourceIn bytes) count ls
 
 -- what is chosen at a node in a memory: the lowest defined edge with its effect, or an undefined effect where there is none
 pub record Chosen (ns : List ℕ) (g : Graph) (node : ℕ) (m : List ℤ) (x : Choice) : Type 0 where

@@ -6,6 +6,7 @@ ghost use Prim.Native.Nat.{ℕ, _<_, _≤_};
 ghost use lib.ListN.{length};
 ghost use Rattle.program.specs.File;
 ghost use Rattle.program.specs.Graph;
+ghost use Rattle.program.specs.Links;
 ghost use Rattle.semantics.specs.Action;
 ghost use Rattle.semantics.specs.Budget as spec;
 ghost use Rattle.semantics.specs.Cells;
@@ -71,7 +72,7 @@ fn lowest(
     count: u16,
     node: u16,
 ) -> Choice
-    requires { ⌜ Running.Followable (now edges) count (now links) ⌝ }
+    requires { ⌜ Links.Followable (now edges) count (now links) ⌝ }
     ensures { λ r. ⌜ ((s : List ℕ) → Running.Ready s (now (edges .entry)) (now (entries .entry)) (now (sizes .entry)) (now (cells .entry)) count → node < 129
         → Running.Chosen (File.sizes s) (Graph.graph s) node (now (memory .entry)) r) ⌝ }
 {
@@ -103,7 +104,7 @@ fn run_decoded(
     count: u16,
     budget: u16,
 ) -> Ended
-    requires { ⌜ Running.Followable (now edges) count (now links) ⌝ }
+    requires { ⌜ Links.Followable (now edges) count (now links) ⌝ }
     ensures { λ r. ⌜ ((s : List ℕ) → Running.Ready s (now (edges .entry)) (now (entries .entry)) (now (sizes .entry)) (now (cells .entry)) count
         → Running.EndsAs (spec.runFrom budget (File.sizes s) (Graph.graph s) (Step.begun (now (memory .entry)))) (now (memory .exit)) r) ⌝ }
 {

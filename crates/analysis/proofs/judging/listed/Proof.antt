@@ -12,19 +12,22 @@ long : (c : tie.After-record-with) → length (c .record-with .result) ≡ 34
 long c = search needs
 
 array-share-prefix-row : tie.Need-array-share-prefix-row
-array-share-prefix-row c = omega (arith, long c, c .before .before .pre .0 .few)
+array-share-prefix-row c = omega (arith, long c, c .before .before .pre .few)
 
 slice-aggregate-find : tie.Need-slice-aggregate-find
-slice-aggregate-find c = sym (length-take-le _ _ (omega (arith, long (c .before), c .before .before .before .pre .0 .few)))
+slice-aggregate-find c = sym (length-take-le _ _ (omega (arith, long (c .before), c .before .before .before .pre .few)))
+
+find-requires : tie.Need-find-requires
+find-requires c κs = let s = c .before .before .before .pre in (s .count, s .indexed)
 
 returns : tie.Need-returns
 returns c ns count ρ x y =
     let row = c .before .before in
     let s = row .before .before in
     c .find .ensures count (x .indexed)
-    ∙ has-found _ _ _ _ _ _ _ x (λ i. omega (arith, row .before .shared-slice-known .given i)) _ (s .fits .node .fits) _ _ y (s .pre .0 .few) _ _ _ (row .record-with .ensures) (long row)
+    ∙ has-found _ _ _ _ _ _ _ x (λ i. omega (arith, row .before .shared-slice-known .given i)) _ (s .fits .node .fits) _ _ y (s .pre .few) _ _ _ (row .record-with .ensures) (long row)
 
 pub listed-spec : {M : Type 1} → statement M
 listed-spec =
     tie.close
-    (tie.spec (λ c κs. search needs) (λ c. search needs) array-share-prefix-row slice-aggregate-find (λ c κs. search needs) returns)
+    (tie.spec (λ c κs. search needs) (λ c. search needs) array-share-prefix-row slice-aggregate-find find-requires returns)

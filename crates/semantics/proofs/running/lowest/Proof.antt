@@ -4,12 +4,14 @@ use borrow.Author.Needs.{needs}
 use mathlib.Core.Path.{sym, _∙_}
 use Rattle.semantics.specs.Action.{isDefined}
 use native.Mathlib.Omega.{arith}
-use Rattle.semantics.proofs.Choosing.{Followed, first-followed, next-followed, next-beyond, chosen-here, none-chosen}
+use Rattle.program.specs.Links.{Followed}
+use Rattle.program.proofs.Laws.{first-followed, next-followed, next-beyond}
+use Rattle.semantics.proofs.Choosing.{Undefined, undefined-here, chosen-here, none-chosen}
 use Rattle.semantics.proofs.running.lowest.Statement.{statement}
 use Rattle.semantics.proofs.running.lowest.Tie as tie
 
 abbrev Inv-loop : tie.InvT-loop
-Inv-loop entries cells sizes memory edges links count node e₀ e = node < 129 → Followed edges entries sizes cells count node memory e
+Inv-loop entries cells sizes memory edges links count node e₀ e = node < 129 → Followed edges count node (Undefined edges entries sizes cells count memory) e
 
 abbrev μ-loop : tie.MeasureT-loop
 μ-loop entries cells sizes memory edges links count node e₀ e = count - e
@@ -20,7 +22,7 @@ first-edge-requires c κs = search needs
 loop-holds : tie.Need-loop-holds Inv-loop μ-loop
 loop-holds c h =
     let s = c .before .before in
-    rw (c .first-edge .ensures) (first-followed _ _ _ _ _ _ (s .pre) _ _ h)
+    rw (c .first-edge .ensures) (first-followed (s .pre) _ _ h)
 
 edge-at-requires : tie.Need-edge-at-requires Inv-loop μ-loop
 edge-at-requires c κs = search needs
@@ -34,7 +36,7 @@ is-defined-requires c κs = search needs
 returns : tie.Need-returns Inv-loop μ-loop
 returns c s y h =
     let l = c .before .before .before .before .before .loop in
-    chosen-here _ _ _ _ _ _ (c .before .before .before .before .before .before .before .before .pre) _ _ (l .e) (c .before .before .before .before .loop-test .taken) (l .inv h) _ _
+    chosen-here _ _ _ _ _ _ _ (l .e) (l .inv h) (c .before .before .before .before .loop-test .taken) _ _
     (c .before .before .before .edge-at .ensures) (c .before .before .effect .ensures) (sym (c .before .is-defined .ensures) ∙ c .if1 .taken) s y
 
 next-edge-requires : tie.Need-next-edge-requires Inv-loop μ-loop
@@ -43,21 +45,22 @@ next-edge-requires c κs = search needs
 loop-less : tie.Need-loop-less Inv-loop μ-loop
 loop-less c =
     let l = c .before .before .before .before .before .before .loop in
-    let more = next-beyond _ _ _ (c .before .before .before .before .before .before .before .before .before .pre) (l .e) (c .before .before .before .before .before .loop-test .taken) in
+    let more = next-beyond (c .before .before .before .before .before .before .before .before .before .pre) (l .e) (c .before .before .before .before .before .loop-test .taken) in
     omega (arith, c .next-edge .ensures)
 
 loop-again : tie.Need-loop-again Inv-loop μ-loop
 loop-again c h =
     let l = c .before .before .before .before .before .before .loop in
     rw (c .next-edge .ensures)
-    (next-followed _ _ _ _ _ _ (c .before .before .before .before .before .before .before .before .before .pre) _ _ (l .e) (c .before .before .before .before .before .loop-test .taken) (l .inv h) _ _
-    (c .before .before .before .before .edge-at .ensures) (c .before .before .before .effect .ensures) (sym (c .before .before .is-defined .ensures) ∙ c .before .if1 .left))
+    (next-followed (c .before .before .before .before .before .before .before .before .before .pre) _ _ (l .e) (c .before .before .before .before .before .loop-test .taken) (l .inv h)
+    (undefined-here _ _ _ _ _ _ _ (l .e) (l .inv h) (c .before .before .before .before .before .loop-test .taken) _ _
+    (c .before .before .before .before .edge-at .ensures) (c .before .before .before .effect .ensures) (sym (c .before .before .is-defined .ensures) ∙ c .before .if1 .left)))
 
 returns-2 : tie.Need-returns-2 Inv-loop μ-loop
 unfolding isDefined
 returns-2 c s y h =
     let l = c .before .loop in
-    record { lowest = none-chosen _ _ _ _ _ _ (c .before .before .before .before .pre) _ _ s y (l .e) (l .inv h) (c .loop-test .left); there = λ t. absurd t }
+    record { lowest = none-chosen _ _ _ _ _ _ _ (l .e) (l .inv h) s y (c .loop-test .left); there = λ t. absurd t }
 
 pub lowest-spec : {M : Type 1} → statement M
 lowest-spec =
