@@ -2,25 +2,30 @@
 use mathlib.Core.Logic.{_≢_}
 use mathlib.Core.Path.{_≡_, refl, sym, ap, subst, _∙_}
 use mathlib.Core.Bool.{Bool, true, false}
-use mathlib.Core.List.{List, [], _∷_, _++_, append-assoc}
-use Prim.Native.Nat.{ℕ, suc, _+_, _*_, _-_, _<_, _≤_}
+use mathlib.Core.List.{List, [], _∷_, _++_, foldl, map, append-assoc, map-append, foldl-append}
+use Prim.Native.Nat.{ℕ, suc, _+_, _*_, _/_, _-_, _<_, _≤_}
 use native.Mathlib.Nat.{mul-suc, mul-le-mul-left, le-refl}
 use native.Mathlib.Numerals.{add-one}
 use native.Mathlib.Omega.{arith}
 use borrow.Author.Tests.{lt-ltb, le-ltb}
-use lib.ListN.{length, getD, take, drop, length-append, length-drop}
-use lib.Seq.{length-take-le, take-at, drop-at, drop-drop}
+use lib.ListN.{length, getD, set, take, drop, length-append, length-drop, length-set}
+use lib.Seq.{length-take-le, take-suc, take-at, drop-at, drop-drop}
 use Rattle.signs.specs.Lists.{tabulate}
 use Rattle.program.specs.Drawing.{over}
 use Rattle.program.specs.DrawingParts.{overAt}
+use Rattle.program.specs.Graph.{wordBytes}
 use Rattle.program.proofs.Lists.{length-tabulate, tabulate-same}
+use Rattle.analysis.specs.Changing.{Alike}
+use Rattle.analysis.specs.Judging.{ReadInto}
 use Rattle.analysis.specs.Membership.{among, bucket, Indexed}
-use Rattle.analysis.specs.Records.{recordWidth, recordAt, recordFor, listed}
+use Rattle.analysis.specs.RecordParts.{padded}
+use Rattle.analysis.specs.Records.{initialWidth, recordWidth, recordCount, recordAt, recordsOf, recordFor, listed}
 use Rattle.analysis.specs.Solver.{Found, offer}
 use Rattle.analysis.specs.Solving.{foundIn, Growing, Extended}
 use Rattle.analysis.specs.declared.solver.Progress.{Progress}
 use Rattle.analysis.proofs.Among.{listed-among, record-kept, indexed-kept}
 use Rattle.analysis.proofs.Chains.{record-inside}
+use Rattle.analysis.proofs.Laid.{part-padded, part-length, record-taken, record-changed}
 
 -- ---- What offering does to a buffer
 
@@ -148,3 +153,45 @@ found-full width buffer p = refl
 pub found-none : (width : ℕ) (buffer : List ℕ) (p : Progress) → foundIn width buffer (record { count = p .count; full = true }) ≡ record { records = foundIn width buffer p .records; full = true }
 unfolding foundIn
 found-none width buffer p = refl
+
+-- the record of an abstract memory, and of one with a name changed, is in front of the row that is made of its array
+module _ {ρ rho : List ℕ} {names : ℕ} (y : ReadInto ρ rho names) (few : 2 + names ≤ 34) (node : ℕ) (row : List ℕ) (long : length row ≡ 34) where
+  pub row-read : row ≡ wordBytes node ++ rho → take (2 + names) row ≡ recordFor node ρ
+  unfolding Alike wordBytes
+  row-read e =
+      ap (take (2 + names)) e ∙ ap (λ (n : ℕ). take (2 + n) (wordBytes node ++ rho)) (sym (y .sized))
+      ∙ record-taken node ρ rho (omega (arith, y .sized, long, ap length e), λ k l. y .alike k)
+
+  pub row-changed : (name signs : ℕ) → row ≡ set (wordBytes node ++ rho) (2 + name) signs → take (2 + names) row ≡ recordFor node (set ρ name signs)
+  unfolding Alike wordBytes
+  row-changed name signs e =
+      ap (take (2 + names)) e ∙ ap (λ (n : ℕ). take (2 + n) (set (wordBytes node ++ rho) (2 + name) signs)) (sym (y .sized))
+      ∙ record-changed node ρ rho (omega (arith, y .sized, long, ap length e, length-set (wordBytes node ++ rho) (2 + name) signs), λ k l. y .alike k) name signs
+
+-- a list of so many names has records of that width
+pub width-of : (ns : List ℕ) {names : ℕ} → length ns ≡ names → recordWidth ns ≡ 2 + names
+unfolding recordWidth
+width-of ns e = ap (λ (n : ℕ). 2 + n) e
+
+-- ---- One offer after another
+
+module _ {A : Type 0} (f : Found → A → Found) (z : Found) where
+  -- of the results of an edge, and of what a function gives
+  pub results-more : (change : ℕ → A) (sets : List ℕ) (j : ℕ) → j < length sets → {x y : Found} → y ≡ f x (change (getD sets j 0)) → x ≡ foldl f z (map change (take j sets))
+      → y ≡ foldl f z (map change (take (suc j) sets))
+  results-more change sets j h p q = rw (take-suc sets j 0 h, map-append, foldl-append f z (map change (take j sets)) (change (getD sets j 0) ∷ []), ← q) p
+
+  pub tabulated-more : (g : ℕ → A) (k : ℕ) {x y : Found} → y ≡ f x (g k) → x ≡ foldl f z (tabulate k g) → y ≡ foldl f z (tabulate (suc k) g)
+  unfolding tabulate
+  tabulated-more g k p q = rw (foldl-append f z (tabulate k g) (g k ∷ []), ← q) p
+
+-- record k of a start list as the code reads it, and all of them
+pub start-read : (bytes : List ℕ) (names k : ℕ) (rho : List ℕ) → 2 + names ≤ 34 → names * k + names ≤ length bytes → rho ≡ padded bytes (names * k) names → ReadInto (recordAt names bytes k) rho names
+unfolding Alike recordAt
+start-read bytes names k rho few h e =
+    record { sized = part-length bytes (names * k) names h; alike = λ x. part-padded bytes (names * k) names (omega arith) x ∙ ap (λ (l : List ℕ). getD l x 0) (sym e) }
+
+pub starts-all : (ns : List ℕ) {names : ℕ} → length ns ≡ names → (bytes : List ℕ) (room : ℕ) (x : Found) {y : Found}
+    → y ≡ foldl (offer ns room 0) x (tabulate (length bytes / names) (recordAt names bytes)) → y ≡ foldl (offer ns room 0) x (recordsOf (initialWidth ns) bytes)
+unfolding recordsOf recordCount initialWidth
+starts-all ns e bytes room x p = p ∙ ap (λ (n : ℕ). foldl (offer ns room 0) x (tabulate (length bytes / n) (recordAt n bytes))) (sym e)

@@ -74,7 +74,7 @@ part-at : (bytes : List ℕ) (at n i : ℕ) → i < n → getD (take n (drop at 
 part-at bytes at n i h = getD-take n (drop at bytes) i 0 h ∙ getD-drop at bytes i 0
 
 -- it reads like the array that its bytes are read into
-part-padded : (bytes : List ℕ) (at names : ℕ) → names ≤ 32 → (x : ℕ) → getD (take names (drop at bytes)) x 0 ≡ getD (padded bytes at names) x 0
+pub part-padded : (bytes : List ℕ) (at names : ℕ) → names ≤ 32 → (x : ℕ) → getD (take names (drop at bytes)) x 0 ≡ getD (padded bytes at names) x 0
 unfolding padded paddedByte byteAt
 part-padded bytes at names few x =
     let byte = paddedByte bytes at names in
@@ -93,7 +93,7 @@ pub padded-length : (bytes : List ℕ) (at names : ℕ) → length (padded bytes
 unfolding padded
 padded-length bytes at names = length-tabulate 32 (paddedByte bytes at names)
 
-part-length : (bytes : List ℕ) (at names : ℕ) → at + names ≤ length bytes → length (take names (drop at bytes)) ≡ names
+pub part-length : (bytes : List ℕ) (at names : ℕ) → at + names ≤ length bytes → length (take names (drop at bytes)) ≡ names
 part-length bytes at names h = length-take-le names (drop at bytes) (omega (arith, length-drop at bytes))
 
 module _ (ns bytes : List ℕ) (k : ℕ) where

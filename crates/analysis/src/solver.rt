@@ -1,12 +1,14 @@
 // A solution computed.
 
 ghost use mathlib.Core.Path.{_≡_};
-ghost use mathlib.Core.List.{List};
-ghost use Prim.Native.Nat.{ℕ, _<_};
-ghost use lib.ListN.{length};
+ghost use mathlib.Core.List.{List, foldl, map};
+ghost use Prim.Native.Nat.{ℕ, _+_, _<_, _≤_};
+ghost use lib.ListN.{length, set, take};
+ghost use Rattle.analysis.specs.Judging;
 ghost use Rattle.analysis.specs.Records;
 ghost use Rattle.analysis.specs.Solver as spec;
 ghost use Rattle.analysis.specs.Solving as parts;
+use crate::Changes;
 use crate::lists;
 use crate::membership;
 
@@ -23,19 +25,21 @@ fn offer(
     next: &mut [u16; 4096],
     buffer: &mut [u8],
     room: usize,
+    width: usize,
     row: &[u8],
     p: Progress,
 ) -> Progress
-    requires { ⌜ parts.Growing (now factors) (length (now row)) room (now buffer) (now heads) (now next) p ⌝ }
-    ensures { λ r. ⌜ parts.Extended (now (factors .entry)) (length (now (row .entry))) room (now (buffer .entry)) p (now (buffer .exit)) (now (heads .exit)) (now (next .exit)) r ⌝ }
-    ensures { λ r. ⌜ ((ns : List ℕ) (node : ℕ) (ρ : List ℕ) → node < 65536 → Records.recordWidth ns ≡ length (now (row .entry)) → now (row .entry) ≡ Records.recordFor node ρ
-        → parts.foundIn (length (now (row .entry))) (now (buffer .exit)) r ≡ spec.offer ns room node (parts.foundIn (length (now (row .entry))) (now (buffer .entry)) p) ρ) ⌝ }
+    requires { ⌜ parts.Growing (now factors) width room (now buffer) (now heads) (now next) p ⌝ }
+    requires { ⌜ length (now row) ≡ width ⌝ }
+    ensures { λ r. ⌜ parts.Extended (now (factors .entry)) width room (now (buffer .entry)) p (now (buffer .exit)) (now (heads .exit)) (now (next .exit)) r ⌝ }
+    ensures { λ r. ⌜ ((ns : List ℕ) (node : ℕ) (ρ : List ℕ) → node < 65536 → Records.recordWidth ns ≡ width → now (row .entry) ≡ Records.recordFor node ρ
+        → parts.foundIn width (now (buffer .exit)) r ≡ spec.offer ns room node (parts.foundIn width (now (buffer .entry)) p) ρ) ⌝ }
 {
     if p.full {
         return p;
     }
     let h = membership::hash(factors, row);
-    if membership::follow(heads, next, buffer, row.len(), row, h) {
+    if membership::follow(heads, next, buffer, width, row, h) {
         return p;
     }
     if p.count == room {
@@ -44,10 +48,93 @@ fn offer(
             full: true,
         };
     }
-    lists::put(buffer, row.len() * p.count, row);
+    lists::put(buffer, width * p.count, row);
     membership::enter(heads, next, p.count, h);
     Progress {
         count: p.count + 1,
         full: false,
     }
+}
+
+// The results of an edge offered at its target, result by result.
+fn offer_results(
+    factors: &[u16; 34],
+    heads: &mut [u16; 8192],
+    next: &mut [u16; 4096],
+    buffer: &mut [u8],
+    room: usize,
+    names: usize,
+    rho: &[u8; 32],
+    node: u16,
+    changes: Changes,
+    p: Progress,
+) -> Progress
+    requires { ⌜ parts.Growing (now factors) (2 + names) room (now buffer) (now heads) (now next) p ⌝ }
+    requires { ⌜ changes .count ≤ 12 ⌝ }
+    ensures { λ r. ⌜ parts.Extended (now (factors .entry)) (2 + names) room (now (buffer .entry)) p (now (buffer .exit)) (now (heads .exit)) (now (next .exit)) r ⌝ }
+    ensures { λ r. ⌜ ((ns ρ : List ℕ) → length ns ≡ names → Judging.ReadInto ρ (now (rho .entry)) names
+        → parts.foundIn (2 + names) (now (buffer .exit)) r
+        ≡ foldl (spec.offer ns room node) (parts.foundIn (2 + names) (now (buffer .entry)) p) (map (set ρ (changes .name)) (take (changes .count) (changes .sets)))) ⌝ }
+{
+    let count = changes.count;
+    let name = changes.name;
+    let sets = changes.sets;
+    let width = 2 + names;
+    let mut found = p;
+    let mut j: usize = 0;
+    while j < count {
+        let row = lists::record_with(node, rho, name, sets[j]);
+        found = offer(
+            factors,
+            heads,
+            next,
+            buffer,
+            room,
+            width,
+            &row[..width],
+            found,
+        );
+        j += 1;
+    }
+    found
+}
+
+// The records of a start list offered at node 0.
+fn offer_initial(
+    factors: &[u16; 34],
+    heads: &mut [u16; 8192],
+    next: &mut [u16; 4096],
+    buffer: &mut [u8],
+    room: usize,
+    names: usize,
+    initial: &[u8],
+    p: Progress,
+) -> Progress
+    requires { ⌜ parts.Growing (now factors) (2 + names) room (now buffer) (now heads) (now next) p ⌝ }
+    requires { ⌜ 0 < names ⌝ }
+    ensures { λ r. ⌜ parts.Extended (now (factors .entry)) (2 + names) room (now (buffer .entry)) p (now (buffer .exit)) (now (heads .exit)) (now (next .exit)) r ⌝ }
+    ensures { λ r. ⌜ ((ns : List ℕ) → length ns ≡ names
+        → parts.foundIn (2 + names) (now (buffer .exit)) r
+        ≡ foldl (spec.offer ns room 0) (parts.foundIn (2 + names) (now (buffer .entry)) p) (Records.recordsOf (Records.initialWidth ns) (now (initial .entry)))) ⌝ }
+{
+    let width = 2 + names;
+    let count = initial.len() / names;
+    let mut found = p;
+    let mut k: usize = 0;
+    while k < count {
+        let rho = lists::memory_at(initial, names * k, names);
+        let row = lists::record_for(0, &rho);
+        found = offer(
+            factors,
+            heads,
+            next,
+            buffer,
+            room,
+            width,
+            &row[..width],
+            found,
+        );
+        k += 1;
+    }
+    found
 }
