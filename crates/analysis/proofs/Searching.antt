@@ -1,20 +1,40 @@
 -- A solution is searched through its index: what is found of one abstract memory, of the results of an edge, and of the edges out of a node.
 use mathlib.Core.Path.{_≡_, refl, sym, ap, _∙_}
-use mathlib.Core.Bool.{Bool, true, false, not, _||_}
+use mathlib.Core.Bool.{Bool, true, false, not, _||_, false≢true}
 use mathlib.Core.List.{List, [], _∷_, _++_, map}
 use Prim.Native.Nat.{ℕ, zero, suc, _+_, _*_, _<_, _≤_}
 use native.Mathlib.Omega.{arith}
 use lib.ListN.{length, getD, set, take, length-set}
-use lib.Seq.{take-suc}
+use lib.Seq.{take-suc, set-getD}
 use Rattle.signs.specs.Lists.{anyOf}
 use Rattle.signs.proofs.Lists.{anyOf-append, anyOf-map}
-use Rattle.program.specs.Graph.{wordBytes}
-use Rattle.analysis.specs.Changing.{Alike}
-use Rattle.analysis.specs.Judging.{anyMissing, Searchable, ReadInto}
+use Rattle.program.specs.Decoding.{decodedEntry}
+use Rattle.program.specs.Drawing.{edgeRead}
+use Rattle.program.specs.File.{wordAt, sizes}
+use Rattle.program.specs.FirstSuch.{firstOf, firstSuch}
+use Rattle.program.specs.Graph.{graph, nodeCount, wordBytes, actionOf}
+use Rattle.program.specs.Links.{Followed}
+use Rattle.program.specs.declared.EdgeBytes.{EdgeBytes}
+use Rattle.program.specs.declared.First.the-variants.{At, Nothing}
+use Rattle.program.proofs.Laws.{few-nodes, first-at, first-more, such-stops, such-goes-on}
+use Rattle.semantics.specs.Action.{meaning}
+use Rattle.semantics.specs.Step.{edgeAt}
+use Rattle.semantics.proofs.Laws.{drawn-action, drawn-target, first-along, none-along}
+use Rattle.analysis.specs.Changing.{Alike, ResultsIn}
+use Rattle.analysis.specs.Index.{mayBeNegative}
+use Rattle.analysis.specs.Judging.{anyMissing, picks, firstPicked, spotOf, Searchable, Searched, ReadInto}
 use Rattle.analysis.specs.Membership.{among}
-use Rattle.analysis.specs.Records.{recordWidth, recordCount, recordFor, hasAt}
+use Rattle.analysis.specs.RecordParts.{padded}
+use Rattle.analysis.specs.Records.{initialWidth, recordWidth, recordCount, recordAt, recordFor, nodeOf, memoryOf, hasAt}
+use Rattle.analysis.specs.Verdict.{missingInitial, isHere, firstSpot}
+use Rattle.analysis.specs.declared.Changes.{Changes}
+use Rattle.analysis.specs.declared.Spot.{Spot}
+use Rattle.analysis.specs.declared.Spot.the-variants.{At as Here, Nowhere}
+use Rattle.analysis.specs.declared.judging.Query.{Query}
+use Rattle.analysis.specs.declared.judging.Query.the-variants.{MissingResult, NegativeIndex}
+use Rattle.analysis.proofs.Alike.{negative-alike}
 use Rattle.analysis.proofs.Among.{has-among}
-use Rattle.analysis.proofs.Laid.{record-changed}
+use Rattle.analysis.proofs.Laid.{record-changed, start-reads, start-length, memory-reads, memory-length, node-reads, node-formed}
 
 -- what the index says of an abstract memory with one name changed, as the code asks it
 pub has-found : (ns : List ℕ) (names count : ℕ) (solution fs heads next : List ℕ) → Searchable ns names count solution fs heads next
@@ -72,3 +92,151 @@ module _ (ns solution : List ℕ) (node : ℕ) (ρ : List ℕ) (name : ℕ) (set
   pub one-missing : (j n : ℕ) → j < n → n ≤ length sets → hasAt ns solution node (set ρ name (getD sets j 0)) ≡ false → SomeMissing n true
   unfolding anyMissing
   one-missing j n h room p = anyOf-map _ _ (take n sets) ∙ any-here _ sets j n h room (rw p)
+
+-- an edge, as the code reads it and asks for its results or its indexes
+module _ {s edges entries : List ℕ} {edge-count names count : ℕ} {solution fs heads next : List ℕ} (x : Searched s edges entries edge-count names count solution fs heads next)
+    (e : ℕ) (h : e < edge-count) (r : EdgeBytes) (read : r ≡ edgeRead edges e) {ρ rho : List ℕ} (y : ReadInto ρ rho names) where
+  meaning-read : meaning (actionOf (decodedEntry entries) (r .kind) (r .entry)) ≡ meaning (edgeAt (graph s) e .action)
+  meaning-read =
+      ap meaning
+      (ap (λ (l : List ℕ). actionOf (decodedEntry l) (r .kind) (r .entry)) (x .entries-decoded)
+      ∙ drawn-action s edges _ edge-count (x .drawn .drawing) e r h read)
+
+  pub picks-missing : (c : Changes) → ResultsIn rho (meaning (actionOf (decodedEntry entries) (r .kind) (r .entry))) c
+      → anyMissing (sizes s) solution (r .target) (map (set ρ (c .name)) (take (c .count) (c .sets))) ≡ picks (sizes s) (graph s) solution MissingResult ρ e
+  unfolding picks
+  picks-missing c k =
+      rw (← k .gives ρ (y .alike), ← meaning-read, ← drawn-target s edges _ edge-count (x .drawn .drawing) e r h read)
+
+  pub picks-negative : mayBeNegative rho (meaning (actionOf (decodedEntry entries) (r .kind) (r .entry))) ≡ picks (sizes s) (graph s) solution NegativeIndex ρ e
+  unfolding picks
+  picks-negative = ap (mayBeNegative rho) meaning-read ∙ sym (negative-alike ρ rho (y .alike) (meaning (edgeAt (graph s) e .action)))
+
+-- an edge that a query does not pick, whatever program these bytes are decoded from and whatever abstract memory was read
+abbrev pub Unpicked : (q : Query) (edges entries : List ℕ) (edge-count names : ℕ) (solution fs heads next rho : List ℕ) (e : ℕ) → Type 0
+Unpicked q edges entries edge-count names solution fs heads next rho e =
+    (s : List ℕ) (count : ℕ) (ρ : List ℕ) → Searched s edges entries edge-count names count solution fs heads next → ReadInto ρ rho names
+    → picks (sizes s) (graph s) solution q ρ e ≡ false
+
+-- the first edge out of a node that is picked, as following the links finds it; and that there is none
+module _ (q : Query) (edges entries : List ℕ) (edge-count names : ℕ) (solution fs heads next rho : List ℕ) (node e : ℕ)
+    (at : Followed edges edge-count node (Unpicked q edges entries edge-count names solution fs heads next rho) e)
+    (s : List ℕ) (count : ℕ) (ρ : List ℕ) (x : Searched s edges entries edge-count names count solution fs heads next) (y : ReadInto ρ rho names) where
+  unpicked-before : Followed edges edge-count node (λ k. picks (sizes s) (graph s) solution q ρ k ≡ false) e
+  unpicked-before = record { here = at .here; before = λ k h l t. at .before k h l t s count ρ x y }
+
+  pub picked-here : e < edge-count → picks (sizes s) (graph s) solution q ρ e ≡ true → firstPicked (sizes s) (graph s) solution q node ρ ≡ At e
+  unfolding firstPicked
+  picked-here h p = first-along s edges _ edge-count (x .drawn .drawing) node _ e unpicked-before h p
+
+  pub none-picked : edge-count ≤ e → firstPicked (sizes s) (graph s) solution q node ρ ≡ Nothing
+  unfolding firstPicked
+  none-picked h = none-along s edges _ edge-count (x .drawn .drawing) node _ e unpicked-before h
+
+-- record k, as the code reads it: its node, one of 129, and its abstract memory
+module _ {s edges entries : List ℕ} {edge-count names count : ℕ} {solution fs heads next : List ℕ} (x : Searched s edges entries edge-count names count solution fs heads next)
+    (few : names ≤ 32) (k : ℕ) (h : k < count) where
+  width : recordWidth (sizes s) ≡ 2 + names
+  unfolding recordWidth
+  width = ap (λ (n : ℕ). 2 + n) (x .searchable .names-are)
+
+  there : k < recordCount (recordWidth (sizes s)) solution
+  there = rw width (omega (arith, x .searchable .counted))
+
+  pub node-read : (node : ℕ) → node ≡ wordAt solution ((2 + names) * k) → nodeOf (recordAt (recordWidth (sizes s)) solution k) ≡ node
+  node-read node p = node-reads (sizes s) solution k ∙ ap (λ (w : ℕ). wordAt solution (w * k)) width ∙ sym p
+
+  pub node-low : (node : ℕ) → node ≡ wordAt solution ((2 + names) * k) → node < 129
+  unfolding nodeCount
+  node-low node p =
+      let formed = node-formed (sizes s) (graph s) solution (x .formed) k there in
+      omega (arith, p, ap (λ (w : ℕ). wordAt solution (w * k)) width, few-nodes s (x .drawn .drawing .fit))
+
+  pub memory-read : (rho : List ℕ) → rho ≡ padded solution ((2 + names) * k + 2) names → ReadInto (memoryOf (sizes s) (recordAt (recordWidth (sizes s)) solution k)) rho names
+  unfolding Alike
+  memory-read rho p =
+      record {
+        sized = memory-length (sizes s) solution k there ∙ x .searchable .names-are;
+        alike = λ i.
+            memory-reads (sizes s) solution k (omega (arith, x .searchable .names-are)) i
+            ∙ ap (λ (w : ℕ). getD (padded solution (w * k + 2) (length (sizes s))) i 0) width
+            ∙ ap (λ (n : ℕ). getD (padded solution ((2 + names) * k + 2) n) i 0) (x .searchable .names-are)
+            ∙ ap (λ (l : List ℕ). getD l i 0) (sym p);
+      }
+
+-- the first record that a query finds something at, as a loop finds it
+only-nowhere : (x : Spot) → isHere x ≡ false → x ≡ Nowhere
+unfolding isHere
+only-nowhere (Here k e) p = absurd (false≢true (sym p))
+only-nowhere Nowhere p = refl
+
+module _ {s edges entries : List ℕ} {edge-count names count : ℕ} {solution fs heads next : List ℕ} (x : Searched s edges entries edge-count names count solution fs heads next) (q : Query) where
+  abbrev pub NowhereTo : ℕ → Type 0
+  NowhereTo k = firstOf isHere Nowhere k (spotOf (sizes s) (graph s) solution q) ≡ Nowhere
+
+  pub nowhere-none : NowhereTo 0
+  unfolding firstOf
+  nowhere-none = refl
+
+  counted : recordCount (recordWidth (sizes s)) solution ≡ count
+  unfolding recordWidth
+  counted = ap (λ (n : ℕ). recordCount (2 + n) solution) (x .searchable .names-are) ∙ x .searchable .counted
+
+  pub spot-here : (k : ℕ) → k < count → NowhereTo k → (spot : Spot) → spot ≡ spotOf (sizes s) (graph s) solution q k → isHere spot ≡ true
+      → spot ≡ firstSpot (sizes s) (graph s) solution (picks (sizes s) (graph s) solution q)
+  unfolding firstSpot spotOf firstPicked isHere
+  spot-here k h e spot p t =
+      p ∙ sym (rw counted (first-at isHere Nowhere refl only-nowhere count (spotOf (sizes s) (graph s) solution q) k h e (ap isHere (sym p) ∙ t)))
+
+  pub spot-beyond : (k : ℕ) → NowhereTo k → (spot : Spot) → spot ≡ spotOf (sizes s) (graph s) solution q k → isHere spot ≡ false → NowhereTo (suc k)
+  unfolding isHere
+  spot-beyond k e spot p t = first-more isHere Nowhere refl only-nowhere (spotOf (sizes s) (graph s) solution q) k e (sym p ∙ only-nowhere spot t)
+
+  pub spot-nowhere : (k : ℕ) → k ≡ count → NowhereTo k → Nowhere ≡ firstSpot (sizes s) (graph s) solution (picks (sizes s) (graph s) solution q)
+  unfolding firstSpot spotOf firstPicked
+  spot-nowhere k p e = sym (rw (counted, ← p) e)
+
+-- start record k, as the code reads it and asks for it
+module _ {ns : List ℕ} {names count : ℕ} {solution fs heads next : List ℕ} (x : Searchable ns names count solution fs heads next) (few : names ≤ 32) (initial : List ℕ) (k : ℕ)
+    (h : k < recordCount names initial) (rho : List ℕ) (p : rho ≡ padded initial (names * k) names) where
+  pub start-read : ReadInto (recordAt (initialWidth ns) initial k) rho names
+  unfolding Alike initialWidth
+  start-read =
+      record {
+        sized = start-length ns initial k (rw (x .names-are) h) ∙ x .names-are;
+        alike = λ i.
+            start-reads ns initial k (omega (arith, x .names-are)) i ∙ ap (λ (n : ℕ). getD (padded initial (n * k) n) i 0) (x .names-are)
+            ∙ ap (λ (l : List ℕ). getD l i 0) (sym p);
+      }
+
+  pub start-unchanged : set (recordAt (initialWidth ns) initial k) 0 (getD rho 0 0) ≡ recordAt (initialWidth ns) initial k
+  unfolding Alike
+  start-unchanged = ap (set (recordAt (initialWidth ns) initial k) 0) (sym (start-read .alike 0)) ∙ set-getD (recordAt (initialWidth ns) initial k) 0 0
+
+-- the first start record that is missing, as a loop finds it
+module _ (ns : List ℕ) (names : ℕ) (initial solution : List ℕ) (e : length ns ≡ names) where
+  abbrev isMissing : ℕ → Bool
+  isMissing k = not (hasAt ns solution 0 (recordAt (initialWidth ns) initial k))
+
+  abbrev pub NoneMissing : ℕ → Type 0
+  NoneMissing k = firstSuch k isMissing ≡ Nothing
+
+  pub none-looked : NoneMissing 0
+  unfolding firstSuch firstOf
+  none-looked = refl
+
+  pub start-listed : (k : ℕ) → NoneMissing k → hasAt ns solution 0 (recordAt (initialWidth ns) initial k) ≡ true → NoneMissing (suc k)
+  start-listed k n p = such-goes-on isMissing k n (ap not p)
+
+  counts : (count : ℕ) → count ≡ recordCount names initial → recordCount (initialWidth ns) initial ≡ count
+  unfolding initialWidth
+  counts count c = ap (λ (n : ℕ). recordCount n initial) e ∙ sym c
+
+  pub start-missing : (k count : ℕ) → count ≡ recordCount names initial → k < count → NoneMissing k → hasAt ns solution 0 (recordAt (initialWidth ns) initial k) ≡ false
+      → missingInitial ns initial solution ≡ At k
+  unfolding missingInitial
+  start-missing k count c h n p = such-stops (recordCount (initialWidth ns) initial) isMissing k (omega (arith, counts count c)) n (ap not p)
+
+  pub starts-listed : (k count : ℕ) → count ≡ recordCount names initial → k ≡ count → NoneMissing k → missingInitial ns initial solution ≡ Nothing
+  unfolding missingInitial
+  starts-listed k count c h n = ap (λ (m : ℕ). firstSuch m isMissing) (counts count c ∙ sym h) ∙ n

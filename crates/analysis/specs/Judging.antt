@@ -1,21 +1,26 @@
 -- What the functions that judge a solution promise each other. No public contract cites these.
 use mathlib.Core.Path.{_≡_}
-use mathlib.Core.Bool.{Bool, not}
+use mathlib.Core.Bool.{Bool, not, _&&_}
 use mathlib.Core.List.{List}
 use Prim.Native.Nat.{ℕ, _+_, _≤_}
 use lib.ListN.{length}
 use Rattle.signs.specs.Lists.{anyOf}
 use Rattle.program.specs.Decoding.{decodedEntries}
 use Rattle.program.specs.File.{sizes}
-use Rattle.program.specs.Graph.{Graph}
+use Rattle.program.specs.FirstSuch.{firstSuch}
+use Rattle.program.specs.Graph.{Graph, graph}
+use Rattle.program.specs.declared.First.{First}
+use Rattle.program.specs.declared.Validity.the-variants.{Fit}
 use Rattle.semantics.specs.Action.{meaning}
 use Rattle.semantics.specs.Running.{DrawnEdges}
-use Rattle.semantics.specs.Step.{edgeAt}
+use Rattle.semantics.specs.Step.{edgeAt, leaves}
 use Rattle.analysis.specs.Changing.{Alike}
 use Rattle.analysis.specs.Index.{mayBeNegative}
 use Rattle.analysis.specs.Membership.{Indexed}
-use Rattle.analysis.specs.Records.{recordCount, hasAt}
+use Rattle.analysis.specs.Records.{recordWidth, recordCount, recordAt, nodeOf, memoryOf, hasAt, solutionFormed}
 use Rattle.analysis.specs.Results.{results}
+use Rattle.analysis.specs.Verdict.{spotAt}
+use Rattle.analysis.specs.declared.Spot.{Spot}
 use Rattle.analysis.specs.declared.judging.Query.{Query}
 use Rattle.analysis.specs.declared.judging.Query.the-variants.{MissingResult, NegativeIndex}
 
@@ -28,10 +33,24 @@ unfoldable pub picks : List ℕ → Graph → List ℕ → Query → List ℕ �
 picks ns g solution MissingResult ρ e = anyMissing ns solution (edgeAt g e .target) (results ρ (meaning (edgeAt g e .action)))
 picks ns g solution NegativeIndex ρ e = mayBeNegative ρ (meaning (edgeAt g e .action))
 
--- a solution that can be searched: of at most 32 names, and indexed
+-- the first edge out of a node that a query picks
+unfoldable pub firstPicked : List ℕ → Graph → List ℕ → Query → ℕ → List ℕ → First
+firstPicked ns g solution q node ρ = firstSuch (length (g .edges)) (λ e. leaves g e node && picks ns g solution q ρ e)
+
+-- and of record k and the edges out of its node
+unfoldable pub spotOf : List ℕ → Graph → List ℕ → Query → ℕ → Spot
+spotOf ns g solution q k =
+    let r = recordAt (recordWidth ns) solution k in
+    spotAt k (firstPicked ns g solution q (nodeOf r) (memoryOf ns r))
+
+-- a solution that can be searched: of at most 32 names, and some records, or so many, are indexed
 pub record Ordered (names : ℕ) (solution fs heads next : List ℕ) : Type 0 where
   pub few : names ≤ 32
   pub count : ℕ
+  pub indexed : Indexed fs (2 + names) solution count heads next
+
+pub record OrderedTo (names count : ℕ) (solution fs heads next : List ℕ) : Type 0 where
+  pub few : names ≤ 32
   pub indexed : Indexed fs (2 + names) solution count heads next
 
 -- all of its records are indexed, of the names' number
@@ -40,11 +59,12 @@ pub record Searchable (ns : List ℕ) (names count : ℕ) (solution fs heads nex
   pub counted : recordCount (2 + names) solution ≡ count
   pub indexed : Indexed fs (2 + names) solution count heads next
 
--- a well-formed program as a solution of it is searched: drawn and decoded, with the solution
+-- a well-formed program as a solution of it is searched: drawn and decoded, with the solution, which is well formed too
 pub record Searched (s edges entries : List ℕ) (edge-count names count : ℕ) (solution fs heads next : List ℕ) : Type 0 where
   pub drawn : DrawnEdges s edges edge-count
   pub entries-decoded : entries ≡ decodedEntries s
   pub searchable : Searchable (sizes s) names count solution fs heads next
+  pub formed : solutionFormed (sizes s) (graph s) solution ≡ Fit
 
 -- an abstract memory of so many names, and the array that it was read into
 pub record ReadInto (ρ rho : List ℕ) (names : ℕ) : Type 0 where

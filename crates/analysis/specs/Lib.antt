@@ -2,12 +2,12 @@ pub mod Abstraction
 pub mod Records
 pub mod Membership
 pub mod RecordParts
-pub mod Judging
 pub mod Signs
 pub mod Results
 pub mod Changing
 pub mod Index
 pub mod Verdict
+pub mod Judging
 pub mod Solver
 pub mod Solving
 pub mod Splitter

@@ -21,29 +21,20 @@ use Rattle.semantics.specs.Coding.{EffectIn}
 use Rattle.semantics.specs.Running.{Ready, Chosen}
 use Rattle.semantics.specs.Step.{leaves, edgeEffect}
 use Rattle.semantics.specs.declared.Effect.{Effect}
-use Rattle.semantics.proofs.Drawn.{drawn-leaves, effect-read}
+use Rattle.semantics.proofs.Drawn.{first-along, none-along, effect-read}
 
 -- an edge is undefined in a memory, whatever program these bytes are decoded from
 abbrev pub Undefined : (edges entries szs cells : List ℕ) (count : ℕ) (m : List ℤ) (e : ℕ) → Type 0
 Undefined edges entries szs cells count m e = (s : List ℕ) → Ready s edges entries szs cells count → isDefined (edgeEffect (sizes s) (graph s) m e) ≡ false
 
 module _ (edges entries szs cells : List ℕ) (count node : ℕ) (m : List ℤ) (e : ℕ) (at : Followed edges count node (Undefined edges entries szs cells count m) e) where
-  module _ (s : List ℕ) (y : Ready s edges entries szs cells count) where
-    leaves-by : (k : ℕ) → k < count → eqb (sourceIn edges k) node ≡ leaves (graph s) k node
-    unfolding sourceIn
-    leaves-by k h = drawn-leaves s edges _ count (y .drawn .drawing) k node (edgeRead edges k) h refl
+  -- of a program that these bytes are decoded from, no edge out of the node before is defined; and none is where there is no further one
+  undefined-before : (s : List ℕ) → Ready s edges entries szs cells count → Followed edges count node (λ k. isDefined (edgeEffect (sizes s) (graph s) m k) ≡ false) e
+  undefined-before s y = record { here = at .here; before = λ k h l t. at .before k h l t s y }
 
-    -- no edge before is the lowest defined; and none is where there is no further one
-    fails : (k : ℕ) → k < e → k < count → (leaves (graph s) k node && isDefined (edgeEffect (sizes s) (graph s) m k)) ≡ false
-    fails k h l = by (eqb (sourceIn edges k) node) refl
-      where
-        by : (b : Bool) → eqb (sourceIn edges k) node ≡ b → (leaves (graph s) k node && isDefined (edgeEffect (sizes s) (graph s) m k)) ≡ false
-        by true p = rw (sym (leaves-by k l), p) (at .before k h l p s y)
-        by false p = rw (sym (leaves-by k l), p)
-
-    pub none-chosen : count ≤ e → lowestDefined (sizes s) (graph s) node m ≡ Nothing
-    unfolding lowestDefined
-    none-chosen h = none-such _ _ (λ k l. fails k (omega (arith, y .drawn .drawing .edge-count)) (omega (arith, y .drawn .drawing .edge-count)))
+  pub none-chosen : (s : List ℕ) → Ready s edges entries szs cells count → count ≤ e → lowestDefined (sizes s) (graph s) node m ≡ Nothing
+  unfolding lowestDefined
+  none-chosen s y h = none-along s edges _ count (y .drawn .drawing) node _ e (undefined-before s y) h
 
   -- as the code reads an edge and finds its effect
   module _ (h : e < count) (r : EdgeBytes) (x : Effect) (read : r ≡ edgeRead edges e) (found : EffectIn szs cells m (actionOf (decodedEntry entries) (r .kind) (r .entry)) x) where
@@ -57,13 +48,6 @@ module _ (edges entries szs cells : List ℕ) (count node : ℕ) (m : List ℤ) 
     unfolding lowestDefined
     chosen-here defined s y =
         record {
-          lowest =
-              rw defined
-              (first-such _ _ e
-              (record {
-                below = omega (arith, y .drawn .drawing .edge-count);
-                passes = rw (sym (leaves-by s y e h), eq-eqb (sourceIn edges e) node (at .here h)) (ap isDefined (sym (effect-there s y)) ∙ defined);
-                before = λ k l. fails s y k l (omega arith);
-              }));
+          lowest = rw defined (first-along s edges _ count (y .drawn .drawing) node _ e (undefined-before s y) h (ap isDefined (sym (effect-there s y)) ∙ defined));
           there = λ t. effect-there s y;
         }

@@ -1,25 +1,28 @@
 -- The edges of a drawn graph are the graph's, as they are read out of its bytes.
 use mathlib.Core.Path.{_≡_, refl, _∙_, ap, sym}
-use mathlib.Core.Bool.{false}
+use mathlib.Core.Bool.{Bool, true, false, _&&_}
 use mathlib.Core.List.{List}
 use Prim.Native.Nat.{ℕ, _≤_, _<_}
 use native.Mathlib.Omega.{arith}
-use borrow.Author.Tests.{lt-ltb, le-ltb}
+use borrow.Author.Tests.{lt-ltb, le-ltb, eq-eqb}
 use lib.Dec.{T, eqb}
 use lib.IntN.{ℤ}
 use lib.ListN.{length}
 use Rattle.program.specs.Decoding.{decodedEntries, decodedEntry, decodedSizes, decodedCells}
 use Rattle.program.specs.Drawing.{drawnBy, drawnBufferBy, edgeRead, edgeNumbers}
 use Rattle.program.specs.File.{sizes, cellCount}
+use Rattle.program.specs.FirstSuch.{firstSuch}
 use Rattle.program.specs.Graph.{Action, graph, edges, edgeCount, nodeCount, actionOf}
+use Rattle.program.specs.Links.{sourceIn, Followed}
 use Rattle.program.specs.Sorted.{actionNamed}
 use Rattle.program.specs.declared.EdgeBytes.{EdgeBytes}
 use Rattle.program.specs.Questions.{validity}
 use Rattle.program.specs.declared.Drawn.{Drawn}
+use Rattle.program.specs.declared.First.the-variants.{At, Nothing}
 use Rattle.program.specs.declared.Validity.{Validity}
 use Rattle.program.specs.declared.Validity.the-variants.{Fit, Refused}
 use Rattle.program.proofs.Drawings.{array-length}
-use Rattle.program.proofs.Laws.{ask-fit, turn-fit, few-cells, edge-faithful, edge-decoded, names-decoded, drawn-edge-read}
+use Rattle.program.proofs.Laws.{first-such, none-such, ask-fit, turn-fit, few-cells, edge-faithful, edge-decoded, names-decoded, drawn-edge-read}
 use Rattle.semantics.specs.Action.{meaning, effect}
 use Rattle.semantics.specs.Cells.{front}
 use Rattle.semantics.specs.Coding.{EffectIn}
@@ -46,6 +49,31 @@ module _ (s bytes : List ℕ) (nodes count : ℕ) (d : DrawnInto s bytes nodes c
   unfolding leaves edgeNumbers
   drawn-leaves e node r h p =
       rw (lt-ltb e (length (graph s .edges)) (omega (arith, d .edge-count))) (ap (λ (x : EdgeBytes). eqb (x .source) node) (p ∙ drawn-edge e h))
+
+  -- the first edge out of a node that passes a test, as following the links finds it; and that there is none
+  module _ (node : ℕ) (q : ℕ → Bool) (e : ℕ) (at : Followed bytes count node (λ k. q k ≡ false) e) where
+    leaves-by : (k : ℕ) → k < count → eqb (sourceIn bytes k) node ≡ leaves (graph s) k node
+    unfolding sourceIn
+    leaves-by k h = drawn-leaves k node (edgeRead bytes k) h refl
+
+    fails : (k : ℕ) → k < e → k < count → (leaves (graph s) k node && q k) ≡ false
+    fails k h l = by (eqb (sourceIn bytes k) node) refl
+      where
+        by : (b : Bool) → eqb (sourceIn bytes k) node ≡ b → (leaves (graph s) k node && q k) ≡ false
+        by true p = rw (sym (leaves-by k l), p) (at .before k h l p)
+        by false p = rw (sym (leaves-by k l), p)
+
+    pub first-along : e < count → q e ≡ true → firstSuch (length (graph s .edges)) (λ k. leaves (graph s) k node && q k) ≡ At e
+    first-along h p =
+        first-such _ _ e
+        (record {
+          below = omega (arith, d .edge-count);
+          passes = rw (sym (leaves-by e h), eq-eqb (sourceIn bytes e) node (at .here h)) p;
+          before = λ k l. fails k l (omega arith);
+        })
+
+    pub none-along : count ≤ e → firstSuch (length (graph s .edges)) (λ k. leaves (graph s) k node && q k) ≡ Nothing
+    none-along h = none-such _ _ (λ k l. fails k (omega (arith, d .edge-count)) (omega (arith, d .edge-count)))
 
   -- its action is that of its decoded kind and entry, and its names are there
   pub drawn-action : (e : ℕ) (r : EdgeBytes) → e < count → r ≡ edgeRead bytes e → actionOf (decodedEntry (decodedEntries s)) (r .kind) (r .entry) ≡ edgeAt (graph s) e .action

@@ -1,6 +1,6 @@
 -- The theorems on steps and runs for the crate above, on one page. Their proofs are in the modules that they cite.
 use mathlib.Core.Path.{_≡_}
-use mathlib.Core.Bool.{false}
+use mathlib.Core.Bool.{Bool, true, false, _&&_}
 use mathlib.Core.List.{List}
 use mathlib.Core.Logic.{_≢_}
 use Prim.Native.Nat.{ℕ, _+_, _≤_, _<_, min}
@@ -10,8 +10,9 @@ use lib.ListN.{length, getD, replicate}
 use Rattle.program.specs.Decoding.{decodedEntries, decodedEntry}
 use Rattle.program.specs.Drawing.{drawnBy, drawnBufferBy, edgeRead}
 use Rattle.program.specs.File.{sizes, cellsOf, cellCount, firstCell}
+use Rattle.program.specs.FirstSuch.{firstSuch}
 use Rattle.program.specs.Graph.{Graph, Action, graph, actionOf}
-use Rattle.program.specs.Links.{Linkable}
+use Rattle.program.specs.Links.{Linkable, Followed}
 use Rattle.program.specs.Questions.{validity}
 use Rattle.program.specs.Sorted.{isVariable, isArray, arithNamed, booleanNamed, actionNamed}
 use Rattle.program.specs.Syntax.{Arith, Boolean}
@@ -242,6 +243,14 @@ module _ (s bytes : List ℕ) (nodes count : ℕ) (d : DrawnInto s bytes nodes c
   pub drawn-action : (e : ℕ) (r : EdgeBytes) → e < count → r ≡ edgeRead bytes e
       → actionOf (decodedEntry (decodedEntries s)) (r .kind) (r .entry) ≡ edgeAt (graph s) e .action
   drawn-action = Drawn.drawn-action s bytes nodes count d
+
+  -- the first edge out of a node that passes a test, as following the links finds it; and that there is none
+  module _ (node : ℕ) (q : ℕ → Bool) (e : ℕ) (at : Followed bytes count node (λ k. q k ≡ false) e) where
+    pub first-along : e < count → q e ≡ true → firstSuch (length (graph s .edges)) (λ k. leaves (graph s) k node && q k) ≡ At e
+    first-along = Drawn.first-along s bytes nodes count d node q e at
+
+    pub none-along : count ≤ e → firstSuch (length (graph s .edges)) (λ k. leaves (graph s) k node && q k) ≡ Nothing
+    none-along = Drawn.none-along s bytes nodes count d node q e at
 
   -- its edges can be linked
   pub linkable : Linkable bytes count
