@@ -13,5 +13,6 @@ pub mod Writing
 pub mod Chains
 pub mod Among
 pub mod Growing
+pub mod Descending
 pub mod ThirdTerm
 pub mod Examples

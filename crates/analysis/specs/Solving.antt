@@ -1,9 +1,14 @@
 -- How the solver's list lies in the buffer that is lent. No public contract cites these.
 use mathlib.Core.Path.{_≡_}
-use mathlib.Core.List.{List}
+use mathlib.Core.List.{List, foldl}
 use Prim.Native.Nat.{ℕ, _*_, _≤_}
 use lib.ListN.{length, drop}
-use Rattle.signs.specs.Lists.{tabulate}
+use Rattle.signs.specs.Lists.{tabulate, passing, indices}
+use Rattle.program.specs.Decoding.{decodedEntries}
+use Rattle.program.specs.File.{sizes}
+use Rattle.program.specs.Graph.{Graph}
+use Rattle.semantics.specs.Running.{DrawnEdges}
+use Rattle.semantics.specs.Step.{leaves}
 use Rattle.analysis.specs.Membership.{Indexed}
 use Rattle.analysis.specs.Records.{recordAt}
 use Rattle.analysis.specs.Solver.{Found}
@@ -27,3 +32,13 @@ pub record Extended (fs : List ℕ) (width room : ℕ) (before : List ℕ) (q : 
   pub sized : length buffer ≡ length before
   pub more : q .count ≤ p .count
   pub past : drop (width * p .count) buffer ≡ drop (width * p .count) before
+
+-- what is done in turn along those of the first n edges that leave a node
+unfoldable pub along : (Found → ℕ → Found) → Graph → ℕ → ℕ → Found → Found
+along f g node n found = foldl f found (passing (λ e. leaves g e node) (indices n))
+
+-- a well-formed program as it is solved: drawn and decoded
+pub record Decoded (s edges entries : List ℕ) (edge-count names : ℕ) : Type 0 where
+  pub drawn : DrawnEdges s edges edge-count
+  pub entries-decoded : entries ≡ decodedEntries s
+  pub names-are : length (sizes s) ≡ names

@@ -4,13 +4,20 @@ ghost use mathlib.Core.Path.{_≡_};
 ghost use mathlib.Core.List.{List, foldl, map};
 ghost use Prim.Native.Nat.{ℕ, _+_, _<_, _≤_};
 ghost use lib.ListN.{length, set, take};
+ghost use Rattle.signs.specs.Grid;
+ghost use Rattle.program.specs.File;
+ghost use Rattle.program.specs.Graph;
+ghost use Rattle.program.specs.Links;
 ghost use Rattle.analysis.specs.Judging;
 ghost use Rattle.analysis.specs.Records;
 ghost use Rattle.analysis.specs.Solver as spec;
 ghost use Rattle.analysis.specs.Solving as parts;
 use crate::Changes;
+use crate::evaluator::results;
 use crate::lists;
 use crate::membership;
+use program::adjacency;
+use program::drawing;
 
 // How far the list has come: how many records were found, and whether one had no room.
 struct Progress {
@@ -135,6 +142,94 @@ fn offer_initial(
             found,
         );
         k += 1;
+    }
+    found
+}
+
+// What follows an abstract memory along an edge, offered.
+fn offer_edge(
+    entries: &[u16; 4096],
+    grids: &[[[u8; 3]; 3]; 5],
+    edges: &[u8],
+    factors: &[u16; 34],
+    heads: &mut [u16; 8192],
+    next: &mut [u16; 4096],
+    buffer: &mut [u8],
+    room: usize,
+    names: usize,
+    rho: &[u8; 32],
+    e: u16,
+    p: Progress,
+) -> Progress
+    requires { ⌜ parts.Growing (now factors) (2 + names) room (now buffer) (now heads) (now next) p ⌝ }
+    requires { ⌜ now grids ≡ Grid.grids ⌝ }
+    ensures { λ r. ⌜ parts.Extended (now (factors .entry)) (2 + names) room (now (buffer .entry)) p (now (buffer .exit)) (now (heads .exit)) (now (next .exit)) r ⌝ }
+    ensures { λ r. ⌜ ((s : List ℕ) (edge-count : ℕ) (ρ : List ℕ) → parts.Decoded s (now (edges .entry)) (now (entries .entry)) edge-count names
+        → Judging.ReadInto ρ (now (rho .entry)) names → e < edge-count
+        → parts.foundIn (2 + names) (now (buffer .exit)) r ≡ spec.offerResults (File.sizes s) (Graph.graph s) room ρ (parts.foundIn (2 + names) (now (buffer .entry)) p) e) ⌝ }
+{
+    let drawn = drawing::edge_at(edges, e);
+    let changes = results::changes(entries, grids, rho, drawn.kind, drawn.entry);
+    offer_results(
+        factors,
+        heads,
+        next,
+        buffer,
+        room,
+        names,
+        rho,
+        drawn.target,
+        changes,
+        p,
+    )
+}
+
+// What follows an abstract memory at a node, offered edge by edge; from a node past the last of 129 there is no edge.
+fn offer_successors(
+    entries: &[u16; 4096],
+    grids: &[[[u8; 3]; 3]; 5],
+    edges: &[u8],
+    links: &[u16; 384],
+    edge_count: u16,
+    factors: &[u16; 34],
+    heads: &mut [u16; 8192],
+    next: &mut [u16; 4096],
+    buffer: &mut [u8],
+    room: usize,
+    names: usize,
+    rho: &[u8; 32],
+    node: u16,
+    p: Progress,
+) -> Progress
+    requires { ⌜ parts.Growing (now factors) (2 + names) room (now buffer) (now heads) (now next) p ⌝ }
+    requires { ⌜ now grids ≡ Grid.grids ⌝ }
+    requires { ⌜ Links.Followable (now edges) «edge_count» (now links) ⌝ }
+    ensures { λ r. ⌜ parts.Extended (now (factors .entry)) (2 + names) room (now (buffer .entry)) p (now (buffer .exit)) (now (heads .exit)) (now (next .exit)) r ⌝ }
+    ensures { λ r. ⌜ ((s ρ : List ℕ) → parts.Decoded s (now (edges .entry)) (now (entries .entry)) «edge_count» names → Judging.ReadInto ρ (now (rho .entry)) names
+        → parts.foundIn (2 + names) (now (buffer .exit)) r
+        ≡ parts.along (spec.offerResults (File.sizes s) (Graph.graph s) room ρ) (Graph.graph s) node (length (Graph.graph s .edges)) (parts.foundIn (2 + names) (now (buffer .entry)) p)) ⌝ }
+{
+    if 129 <= node {
+        return p;
+    }
+    let mut found = p;
+    let mut e = adjacency::first_edge(links, node);
+    while e < edge_count {
+        found = offer_edge(
+            entries,
+            grids,
+            edges,
+            factors,
+            heads,
+            next,
+            buffer,
+            room,
+            names,
+            rho,
+            e,
+            found,
+        );
+        e = adjacency::next_edge(links, e);
     }
     found
 }
