@@ -1,30 +1,36 @@
 -- The solver goes along the edges out of a node and down its own list as the definition does.
-use mathlib.Core.Path.{_≡_, refl, sym, ap, _∙_}
+use mathlib.Core.Path.{_≡_, refl, sym, ap, subst, _∙_}
 use mathlib.Core.Bool.{Bool, true, false, cond}
 use mathlib.Core.List.{List, [], _∷_, _++_, foldl, map, foldl-append, append-nil}
-use Prim.Native.Nat.{ℕ, zero, suc, _+_, _-_, _<_, _≤_, min}
-use native.Mathlib.Nat.{add-zero, le-refl}
+use Prim.Native.Nat.{ℕ, zero, suc, _+_, _*_, _-_, _<_, _≤_, min}
+use native.Mathlib.Nat.{add-zero}
 use native.Mathlib.Omega.{arith}
 use borrow.Author.Tests.{eq-eqb, ne-eqb, lt-ltb, le-ltb}
-use lib.Dec.{eqb}
+use lib.Dec.{eqb, ltb}
 use lib.ListN.{length, getD, set, take}
 use Rattle.signs.specs.Lists.{tabulate, passing, indices}
 use Rattle.program.specs.Decoding.{decodedEntry}
 use Rattle.program.specs.Drawing.{edgeRead}
-use Rattle.program.specs.File.{sizes}
+use Rattle.program.specs.File.{wordAt, sizes}
 use Rattle.program.specs.Graph.{Graph, graph, actionOf}
 use Rattle.program.specs.Links.{sourceIn, Followable, Followed}
 use Rattle.program.specs.declared.EdgeBytes.{EdgeBytes}
+use Rattle.program.proofs.Lists.{getD-tabulate}
 use Rattle.program.proofs.Laws.{next-beyond, first-followed, next-followed}
 use Rattle.semantics.specs.Action.{meaning}
 use Rattle.semantics.specs.Step.{edgeAt, leaves}
 use Rattle.semantics.proofs.Laws.{drawn-leaves, drawn-target, drawn-action, linkable}
-use Rattle.analysis.specs.Changing.{ResultsIn}
+use Rattle.analysis.specs.Changing.{Alike, ResultsIn}
 use Rattle.analysis.specs.Judging.{ReadInto}
+use Rattle.analysis.specs.RecordParts.{padded}
+use Rattle.analysis.specs.Records.{recordWidth, recordAt, nodeOf, memoryOf}
+use Rattle.analysis.specs.Results.{results}
 use Rattle.analysis.specs.Solver.{Found, offer, offerResults, offerSuccessors, descend}
-use Rattle.analysis.specs.Solving.{along, Decoded}
+use Rattle.analysis.specs.Solving.{foundIn, along, Decoded}
 use Rattle.analysis.specs.declared.Changes.{Changes}
+use Rattle.analysis.specs.declared.solver.Progress.{Progress}
 use Rattle.analysis.proofs.Growing.{offer-full}
+use Rattle.analysis.proofs.Laid.{part-length, memory-part, memory-reads, node-reads}
 
 -- ---- Along an edge
 
@@ -135,3 +141,83 @@ module _ {edges : List ℕ} {count : ℕ} {ls : List ℕ} (w : Followable edges 
         let l : i < count = omega (arith, x .drawn .drawing .edge-count) in
         leaves-by i l ∙ ne-eqb (sourceIn edges i) node (λ q. omega (arith, linkable s edges _ count (x .drawn .drawing) .inside i l)))
         ∙ along-none f (graph s) node z)
+
+-- ---- Down the list
+
+-- record k as the code reads it
+module _ (ns : List ℕ) {names : ℕ} (e : length ns ≡ names) (bytes : List ℕ) (k : ℕ) where
+  pub record-read : (rho : List ℕ) → 2 + names ≤ 34 → (2 + names) * k + (2 + names) ≤ length bytes → rho ≡ padded bytes ((2 + names) * k + 2) names
+      → ReadInto (memoryOf ns (recordAt (2 + names) bytes k)) rho names
+  unfolding recordWidth Alike
+  record-read rho =
+      subst
+      (λ (n : ℕ). 2 + n ≤ 34 → (2 + n) * k + (2 + n) ≤ length bytes → rho ≡ padded bytes ((2 + n) * k + 2) n → ReadInto (memoryOf ns (recordAt (2 + n) bytes k)) rho n) e read
+    where
+      read : 2 + length ns ≤ 34 → (2 + length ns) * k + (2 + length ns) ≤ length bytes → rho ≡ padded bytes ((2 + length ns) * k + 2) (length ns)
+          → ReadInto (memoryOf ns (recordAt (2 + length ns) bytes k)) rho (length ns)
+      read few h p =
+          record {
+            sized = rw (memory-part ns bytes k) (part-length bytes ((2 + length ns) * k + 2) (length ns) (omega arith));
+            alike = λ x. memory-reads ns bytes k (omega arith) x ∙ ap (λ (l : List ℕ). getD l x 0) (sym p);
+          }
+
+  node-read : nodeOf (recordAt (2 + names) bytes k) ≡ wordAt bytes ((2 + names) * k)
+  unfolding recordWidth
+  node-read = subst (λ (n : ℕ). nodeOf (recordAt (2 + n) bytes k) ≡ wordAt bytes ((2 + n) * k)) e (node-reads ns bytes k)
+
+-- what follows it
+pub record-offered : (ns : List ℕ) {names : ℕ} → length ns ≡ names → (g : Graph) (buffer : List ℕ) (p : Progress) (k : ℕ) → k < p .count → (room : ℕ) {node : ℕ} → node ≡ wordAt buffer ((2 + names) * k)
+    → {f′ : Found} → f′ ≡ along (offerResults ns g room (memoryOf ns (recordAt (2 + names) buffer k))) g node (length (g .edges)) (foundIn (2 + names) buffer p)
+    → f′ ≡ offerSuccessors ns g room (getD (foundIn (2 + names) buffer p .records) k []) (foundIn (2 + names) buffer p)
+unfolding offerSuccessors along foundIn
+record-offered ns {names} e g buffer p k h room r q =
+    rw (getD-tabulate (p .count) (recordAt (2 + names) buffer) k [] h, node-read ns e buffer k, ← r) q
+
+module _ (ns : List ℕ) (g : Graph) (room : ℕ) where
+  -- a full list stays as it is
+  fold-full : {A : Type 0} (f : Found → A → Found) (z : Found) → ((x : A) → f z x ≡ z) → (xs : List A) → foldl f z xs ≡ z
+  fold-full f z h [] = refl
+  fold-full f z h (x ∷ xs) = ap (λ (v : Found). foldl f v xs) (h x) ∙ fold-full f z h xs
+
+  results-full : (ρ : List ℕ) (f : Found) → f .full ≡ true → (n : ℕ) → offerResults ns g room ρ f n ≡ f
+  unfolding offerResults
+  results-full ρ f e n = fold-full (offer ns room (edgeAt g n .target)) f (λ σ. offer-full ns room (edgeAt g n .target) f σ e) (results ρ (meaning (edgeAt g n .action)))
+
+  successors-full : (r : List ℕ) (f : Found) → f .full ≡ true → offerSuccessors ns g room r f ≡ f
+  unfolding offerSuccessors
+  successors-full r f e =
+      fold-full (offerResults ns g room (memoryOf ns r)) f (results-full (memoryOf ns r) f e) (passing (λ n. leaves g n (nodeOf r)) (indices (length (g .edges))))
+
+  descend-full : (turns k : ℕ) (f : Found) → f .full ≡ true → descend turns ns g room k f ≡ f
+  unfolding descend
+  descend-full zero k f e = refl
+  descend-full (suc turns) k f e = by (ap (descend turns ns g room (k + 1)) (successors-full (getD (f .records) k []) f e) ∙ descend-full turns (k + 1) f e) (ltb k (length (f .records)))
+    where
+      by : {rest : Found} → rest ≡ f → (b : Bool) → cond b rest f ≡ f
+      by p true = p
+      by p false = refl
+
+  descend-end : (turns k : ℕ) (f : Found) → length (f .records) ≤ k → descend turns ns g room k f ≡ f
+  unfolding descend
+  descend-end zero k f h = refl
+  descend-end (suc turns) k f h = rw (le-ltb k (length (f .records)) h)
+
+  descend-goes : (turns k : ℕ) (f : Found) → k < length (f .records) → descend (suc turns) ns g room k f ≡ descend turns ns g room (k + 1) (offerSuccessors ns g room (getD (f .records) k []) f)
+  unfolding descend
+  descend-goes turns k f h = rw (lt-ltb k (length (f .records)) h)
+
+  -- as the code goes: from the first record, one turn more, and no more turns
+  pub descended-start : (f : Found) → descend room ns g room 0 f ≡ descend (room - 0) ns g room 0 f
+  descended-start f = ap (λ (t : ℕ). descend t ns g room 0 f) (omega arith)
+
+  pub descended-more : (k : ℕ) (f : Found) {f′ d : Found} → k < length (f .records) → length (f .records) ≤ room → f′ ≡ offerSuccessors ns g room (getD (f .records) k []) f
+      → d ≡ descend (room - k) ns g room k f → d ≡ descend (room - (k + 1)) ns g room (k + 1) f′
+  descended-more k f h l p q =
+      let step : room - k ≡ suc (room - (k + 1)) = omega arith in
+      q ∙ ap (λ (t : ℕ). descend t ns g room k f) step ∙ descend-goes (room - (k + 1)) k f h ∙ ap (descend (room - (k + 1)) ns g room (k + 1)) (sym p)
+
+  pub descended-end : (k : ℕ) (f : Found) {d : Found} → length (f .records) ≤ k → d ≡ descend (room - k) ns g room k f → f ≡ d
+  descended-end k f h q = sym (q ∙ descend-end (room - k) k f h)
+
+  pub descended-full : (k : ℕ) (f : Found) {d : Found} → f .full ≡ true → d ≡ descend (room - k) ns g room k f → f ≡ d
+  descended-full k f h q = sym (q ∙ descend-full (room - k) k f h)

@@ -98,7 +98,7 @@ part-length bytes at names h = length-take-le names (drop at bytes) (omega (arit
 
 module _ (ns bytes : List ℕ) (k : ℕ) where
   -- the memory of record k of a solution, and its node
-  memory-part : memoryOf ns (recordAt (recordWidth ns) bytes k) ≡ take (length ns) (drop (recordWidth ns * k + 2) bytes)
+  pub memory-part : memoryOf ns (recordAt (recordWidth ns) bytes k) ≡ take (length ns) (drop (recordWidth ns * k + 2) bytes)
   unfolding memoryOf recordAt recordWidth
   memory-part = rw (part-taken 2 (length ns) (drop ((2 + length ns) * k) bytes), drop-drop, take-take (length ns) (length ns) _ (le-refl _))
 

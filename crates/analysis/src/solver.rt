@@ -1,9 +1,9 @@
 // A solution computed.
 
 ghost use mathlib.Core.Path.{_≡_};
-ghost use mathlib.Core.List.{List, foldl, map};
+ghost use mathlib.Core.List.{List, [], foldl, map};
 ghost use Prim.Native.Nat.{ℕ, _+_, _<_, _≤_};
-ghost use lib.ListN.{length, set, take};
+ghost use lib.ListN.{length, getD, set, take};
 ghost use Rattle.signs.specs.Grid;
 ghost use Rattle.program.specs.File;
 ghost use Rattle.program.specs.Graph;
@@ -18,6 +18,7 @@ use crate::lists;
 use crate::membership;
 use program::adjacency;
 use program::drawing;
+use program::file;
 
 // How far the list has come: how many records were found, and whether one had no room.
 struct Progress {
@@ -230,6 +231,96 @@ fn offer_successors(
             found,
         );
         e = adjacency::next_edge(links, e);
+    }
+    found
+}
+
+// What follows record k of the list, offered.
+fn offer_from(
+    entries: &[u16; 4096],
+    grids: &[[[u8; 3]; 3]; 5],
+    edges: &[u8],
+    links: &[u16; 384],
+    edge_count: u16,
+    factors: &[u16; 34],
+    heads: &mut [u16; 8192],
+    next: &mut [u16; 4096],
+    buffer: &mut [u8],
+    room: usize,
+    names: usize,
+    k: usize,
+    p: Progress,
+) -> Progress
+    requires { ⌜ parts.Growing (now factors) (2 + names) room (now buffer) (now heads) (now next) p × (k < p .count) ⌝ }
+    requires { ⌜ now grids ≡ Grid.grids ⌝ }
+    requires { ⌜ Links.Followable (now edges) «edge_count» (now links) ⌝ }
+    ensures { λ r. ⌜ parts.Extended (now (factors .entry)) (2 + names) room (now (buffer .entry)) p (now (buffer .exit)) (now (heads .exit)) (now (next .exit)) r ⌝ }
+    ensures { λ r. ⌜ ((s : List ℕ) → parts.Decoded s (now (edges .entry)) (now (entries .entry)) «edge_count» names
+        → parts.foundIn (2 + names) (now (buffer .exit)) r
+        ≡ spec.offerSuccessors (File.sizes s) (Graph.graph s) room (getD (parts.foundIn (2 + names) (now (buffer .entry)) p .records) k []) (parts.foundIn (2 + names) (now (buffer .entry)) p)) ⌝ }
+{
+    let at = (2 + names) * k;
+    let node = file::word_at(buffer, at);
+    let rho = lists::memory_at(buffer, at + 2, names);
+    offer_successors(
+        entries,
+        grids,
+        edges,
+        links,
+        edge_count,
+        factors,
+        heads,
+        next,
+        buffer,
+        room,
+        names,
+        &rho,
+        node,
+        p,
+    )
+}
+
+// Down the list: what follows each record is offered, until one has no room.
+fn descend(
+    entries: &[u16; 4096],
+    grids: &[[[u8; 3]; 3]; 5],
+    edges: &[u8],
+    links: &[u16; 384],
+    edge_count: u16,
+    factors: &[u16; 34],
+    heads: &mut [u16; 8192],
+    next: &mut [u16; 4096],
+    buffer: &mut [u8],
+    room: usize,
+    names: usize,
+    p: Progress,
+) -> Progress
+    requires { ⌜ parts.Growing (now factors) (2 + names) room (now buffer) (now heads) (now next) p ⌝ }
+    requires { ⌜ now grids ≡ Grid.grids ⌝ }
+    requires { ⌜ Links.Followable (now edges) «edge_count» (now links) ⌝ }
+    ensures { λ r. ⌜ parts.Extended (now (factors .entry)) (2 + names) room (now (buffer .entry)) p (now (buffer .exit)) (now (heads .exit)) (now (next .exit)) r ⌝ }
+    ensures { λ r. ⌜ ((s : List ℕ) → parts.Decoded s (now (edges .entry)) (now (entries .entry)) «edge_count» names
+        → parts.foundIn (2 + names) (now (buffer .exit)) r ≡ spec.descend room (File.sizes s) (Graph.graph s) room 0 (parts.foundIn (2 + names) (now (buffer .entry)) p)) ⌝ }
+{
+    let mut found = p;
+    let mut k: usize = 0;
+    while k < found.count && !found.full {
+        found = offer_from(
+            entries,
+            grids,
+            edges,
+            links,
+            edge_count,
+            factors,
+            heads,
+            next,
+            buffer,
+            room,
+            names,
+            k,
+            found,
+        );
+        k += 1;
     }
     found
 }
