@@ -14,5 +14,6 @@ pub mod Chains
 pub mod Among
 pub mod Growing
 pub mod Descending
+pub mod Answering
 pub mod ThirdTerm
 pub mod Examples
