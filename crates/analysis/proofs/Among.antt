@@ -95,11 +95,6 @@ listed-among ns width e bytes n room small node ρ low =
     subst (λ (w : ℕ). w * n ≤ length bytes → listed ns (tabulate n (recordAt w bytes)) node ρ ≡ among w bytes n (recordFor node ρ)) e
     (λ l. listed-first ns bytes n l (λ k i h j. small (recordWidth ns * k + i)) node ρ low) room
 
--- one record more
-pub among-more : (width : ℕ) (bytes : List ℕ) (n : ℕ) (r : List ℕ) → among width bytes (suc n) r ≡ (among width bytes n r || sameSigns (recordAt width bytes n) r)
-unfolding among anyBelow
-among-more width bytes n r = refl
-
 -- the first n records alone matter
 take-of-drop : (m n : ℕ) (l : List ℕ) → take m (drop n l) ≡ drop n (take (n + m) l)
 take-of-drop m zero l = rw (zero-add m)
@@ -113,10 +108,6 @@ module _ (width n : ℕ) (bytes bytes′ : List ℕ) (same : take (width * n) by
     where
       up : (l : List ℕ) → take width (drop (width * k) l) ≡ drop (width * k) (take (width * k + width) (take (width * n) l))
       up l = take-of-drop width (width * k) l ∙ ap (drop (width * k)) (sym (take-take (width * k + width) (width * n) l (record-inside width k n (width * n) h (omega arith))))
-
-  pub among-kept : (r : List ℕ) → among width bytes n r ≡ among width bytes′ n r
-  unfolding among
-  among-kept r = any-same _ _ n (λ k h. ap (λ (s : List ℕ). sameSigns s r) (record-kept k h))
 
   pub indexed-kept : (fs heads next : List ℕ) → width * n ≤ length bytes′ → Indexed fs width bytes n heads next → Indexed fs width bytes′ n heads next
   indexed-kept fs heads next room x =

@@ -8,12 +8,11 @@ use native.Mathlib.Nat.{mul-suc, mul-le-mul-left, le-refl}
 use native.Mathlib.Numerals.{add-one}
 use native.Mathlib.Omega.{arith}
 use borrow.Author.Tests.{lt-ltb, le-ltb}
-use lib.ListN.{length, getD, set, take, drop, length-append, length-drop, length-set}
+use lib.ListN.{length, getD, take, drop, length-append, length-drop}
 use lib.Seq.{length-take-le, take-suc, take-at, drop-at, drop-drop}
 use Rattle.signs.specs.Lists.{tabulate}
 use Rattle.program.specs.Drawing.{over}
 use Rattle.program.specs.DrawingParts.{overAt}
-use Rattle.program.specs.Graph.{wordBytes}
 use Rattle.program.proofs.Lists.{length-tabulate, tabulate-same}
 use Rattle.analysis.specs.Changing.{Alike}
 use Rattle.analysis.specs.Judging.{ReadInto}
@@ -25,7 +24,7 @@ use Rattle.analysis.specs.Solving.{foundIn, Growing, Extended}
 use Rattle.analysis.specs.declared.solver.Progress.{Progress}
 use Rattle.analysis.proofs.Among.{listed-among, record-kept, indexed-kept}
 use Rattle.analysis.proofs.Chains.{record-inside}
-use Rattle.analysis.proofs.Laid.{part-padded, part-length, record-taken, record-changed}
+use Rattle.analysis.proofs.Laid.{part-padded, part-length}
 
 -- ---- What offering does to a buffer
 
@@ -153,20 +152,6 @@ found-full width buffer p = refl
 pub found-none : (width : ℕ) (buffer : List ℕ) (p : Progress) → foundIn width buffer (record { count = p .count; full = true }) ≡ record { records = foundIn width buffer p .records; full = true }
 unfolding foundIn
 found-none width buffer p = refl
-
--- the record of an abstract memory, and of one with a name changed, is in front of the row that is made of its array
-module _ {ρ rho : List ℕ} {names : ℕ} (y : ReadInto ρ rho names) (few : 2 + names ≤ 34) (node : ℕ) (row : List ℕ) (long : length row ≡ 34) where
-  pub row-read : row ≡ wordBytes node ++ rho → take (2 + names) row ≡ recordFor node ρ
-  unfolding Alike wordBytes
-  row-read e =
-      ap (take (2 + names)) e ∙ ap (λ (n : ℕ). take (2 + n) (wordBytes node ++ rho)) (sym (y .sized))
-      ∙ record-taken node ρ rho (omega (arith, y .sized, long, ap length e), λ k l. y .alike k)
-
-  pub row-changed : (name signs : ℕ) → row ≡ set (wordBytes node ++ rho) (2 + name) signs → take (2 + names) row ≡ recordFor node (set ρ name signs)
-  unfolding Alike wordBytes
-  row-changed name signs e =
-      ap (take (2 + names)) e ∙ ap (λ (n : ℕ). take (2 + n) (set (wordBytes node ++ rho) (2 + name) signs)) (sym (y .sized))
-      ∙ record-changed node ρ rho (omega (arith, y .sized, long, ap length e, length-set (wordBytes node ++ rho) (2 + name) signs), λ k l. y .alike k) name signs
 
 -- a list of so many names has records of that width
 pub width-of : (ns : List ℕ) {names : ℕ} → length ns ≡ names → recordWidth ns ≡ 2 + names

@@ -23,6 +23,8 @@ use Rattle.program.proofs.Asking.{then-first, then-second}
 use Rattle.program.proofs.Laws.{ask-fit, each-fit, each-same, sizes-length, names-decoded}
 use Rattle.program.proofs.Lists.{length-tabulate, getD-tabulate}
 use Rattle.analysis.specs.Abstraction.{wellFormed}
+use Rattle.analysis.specs.Changing.{Alike}
+use Rattle.analysis.specs.Judging.{ReadInto}
 use Rattle.analysis.specs.RecordParts.{paddedByte, padded, SizesIn, recordFormed}
 use Rattle.analysis.specs.Records.{initialWidth, recordWidth, recordCount, recordAt, nodeOf, memoryOf, recordFor, memoryFormed, initialFormed, solutionFormed}
 
@@ -143,7 +145,7 @@ set-past [] ys i a = rw zero-add
 set-past (x ∷ xs) ys i a = rw (suc-add (length xs) i) (ap (λ l. x ∷ l) (set-past xs ys i a))
 
 -- the record of an abstract memory is in front of the array's
-pub record-taken : (node : ℕ) (ρ rho : List ℕ) → Front ρ rho → take (2 + length ρ) (wordBytes node ++ rho) ≡ recordFor node ρ
+record-taken : (node : ℕ) (ρ rho : List ℕ) → Front ρ rho → take (2 + length ρ) (wordBytes node ++ rho) ≡ recordFor node ρ
 unfolding recordFor wordBytes
 record-taken node ρ rho h =
     let long = length-take-le (length ρ) rho (h .0) in
@@ -151,12 +153,26 @@ record-taken node ρ rho h =
     ∙ ap (λ l. wordBytes node ++ l) (ext-getD 0 (take (length ρ) rho) ρ long (λ x l. getD-take (length ρ) rho x 0 (omega arith) ∙ sym (h .1 x (omega arith))))
 
 -- also where a name has another set; where there is no such name, both are unchanged
-pub record-changed : (node : ℕ) (ρ rho : List ℕ) → Front ρ rho → (x b : ℕ) → take (2 + length ρ) (set (wordBytes node ++ rho) (2 + x) b) ≡ recordFor node (set ρ x b)
+record-changed : (node : ℕ) (ρ rho : List ℕ) → Front ρ rho → (x b : ℕ) → take (2 + length ρ) (set (wordBytes node ++ rho) (2 + x) b) ≡ recordFor node (set ρ x b)
 unfolding wordBytes
 record-changed node ρ rho h x b =
     ap (take (2 + length ρ)) (set-past (wordBytes node) rho x b)
     ∙ ap (λ (n : ℕ). take (2 + n) (wordBytes node ++ set rho x b)) (sym (length-set ρ x b))
     ∙ record-taken node (set ρ x b) (set rho x b) (front-changed ρ rho x b h)
+
+-- the record of an abstract memory, and of one with a name changed, is in front of the row that is made of its array
+module _ {ρ rho : List ℕ} {names : ℕ} (y : ReadInto ρ rho names) (few : 2 + names ≤ 34) (node : ℕ) (row : List ℕ) (long : length row ≡ 34) where
+  pub row-read : row ≡ wordBytes node ++ rho → take (2 + names) row ≡ recordFor node ρ
+  unfolding Alike wordBytes
+  row-read e =
+      ap (take (2 + names)) e ∙ ap (λ (n : ℕ). take (2 + n) (wordBytes node ++ rho)) (sym (y .sized))
+      ∙ record-taken node ρ rho (omega (arith, y .sized, long, ap length e), λ k l. y .alike k)
+
+  pub row-changed : (name signs : ℕ) → row ≡ set (wordBytes node ++ rho) (2 + name) signs → take (2 + names) row ≡ recordFor node (set ρ name signs)
+  unfolding Alike wordBytes
+  row-changed name signs e =
+      ap (take (2 + names)) e ∙ ap (λ (n : ℕ). take (2 + n) (set (wordBytes node ++ rho) (2 + name) signs)) (sym (y .sized))
+      ∙ record-changed node ρ rho (omega (arith, y .sized, long, ap length e, length-set (wordBytes node ++ rho) (2 + name) signs), λ k l. y .alike k) name signs
 
 -- ---- What question 17 says of a list where it is answered yes
 

@@ -4,7 +4,7 @@ use mathlib.Core.Bool.{Bool, true, false, not, _||_, false≢true}
 use mathlib.Core.List.{List, [], _∷_, _++_, map}
 use Prim.Native.Nat.{ℕ, zero, suc, _+_, _*_, _<_, _≤_}
 use native.Mathlib.Omega.{arith}
-use lib.ListN.{length, getD, set, take, length-set}
+use lib.ListN.{length, getD, set, take}
 use lib.Seq.{take-suc, set-getD}
 use Rattle.signs.specs.Lists.{anyOf}
 use Rattle.signs.proofs.Lists.{anyOf-append, anyOf-map}
@@ -34,14 +34,14 @@ use Rattle.analysis.specs.declared.judging.Query.{Query}
 use Rattle.analysis.specs.declared.judging.Query.the-variants.{MissingResult, NegativeIndex}
 use Rattle.analysis.proofs.Alike.{negative-alike}
 use Rattle.analysis.proofs.Among.{has-among}
-use Rattle.analysis.proofs.Laid.{record-changed, start-reads, start-length, memory-reads, memory-length, node-reads, node-formed}
+use Rattle.analysis.proofs.Laid.{row-changed, start-reads, start-length, memory-reads, memory-length, node-reads, node-formed}
 
 -- what the index says of an abstract memory with one name changed, as the code asks it
 pub has-found : (ns : List ℕ) (names count : ℕ) (solution fs heads next : List ℕ) → Searchable ns names count solution fs heads next
     → ((i : ℕ) → getD solution i 0 < 256) → (node : ℕ) → node < 65536 → (ρ rho : List ℕ) → ReadInto ρ rho names → names ≤ 32 → (name signs : ℕ)
     → (row : List ℕ) → row ≡ set (wordBytes node ++ rho) (2 + name) signs → length row ≡ 34
     → among (2 + names) solution count (take (2 + names) row) ≡ hasAt ns solution node (set ρ name signs)
-unfolding recordWidth Alike wordBytes
+unfolding recordWidth
 has-found ns names count solution fs heads next x small node low ρ rho y few name signs row e long =
     ap (among (2 + names) solution count) taken
     ∙ ap (λ (n : ℕ). among (2 + n) solution count (recordFor node (set ρ name signs))) (sym (x .names-are))
@@ -52,13 +52,8 @@ has-found ns names count solution fs heads next x small node low ρ rho y few na
     whole : (2 + length ns) * count ≡ (2 + names) * count
     whole = ap (λ (n : ℕ). (2 + n) * count) (x .names-are)
 
-    room : length rho ≡ 32
-    room = omega (arith, long, ap length e, length-set (wordBytes node ++ rho) (2 + name) signs)
-
     taken : take (2 + names) row ≡ recordFor node (set ρ name signs)
-    taken =
-        ap (take (2 + names)) e ∙ ap (λ (n : ℕ). take (2 + n) (set (wordBytes node ++ rho) (2 + name) signs)) (sym (y .sized))
-        ∙ record-changed node ρ rho (omega (arith, y .sized, room), λ k l. y .alike k) name signs
+    taken = row-changed y (omega arith) node row long name signs e
 
 -- a test of the elements of a list, one by one
 any-more : (q : ℕ → Bool) (xs : List ℕ) (j : ℕ) → j < length xs → anyOf q (take j xs) ≡ false → q (getD xs j 0) ≡ false → anyOf q (take (suc j) xs) ≡ false

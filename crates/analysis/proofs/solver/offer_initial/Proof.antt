@@ -12,8 +12,8 @@ use Rattle.signs.specs.Lists.{tabulate}
 use Rattle.analysis.specs.Records.{recordAt}
 use Rattle.analysis.specs.Solver.{offer}
 use Rattle.analysis.specs.Solving.{foundIn, Extended}
-use Rattle.analysis.proofs.Growing.{extended-none, extended-more, row-read, width-of, tabulated-more, start-read, starts-all}
-use Rattle.analysis.proofs.Laid.{record-inside}
+use Rattle.analysis.proofs.Growing.{extended-none, extended-more, width-of, tabulated-more, start-read, starts-all}
+use Rattle.analysis.proofs.Laid.{row-read, record-inside}
 use Rattle.analysis.proofs.solver.offer_initial.Statement.{statement}
 use Rattle.analysis.proofs.solver.offer_initial.Tie as tie
 

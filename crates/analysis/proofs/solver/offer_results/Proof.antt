@@ -10,7 +10,8 @@ use lib.Seq.{length-take-le}
 use Rattle.analysis.specs.Judging.{ReadInto}
 use Rattle.analysis.specs.Solver.{offer}
 use Rattle.analysis.specs.Solving.{foundIn, Extended}
-use Rattle.analysis.proofs.Growing.{extended-none, extended-more, row-changed, width-of, results-more}
+use Rattle.analysis.proofs.Growing.{extended-none, extended-more, width-of, results-more}
+use Rattle.analysis.proofs.Laid.{row-changed}
 use Rattle.analysis.proofs.solver.offer_results.Statement.{statement}
 use Rattle.analysis.proofs.solver.offer_results.Tie as tie
 
