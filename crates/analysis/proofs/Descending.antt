@@ -1,5 +1,5 @@
 -- The solver goes along the edges out of a node and down its own list as the definition does.
-use mathlib.Core.Path.{_≡_, refl, sym, ap, subst, _∙_}
+use mathlib.Core.Path.{_≡_, refl, sym, ap, _∙_}
 use mathlib.Core.Bool.{Bool, true, false, cond}
 use mathlib.Core.List.{List, [], _∷_, _++_, foldl, map, foldl-append, append-nil}
 use Prim.Native.Nat.{ℕ, zero, suc, _+_, _*_, _-_, _<_, _≤_, min}
@@ -20,17 +20,16 @@ use Rattle.program.proofs.Laws.{next-beyond, first-followed, next-followed}
 use Rattle.semantics.specs.Action.{meaning}
 use Rattle.semantics.specs.Step.{edgeAt, leaves}
 use Rattle.semantics.proofs.Laws.{drawn-leaves, drawn-target, drawn-action, linkable}
-use Rattle.analysis.specs.Changing.{Alike, ResultsIn}
+use Rattle.analysis.specs.Changing.{ResultsIn}
 use Rattle.analysis.specs.Judging.{ReadInto}
-use Rattle.analysis.specs.RecordParts.{padded}
-use Rattle.analysis.specs.Records.{recordWidth, recordAt, nodeOf, memoryOf}
+use Rattle.analysis.specs.Records.{recordAt, nodeOf, memoryOf}
 use Rattle.analysis.specs.Results.{results}
 use Rattle.analysis.specs.Solver.{Found, offer, offerResults, offerSuccessors, descend}
 use Rattle.analysis.specs.Solving.{foundIn, along, Decoded}
 use Rattle.analysis.specs.declared.Changes.{Changes}
 use Rattle.analysis.specs.declared.solver.Progress.{Progress}
 use Rattle.analysis.proofs.Growing.{offer-full}
-use Rattle.analysis.proofs.Laid.{part-length, memory-part, memory-reads, node-reads}
+use Rattle.analysis.proofs.Laid.{node-reads}
 
 -- ---- Along an edge
 
@@ -144,34 +143,13 @@ module _ {edges : List ℕ} {count : ℕ} {ls : List ℕ} (w : Followable edges 
 
 -- ---- Down the list
 
--- record k as the code reads it
-module _ (ns : List ℕ) {names : ℕ} (e : length ns ≡ names) (bytes : List ℕ) (k : ℕ) where
-  pub record-read : (rho : List ℕ) → 2 + names ≤ 34 → (2 + names) * k + (2 + names) ≤ length bytes → rho ≡ padded bytes ((2 + names) * k + 2) names
-      → ReadInto (memoryOf ns (recordAt (2 + names) bytes k)) rho names
-  unfolding recordWidth Alike
-  record-read rho =
-      subst
-      (λ (n : ℕ). 2 + n ≤ 34 → (2 + n) * k + (2 + n) ≤ length bytes → rho ≡ padded bytes ((2 + n) * k + 2) n → ReadInto (memoryOf ns (recordAt (2 + n) bytes k)) rho n) e read
-    where
-      read : 2 + length ns ≤ 34 → (2 + length ns) * k + (2 + length ns) ≤ length bytes → rho ≡ padded bytes ((2 + length ns) * k + 2) (length ns)
-          → ReadInto (memoryOf ns (recordAt (2 + length ns) bytes k)) rho (length ns)
-      read few h p =
-          record {
-            sized = rw (memory-part ns bytes k) (part-length bytes ((2 + length ns) * k + 2) (length ns) (omega arith));
-            alike = λ x. memory-reads ns bytes k (omega arith) x ∙ ap (λ (l : List ℕ). getD l x 0) (sym p);
-          }
-
-  node-read : nodeOf (recordAt (2 + names) bytes k) ≡ wordAt bytes ((2 + names) * k)
-  unfolding recordWidth
-  node-read = subst (λ (n : ℕ). nodeOf (recordAt (2 + n) bytes k) ≡ wordAt bytes ((2 + n) * k)) e (node-reads ns bytes k)
-
--- what follows it
-pub record-offered : (ns : List ℕ) {names : ℕ} → length ns ≡ names → (g : Graph) (buffer : List ℕ) (p : Progress) (k : ℕ) → k < p .count → (room : ℕ) {node : ℕ} → node ≡ wordAt buffer ((2 + names) * k)
+-- what follows record k
+pub record-offered : (ns : List ℕ) (names : ℕ) (g : Graph) (buffer : List ℕ) (p : Progress) (k : ℕ) → k < p .count → (room : ℕ) {node : ℕ} → node ≡ wordAt buffer ((2 + names) * k)
     → {f′ : Found} → f′ ≡ along (offerResults ns g room (memoryOf ns (recordAt (2 + names) buffer k))) g node (length (g .edges)) (foundIn (2 + names) buffer p)
     → f′ ≡ offerSuccessors ns g room (getD (foundIn (2 + names) buffer p .records) k []) (foundIn (2 + names) buffer p)
 unfolding offerSuccessors along foundIn
-record-offered ns {names} e g buffer p k h room r q =
-    rw (getD-tabulate (p .count) (recordAt (2 + names) buffer) k [] h, node-read ns e buffer k, ← r) q
+record-offered ns names g buffer p k h room r q =
+    rw (getD-tabulate (p .count) (recordAt (2 + names) buffer) k [] h, node-reads buffer k names, ← r) q
 
 module _ (ns : List ℕ) (g : Graph) (room : ℕ) where
   -- a full list stays as it is

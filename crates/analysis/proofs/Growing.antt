@@ -14,17 +14,13 @@ use Rattle.signs.specs.Lists.{tabulate}
 use Rattle.program.specs.Drawing.{over}
 use Rattle.program.specs.DrawingParts.{overAt}
 use Rattle.program.proofs.Lists.{length-tabulate, tabulate-same}
-use Rattle.analysis.specs.Changing.{Alike}
-use Rattle.analysis.specs.Judging.{ReadInto}
 use Rattle.analysis.specs.Membership.{among, bucket, Indexed}
-use Rattle.analysis.specs.RecordParts.{padded}
 use Rattle.analysis.specs.Records.{initialWidth, recordWidth, recordCount, recordAt, recordsOf, recordFor, listed}
 use Rattle.analysis.specs.Solver.{Found, offer}
 use Rattle.analysis.specs.Solving.{foundIn, Growing, Extended}
 use Rattle.analysis.specs.declared.solver.Progress.{Progress}
 use Rattle.analysis.proofs.Among.{listed-among, record-kept, indexed-kept}
 use Rattle.analysis.proofs.Chains.{record-inside}
-use Rattle.analysis.proofs.Laid.{part-padded, part-length}
 
 -- ---- What offering does to a buffer
 
@@ -170,12 +166,7 @@ module _ {A : Type 0} (f : Found → A → Found) (z : Found) where
   unfolding tabulate
   tabulated-more g k p q = rw (foldl-append f z (tabulate k g) (g k ∷ []), ← q) p
 
--- record k of a start list as the code reads it, and all of them
-pub start-read : (bytes : List ℕ) (names k : ℕ) (rho : List ℕ) → 2 + names ≤ 34 → names * k + names ≤ length bytes → rho ≡ padded bytes (names * k) names → ReadInto (recordAt names bytes k) rho names
-unfolding Alike recordAt
-start-read bytes names k rho few h e =
-    record { sized = part-length bytes (names * k) names h; alike = λ x. part-padded bytes (names * k) names (omega arith) x ∙ ap (λ (l : List ℕ). getD l x 0) (sym e) }
-
+-- all records of a start list
 pub starts-all : (ns : List ℕ) {names : ℕ} → length ns ≡ names → (bytes : List ℕ) (room : ℕ) (x : Found) {y : Found}
     → y ≡ foldl (offer ns room 0) x (tabulate (length bytes / names) (recordAt names bytes)) → y ≡ foldl (offer ns room 0) x (recordsOf (initialWidth ns) bytes)
 unfolding recordsOf recordCount initialWidth

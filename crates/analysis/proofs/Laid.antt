@@ -76,7 +76,7 @@ part-at : (bytes : List ℕ) (at n i : ℕ) → i < n → getD (take n (drop at 
 part-at bytes at n i h = getD-take n (drop at bytes) i 0 h ∙ getD-drop at bytes i 0
 
 -- it reads like the array that its bytes are read into
-pub part-padded : (bytes : List ℕ) (at names : ℕ) → names ≤ 32 → (x : ℕ) → getD (take names (drop at bytes)) x 0 ≡ getD (padded bytes at names) x 0
+part-padded : (bytes : List ℕ) (at names : ℕ) → names ≤ 32 → (x : ℕ) → getD (take names (drop at bytes)) x 0 ≡ getD (padded bytes at names) x 0
 unfolding padded paddedByte byteAt
 part-padded bytes at names few x =
     let byte = paddedByte bytes at names in
@@ -95,34 +95,26 @@ pub padded-length : (bytes : List ℕ) (at names : ℕ) → length (padded bytes
 unfolding padded
 padded-length bytes at names = length-tabulate 32 (paddedByte bytes at names)
 
-pub part-length : (bytes : List ℕ) (at names : ℕ) → at + names ≤ length bytes → length (take names (drop at bytes)) ≡ names
+part-length : (bytes : List ℕ) (at names : ℕ) → at + names ≤ length bytes → length (take names (drop at bytes)) ≡ names
 part-length bytes at names h = length-take-le names (drop at bytes) (omega (arith, length-drop at bytes))
 
-module _ (ns bytes : List ℕ) (k : ℕ) where
-  -- the memory of record k of a solution, and its node
-  pub memory-part : memoryOf ns (recordAt (recordWidth ns) bytes k) ≡ take (length ns) (drop (recordWidth ns * k + 2) bytes)
-  unfolding memoryOf recordAt recordWidth
-  memory-part = rw (part-taken 2 (length ns) (drop ((2 + length ns) * k) bytes), drop-drop, take-take (length ns) (length ns) _ (le-refl _))
+-- so record k of a start list of so many names, and the memory and the node of record k of a solution, are read into an array
+module _ (bytes : List ℕ) (k names : ℕ) where
+  pub start-reads : names ≤ 32 → names * k + names ≤ length bytes → (rho : List ℕ) → rho ≡ padded bytes (names * k) names → ReadInto (recordAt names bytes k) rho names
+  unfolding recordAt Alike
+  start-reads few h rho p = record { sized = part-length bytes (names * k) names h; alike = λ x. part-padded bytes (names * k) names few x ∙ ap (λ (l : List ℕ). getD l x 0) (sym p) }
 
-  pub memory-reads : length ns ≤ 32 → (x : ℕ) → getD (memoryOf ns (recordAt (recordWidth ns) bytes k)) x 0 ≡ getD (padded bytes (recordWidth ns * k + 2) (length ns)) x 0
-  memory-reads few x = rw memory-part (part-padded bytes (recordWidth ns * k + 2) (length ns) few x)
+  pub memory-reads : (ns : List ℕ) → length ns ≡ names → names ≤ 32 → (2 + names) * k + (2 + names) ≤ length bytes → (rho : List ℕ) → rho ≡ padded bytes ((2 + names) * k + 2) names
+      → ReadInto (memoryOf ns (recordAt (2 + names) bytes k)) rho names
+  unfolding memoryOf recordAt Alike
+  memory-reads ns e few h rho p =
+      let at = (2 + names) * k + 2 in
+      rw (e, part-taken 2 names (drop ((2 + names) * k) bytes), drop-drop, take-take names names (drop at bytes) (le-refl _))
+      (record { sized = part-length bytes at names (omega arith); alike = λ x. part-padded bytes at names few x ∙ ap (λ (l : List ℕ). getD l x 0) (sym p) })
 
-  pub memory-length : k < recordCount (recordWidth ns) bytes → length (memoryOf ns (recordAt (recordWidth ns) bytes k)) ≡ length ns
-  unfolding recordCount recordWidth
-  memory-length h = rw memory-part (part-length bytes ((2 + length ns) * k + 2) (length ns) (omega (arith, record-inside (length bytes) (2 + length ns) k h)))
-
-  pub node-reads : nodeOf (recordAt (recordWidth ns) bytes k) ≡ wordAt bytes (recordWidth ns * k)
-  unfolding nodeOf recordAt recordWidth wordAt byteAt
-  node-reads = let at = (2 + length ns) * k in rw (part-at bytes at (2 + length ns) 0 (omega arith), part-at bytes at (2 + length ns) 1 (omega arith), add-zero)
-
-  -- record k of a start list
-  pub start-reads : length ns ≤ 32 → (x : ℕ) → getD (recordAt (initialWidth ns) bytes k) x 0 ≡ getD (padded bytes (initialWidth ns * k) (length ns)) x 0
-  unfolding recordAt initialWidth
-  start-reads few x = part-padded bytes (length ns * k) (length ns) few x
-
-  pub start-length : k < recordCount (initialWidth ns) bytes → length (recordAt (initialWidth ns) bytes k) ≡ length ns
-  unfolding recordCount recordAt initialWidth
-  start-length h = part-length bytes _ (length ns) (record-inside (length bytes) (length ns) k h)
+  pub node-reads : nodeOf (recordAt (2 + names) bytes k) ≡ wordAt bytes ((2 + names) * k)
+  unfolding nodeOf recordAt wordAt byteAt
+  node-reads = let at = (2 + names) * k in rw (part-at bytes at (2 + names) 0 (omega arith), part-at bytes at (2 + names) 1 (omega arith), add-zero)
 
 -- ---- Records as they are written
 

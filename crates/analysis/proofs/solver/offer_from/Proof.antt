@@ -4,7 +4,8 @@ use Prim.Native.Nat.{_+_, _*_, _≤_}
 use native.Mathlib.Omega.{arith}
 use lib.ListN.{length}
 use Rattle.analysis.proofs.Chains.{record-inside}
-use Rattle.analysis.proofs.Descending.{record-read, record-offered}
+use Rattle.analysis.proofs.Descending.{record-offered}
+use Rattle.analysis.proofs.Laid.{memory-reads}
 use Rattle.analysis.proofs.solver.offer_from.Statement.{statement}
 use Rattle.analysis.proofs.solver.offer_from.Tie as tie
 
@@ -33,8 +34,8 @@ returns c =
     let s = i .before .before in (
       o .offer-successors .ensures .0,
       λ p x.
-          record-offered _ (x .names-are) _ _ _ (s .args .k) (s .pre .0 .1) _ (w .word-at .ensures)
-          (o .offer-successors .ensures .1 p _ x (record-read _ (x .names-are) _ (s .args .k) _ (s .pre .0 .0 .wide) (inside i) (m .memory-at .ensures))),
+          record-offered _ _ _ _ _ (s .args .k) (s .pre .0 .1) _ (w .word-at .ensures)
+          (o .offer-successors .ensures .1 p _ x (memory-reads _ (s .args .k) _ _ (x .names-are) (omega (arith, s .pre .0 .0 .wide)) (inside i) _ (m .memory-at .ensures))),
     )
 
 pub offer-from-spec : {M : Type 1} → statement M

@@ -12,8 +12,8 @@ use Rattle.signs.specs.Lists.{tabulate}
 use Rattle.analysis.specs.Records.{recordAt}
 use Rattle.analysis.specs.Solver.{offer}
 use Rattle.analysis.specs.Solving.{foundIn, Extended}
-use Rattle.analysis.proofs.Growing.{extended-none, extended-more, width-of, tabulated-more, start-read, starts-all}
-use Rattle.analysis.proofs.Laid.{row-read, record-inside}
+use Rattle.analysis.proofs.Growing.{extended-none, extended-more, width-of, tabulated-more, starts-all}
+use Rattle.analysis.proofs.Laid.{row-read, start-reads, record-inside}
 use Rattle.analysis.proofs.solver.offer_initial.Statement.{statement}
 use Rattle.analysis.proofs.solver.offer_initial.Tie as tie
 
@@ -71,7 +71,7 @@ loop-again c =
       λ ns e. rw add-one
           (tabulated-more _ _ _ (l .k)
           (o .offer .ensures .1 ns 0 _ (omega arith) (width-of ns e)
-          (row-read (start-read _ _ (l .k) _ (l .inv .1 .growing .wide) (inside t) (r .before .before .memory-at .ensures)) (l .inv .1 .growing .wide) 0 _ (long r) (r .record-for .ensures)))
+          (row-read (start-reads _ (l .k) _ (omega (arith, l .inv .1 .growing .wide)) (inside t) _ (r .before .before .memory-at .ensures)) (l .inv .1 .growing .wide) 0 _ (long r) (r .record-for .ensures)))
           (l .inv .2 ns e)),
     )
 
