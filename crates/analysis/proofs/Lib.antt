@@ -2,6 +2,7 @@ pub mod Open
 pub mod Tabulated
 pub mod Laid
 pub mod Searching
+pub mod Judged
 pub mod Values
 pub mod Negative
 pub mod Meanings

@@ -29,7 +29,7 @@ use Rattle.semantics.specs.declared.Effect.the-variants.{Undefined as Fails, Un
 use Rattle.semantics.proofs.Laws.{memory-fit, leaves-below, taken-takable, taken-step, untaken-step, along-length, lowest-found, run-ends, budgeted-run, refused-run, action-named}
 use Rattle.semantics.proofs.Named.{meaningNamed}
 use Rattle.analysis.specs.Abstraction.{abstractMemory}
-use Rattle.analysis.specs.Soundness.{isNegativeIndex, meetsInCall, meetsInEffect, hasConfiguration, noEdgeMeets, Sound, ThirdTerm}
+use Rattle.analysis.specs.Soundness.{isNegativeIndex, meetsInCall, meetsInEffect, hasConfiguration, noEdgeMeets, Sound, ThirdTermFor, ThirdTerm}
 use Rattle.analysis.specs.Verdict.{judged, verdict}
 use Rattle.analysis.specs.declared.Mark.{Mark}
 use Rattle.analysis.specs.declared.Mark.the-variants.{Clean}
@@ -139,7 +139,7 @@ module _ (ns : List ℕ) (g : Graph) (named : (e : ℕ) → e < length (g .edges
 
 -- the third term of a program file
 pub third-term : (s initial solution : List ℕ) → ThirdTerm s initial solution
-unfolding ThirdTerm verdict edges edgeCount edgeAt
+unfolding ThirdTerm ThirdTermFor verdict edges edgeCount edgeAt
 third-term s initial solution mark e =
     let fit = not-refused-accepted (validity s) (judged (sizes s) (graph s) initial solution) mark e in
     sound (sizes s) (graph s) (λ k h. edge-faithful s (fit .0) k _ h .named) initial solution mark

@@ -1,8 +1,8 @@
 -- What the functions that judge a solution promise each other. No public contract cites these.
 use mathlib.Core.Path.{_≡_}
-use mathlib.Core.Bool.{Bool, not, _&&_}
+use mathlib.Core.Bool.{Bool, true, not, _&&_}
 use mathlib.Core.List.{List}
-use Prim.Native.Nat.{ℕ, _+_, _≤_}
+use Prim.Native.Nat.{ℕ, _+_, _≤_, _<_}
 use lib.ListN.{length}
 use Rattle.signs.specs.Lists.{anyOf}
 use Rattle.program.specs.Decoding.{decodedEntries}
@@ -14,13 +14,16 @@ use Rattle.program.specs.declared.Validity.the-variants.{Fit}
 use Rattle.semantics.specs.Action.{meaning}
 use Rattle.semantics.specs.Running.{DrawnEdges}
 use Rattle.semantics.specs.Step.{edgeAt, leaves}
+use Rattle.semantics.specs.Stepping.{DrawnInto}
 use Rattle.analysis.specs.Changing.{Alike}
 use Rattle.analysis.specs.Index.{mayBeNegative}
 use Rattle.analysis.specs.Membership.{Indexed}
-use Rattle.analysis.specs.Records.{recordWidth, recordCount, recordAt, nodeOf, memoryOf, hasAt, solutionFormed}
+use Rattle.analysis.specs.Records.{recordWidth, recordCount, recordAt, nodeOf, memoryOf, hasAt, wholeRecords, initialFormed, solutionFormed}
 use Rattle.analysis.specs.Results.{results}
-use Rattle.analysis.specs.Verdict.{spotAt}
+use Rattle.analysis.specs.Verdict.{missingInitial, spotAt, missingResult, indexMark, verdictBy, unlessMalformed}
+use Rattle.analysis.specs.declared.Records.the-variants.{Initial, Solution}
 use Rattle.analysis.specs.declared.Spot.{Spot}
+use Rattle.analysis.specs.declared.Verdict.{Verdict}
 use Rattle.analysis.specs.declared.judging.Query.{Query}
 use Rattle.analysis.specs.declared.judging.Query.the-variants.{MissingResult, NegativeIndex}
 
@@ -70,3 +73,36 @@ pub record Searched (s edges entries : List ℕ) (edge-count names count : ℕ) 
 pub record ReadInto (ρ rho : List ℕ) (names : ℕ) : Type 0 where
   pub sized : length ρ ≡ names
   pub alike : Alike ρ rho
+
+-- the names of a well-formed program whose graph was drawn
+pub record DrawnNames (s edges : List ℕ) (edge-count names : ℕ) : Type 0 where
+  pub drawn : DrawnEdges s edges edge-count
+  pub names-are : length (sizes s) ≡ names
+  pub some : 0 < names
+  pub few : names ≤ 32
+
+-- with a solution of which 16 and 17 were answered yes
+pub record Readable (s edges : List ℕ) (edge-count names : ℕ) (solution : List ℕ) : Type 0 where
+  pub named : DrawnNames s edges edge-count names
+  pub whole : wholeRecords (2 + names) solution ≡ true
+  pub formed : solutionFormed (sizes s) (graph s) solution ≡ Fit
+
+-- the verdict on two lists of whole, well-formed records
+unfoldable pub found : List ℕ → List ℕ → List ℕ → Verdict
+found s initial solution =
+    verdictBy (missingInitial (sizes s) initial solution) (missingResult (sizes s) (graph s) solution) (indexMark (sizes s) (graph s) solution)
+
+-- 17 of both lists before it
+unfoldable pub foundFormed : List ℕ → List ℕ → List ℕ → Verdict
+foundFormed s initial solution =
+    unlessMalformed Initial (initialFormed (sizes s) initial)
+    (unlessMalformed Solution (solutionFormed (sizes s) (graph s) solution) (found s initial solution))
+
+-- a program whose graph was drawn, and two lists of which 16 was answered yes
+pub record Whole (s edges : List ℕ) (nodes edge-count names : ℕ) (initial solution : List ℕ) : Type 0 where
+  pub drawing : DrawnInto s edges nodes edge-count
+  pub names-are : length (sizes s) ≡ names
+  pub some : 0 < names
+  pub few : names ≤ 32
+  pub initial-whole : wholeRecords names initial ≡ true
+  pub solution-whole : wholeRecords (2 + names) solution ≡ true

@@ -23,6 +23,7 @@ use Rattle.analysis.specs.Records.{hasAt, hasInitial}
 use Rattle.analysis.specs.Verdict.{verdict}
 use Rattle.analysis.specs.declared.Mark.{Mark}
 use Rattle.analysis.specs.declared.Mark.the-variants.{Clean}
+use Rattle.analysis.specs.declared.Verdict.{Verdict}
 use Rattle.analysis.specs.declared.Verdict.the-variants.{Accepted}
 
 -- "To meet an index below zero is to be undefined for reason 34.": of a fault, of a call's answer, of an effect
@@ -67,7 +68,12 @@ Sound ns g initial solution mark =
     (calls : List ℕ) (budget : ℕ) →
     Kept ns g solution mark m calls budget
 
--- the third term, of a program file, a start list and a solution: "For any accepted sheet and any list of step calls whatever"
+-- the third term for an answer to a program file, a start list and a solution: where the answer is that the solution is accepted, with a mark, all that
+-- is so kept. "For any accepted sheet and any list of step calls whatever"
+unfoldable pub ThirdTermFor : List ℕ → List ℕ → List ℕ → Verdict → Type 0
+ThirdTermFor s initial solution answer =
+    (mark : Mark) → answer ≡ Accepted mark → Sound (sizes s) (graph s) initial solution mark
+
+-- the third term: for the verdict
 unfoldable pub ThirdTerm : List ℕ → List ℕ → List ℕ → Type 0
-ThirdTerm s initial solution =
-    (mark : Mark) → verdict s initial solution ≡ Accepted mark → Sound (sizes s) (graph s) initial solution mark
+ThirdTerm s initial solution = ThirdTermFor s initial solution (verdict s initial solution)

@@ -4,6 +4,7 @@ use mathlib.Core.Bool.{Bool, true, false, not, _&&_}
 use mathlib.Core.List.{List, [], _∷_}
 use lib.ListN.{length}
 use Rattle.signs.specs.Lists.{anyOf}
+use Rattle.program.specs.Asking.{askPlain, thenAsk}
 use Rattle.program.specs.File.{sizes}
 use Rattle.program.specs.FirstSuch.{firstOf, firstSuch}
 use Rattle.program.specs.Graph.{Graph, graph}
@@ -15,10 +16,12 @@ use Rattle.program.specs.declared.Validity.the-variants.{Fit, Refused}
 use Rattle.semantics.specs.Action.{meaning}
 use Rattle.semantics.specs.Step.{edgeAt, leaves}
 use Rattle.analysis.specs.Index.{mayBeNegative}
-use Rattle.analysis.specs.Records.{initialWidth, recordWidth, recordCount, recordAt, nodeOf, memoryOf, hasAt, bothWhole, initialFormed, solutionFormed, wrongByte, wrongByteNumbers}
+use Rattle.analysis.specs.Records.{initialWidth, recordWidth, recordCount, recordAt, nodeOf, memoryOf, hasAt, wholeRecords, bothWhole, initialFormed, solutionFormed, wrongByte, wrongByteNumbers}
 use Rattle.analysis.specs.Results.{results}
 use Rattle.analysis.specs.declared.Mark.{Mark}
 use Rattle.analysis.specs.declared.Mark.the-variants.{Clean, Unclean}
+use Rattle.analysis.specs.declared.Marking.{Marking}
+use Rattle.analysis.specs.declared.Marking.the-variants.{Refused as Declined, Malformed as Misshapen, Marked}
 use Rattle.analysis.specs.declared.Records.{Records}
 use Rattle.analysis.specs.declared.Records.the-variants.{Initial, Solution}
 use Rattle.analysis.specs.declared.Spot.{Spot}
@@ -91,6 +94,19 @@ judged ns g initial solution =
 unfoldable pub verdict : List ℕ → List ℕ → List ℕ → Verdict
 verdict s initial solution = unlessRefused (validity s) (judged (sizes s) (graph s) initial solution)
 
+-- the index mark of a list of records by itself, of which 16 and 17 are asked after questions 1 to 11 of the program file
+unfoldable pub solutionValidity : List ℕ → List ℕ → Validity
+solutionValidity s solution = thenAsk (validity s) (askPlain (wholeRecords (recordWidth (sizes s)) solution) 16)
+
+unfoldable pub markingBy : Validity → Validity → Mark → Marking
+markingBy Fit Fit mark = Marked mark
+markingBy Fit (Refused x) mark = Misshapen (wrongByte Solution x)
+markingBy (Refused x) formed mark = Declined x
+
+unfoldable pub marking : List ℕ → List ℕ → Marking
+marking s solution =
+    markingBy (solutionValidity s solution) (solutionFormed (sizes s) (graph s) solution) (indexMark (sizes s) (graph s) solution)
+
 -- "With 41 or 42 comes the offending record itself, as a part of whichever of the two lists it lies in; otherwise that part is empty."
 unfoldable pub offending : List ℕ → List ℕ → List ℕ → Verdict → List ℕ
 offending ns initial solution (Refuses x) = []
@@ -112,3 +128,9 @@ verdictNumbers (Malformed w) = wrongByteNumbers w
 verdictNumbers (InitialMissing k) = 41 ∷ k ∷ []
 verdictNumbers (ResultMissing k e) = 42 ∷ k ∷ e ∷ []
 verdictNumbers (Accepted mark) = 0 ∷ markNumbers mark
+
+-- an index mark by itself in the same numbers
+unfoldable pub markingNumbers : Marking → List ℕ
+markingNumbers (Declined x) = x .number ∷ x .offset ∷ []
+markingNumbers (Misshapen w) = wrongByteNumbers w
+markingNumbers (Marked mark) = 0 ∷ markNumbers mark

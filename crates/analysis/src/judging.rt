@@ -1,6 +1,7 @@
 // A candidate solution judged.
 
 ghost use mathlib.Core.Path.{_≡_};
+ghost use mathlib.Core.Bool.{true, _&&_};
 ghost use mathlib.Core.List.{List, map};
 ghost use Prim.Native.Nat.{ℕ, _+_, _≤_, _<_};
 ghost use lib.ListN.{set, take};
@@ -8,19 +9,30 @@ ghost use Rattle.signs.specs.Grid;
 ghost use Rattle.program.specs.File;
 ghost use Rattle.program.specs.Graph;
 ghost use Rattle.program.specs.Links;
+ghost use Rattle.semantics.specs.Stepping;
 ghost use Rattle.analysis.specs.Judging as parts;
 ghost use Rattle.analysis.specs.Records;
+ghost use Rattle.analysis.specs.Soundness;
 ghost use Rattle.analysis.specs.Verdict as spec;
 use crate::Changes;
+use crate::Mark;
+use crate::Records as Lists;
 use crate::Spot;
+use crate::Verdict;
+use crate::WrongByte;
 use crate::evaluator::index;
 use crate::evaluator::results;
 use crate::lists;
 use crate::membership;
 use program::First;
+use program::Refusal;
+use program::Validity;
 use program::adjacency;
+use program::decoding;
 use program::drawing;
 use program::file;
+use program::validation;
+use signs::grid;
 
 // What is looked for, in the records of a solution and the edges out of their nodes: 42, or the index mark.
 enum Query {
@@ -328,4 +340,274 @@ fn first_initial(
         k += 1;
     }
     First::Nothing
+}
+
+// The index mark, by what was found.
+fn mark_of(spot: Spot) -> Mark
+    ensures { λ r. ⌜ r ≡ spec.markOf spot ⌝ }
+{
+    match spot {
+        Spot::At { record, edge } => Mark::Unclean { record, edge },
+        Spot::Nowhere => Mark::Clean,
+    }
+}
+
+// The index mark of a solution that is indexed.
+fn mark_indexed(
+    entries: &[u16; 4096],
+    grids: &[[[u8; 3]; 3]; 5],
+    edges: &[u8],
+    links: &[u16; 384],
+    edge_count: u16,
+    factors: &[u16; 34],
+    heads: &[u16; 8192],
+    next: &[u16; 4096],
+    solution: &[u8],
+    names: usize,
+    records: u16,
+) -> Mark
+    requires { ⌜ parts.OrderedTo names records (now solution) (now factors) (now heads) (now next) ⌝ }
+    requires { ⌜ now grids ≡ Grid.grids ⌝ }
+    requires { ⌜ Links.Followable (now edges) «edge_count» (now links) ⌝ }
+    ensures { λ r. ⌜ ((s : List ℕ)
+        → parts.Searched s (now (edges .entry)) (now (entries .entry)) «edge_count» names records (now (solution .entry)) (now (factors .entry)) (now (heads .entry)) (now (next .entry))
+        → r ≡ spec.indexMark (File.sizes s) (Graph.graph s) (now (solution .entry))) ⌝ }
+{
+    let spot = first_spot(
+        Query::NegativeIndex,
+        entries,
+        grids,
+        edges,
+        links,
+        edge_count,
+        factors,
+        heads,
+        next,
+        solution,
+        names,
+        records,
+    );
+    mark_of(spot)
+}
+
+// 42, or accepted with the index mark, of a solution that is indexed.
+fn results_indexed(
+    entries: &[u16; 4096],
+    grids: &[[[u8; 3]; 3]; 5],
+    edges: &[u8],
+    links: &[u16; 384],
+    edge_count: u16,
+    factors: &[u16; 34],
+    heads: &[u16; 8192],
+    next: &[u16; 4096],
+    solution: &[u8],
+    names: usize,
+    records: u16,
+) -> Verdict
+    requires { ⌜ parts.OrderedTo names records (now solution) (now factors) (now heads) (now next) ⌝ }
+    requires { ⌜ now grids ≡ Grid.grids ⌝ }
+    requires { ⌜ Links.Followable (now edges) «edge_count» (now links) ⌝ }
+    ensures { λ r. ⌜ ((s : List ℕ)
+        → parts.Searched s (now (edges .entry)) (now (entries .entry)) «edge_count» names records (now (solution .entry)) (now (factors .entry)) (now (heads .entry)) (now (next .entry))
+        → r ≡ spec.verdictBy First.Nothing (spec.missingResult (File.sizes s) (Graph.graph s) (now (solution .entry))) (spec.indexMark (File.sizes s) (Graph.graph s) (now (solution .entry)))) ⌝ }
+{
+    let spot = first_spot(
+        Query::MissingResult,
+        entries,
+        grids,
+        edges,
+        links,
+        edge_count,
+        factors,
+        heads,
+        next,
+        solution,
+        names,
+        records,
+    );
+    match spot {
+        Spot::At { record, edge } => Verdict::ResultMissing { record, edge },
+        Spot::Nowhere => Verdict::Accepted(mark_indexed(
+            entries,
+            grids,
+            edges,
+            links,
+            edge_count,
+            factors,
+            heads,
+            next,
+            solution,
+            names,
+            records,
+        )),
+    }
+}
+
+// The number of records of a width in a list of at most 4,096.
+fn record_count(bytes: &[u8], width: usize) -> u16
+    requires { ⌜ (0 < width) × (Records.recordCount width (now bytes) ≤ 4096) ⌝ }
+    ensures { λ r. ⌜ r ≡ Records.recordCount width (now (bytes .entry)) ⌝ }
+{
+    (bytes.len() / width) as u16
+}
+
+// 41, 42, or accepted with the index mark, of two lists of whole, well-formed records.
+fn judge_formed(
+    program: &[u8],
+    edges: &[u8],
+    edge_count: u16,
+    initial: &[u8],
+    solution: &[u8],
+    names: usize,
+) -> Verdict
+    requires { ⌜ parts.Readable (now program) (now edges) «edge_count» names (now solution) × (Records.wholeRecords names (now initial) ≡ true) ⌝ }
+    ensures { λ r. ⌜ r ≡ parts.found (now (program .entry)) (now (initial .entry)) (now (solution .entry)) ⌝ }
+{
+    let entries = decoding::entries(program);
+    let grids = grid::grids();
+    let links = adjacency::links(edges, edge_count);
+    let factors = membership::factors();
+    let width = 2 + names;
+    let records = record_count(solution, width);
+    let mut heads = [0u16; 8192];
+    let mut next = [0u16; 4096];
+    membership::index_all(
+        &factors,
+        &mut heads,
+        &mut next,
+        solution,
+        width,
+        records as usize,
+    );
+    let count = record_count(initial, names);
+    let missing = first_initial(&factors, &heads, &next, initial, solution, names, count);
+    match missing {
+        First::At(k) => Verdict::InitialMissing { record: k },
+        First::Nothing => results_indexed(
+            &entries,
+            &grids,
+            edges,
+            &links,
+            edge_count,
+            &factors,
+            &heads,
+            &next,
+            solution,
+            names,
+            records,
+        ),
+    }
+}
+
+// The index mark of a list of whole, well-formed records.
+fn mark_formed(program: &[u8], edges: &[u8], edge_count: u16, solution: &[u8], names: usize) -> Mark
+    requires { ⌜ parts.Readable (now program) (now edges) «edge_count» names (now solution) ⌝ }
+    ensures { λ r. ⌜ r ≡ spec.indexMark (File.sizes (now (program .entry))) (Graph.graph (now (program .entry))) (now (solution .entry)) ⌝ }
+{
+    let entries = decoding::entries(program);
+    let grids = grid::grids();
+    let links = adjacency::links(edges, edge_count);
+    let factors = membership::factors();
+    let width = 2 + names;
+    let records = record_count(solution, width);
+    let mut heads = [0u16; 8192];
+    let mut next = [0u16; 4096];
+    membership::index_all(
+        &factors,
+        &mut heads,
+        &mut next,
+        solution,
+        width,
+        records as usize,
+    );
+    mark_indexed(
+        &entries,
+        &grids,
+        edges,
+        &links,
+        edge_count,
+        &factors,
+        &heads,
+        &next,
+        solution,
+        names,
+        records,
+    )
+}
+
+fn malformed(list: Lists, x: Refusal) -> WrongByte
+    ensures { λ r. ⌜ r ≡ Records.wrongByte list x ⌝ }
+{
+    WrongByte {
+        list,
+        offset: x.offset,
+    }
+}
+
+// 17 of both lists, the start list first; then the verdict.
+fn judge_whole(
+    program: &[u8],
+    edges: &[u8],
+    nodes: u16,
+    edge_count: u16,
+    initial: &[u8],
+    solution: &[u8],
+    names: usize,
+) -> Verdict
+    requires { ⌜ parts.Whole (now program) (now edges) nodes «edge_count» names (now initial) (now solution) ⌝ }
+    ensures { λ r. ⌜ r ≡ parts.foundFormed (now (program .entry)) (now (initial .entry)) (now (solution .entry)) ⌝ }
+{
+    let sizes = decoding::name_sizes(program);
+    let first = lists::initial_formed(&sizes, names, initial);
+    if let Validity::Refused(x) = first {
+        return Verdict::Malformed(malformed(Lists::Initial, x));
+    }
+    let second = lists::solution_formed(&sizes, names, nodes, solution);
+    match second {
+        Validity::Fit => judge_formed(program, edges, edge_count, initial, solution, names),
+        Validity::Refused(x) => Verdict::Malformed(malformed(Lists::Solution, x)),
+    }
+}
+
+// Whether both lists are whole records, at most 4,096 each.
+fn both_whole(initial: &[u8], solution: &[u8], names: usize) -> bool
+    requires { ⌜ (0 < names) × (names ≤ 32) ⌝ }
+    ensures { λ r. ⌜ r ≡ (Records.wholeRecords names (now (initial .entry)) && Records.wholeRecords (2 + names) (now (solution .entry))) ⌝ }
+{
+    lists::whole(initial, names) && lists::whole(solution, 2 + names)
+}
+
+// 16 of both lists, and then the verdict.
+fn judge_drawn(
+    program: &[u8],
+    edges: &[u8],
+    nodes: u16,
+    edge_count: u16,
+    initial: &[u8],
+    solution: &[u8],
+) -> Verdict
+    requires { ⌜ Stepping.DrawnInto (now program) (now edges) nodes «edge_count» ⌝ }
+    ensures { λ r. ⌜ r ≡ spec.judged (File.sizes (now (program .entry))) (Graph.graph (now (program .entry))) (now (initial .entry)) (now (solution .entry)) ⌝ }
+{
+    let names = file::name_count(program) as usize;
+    let whole = validation::ask(both_whole(initial, solution, names), 16, 0);
+    match whole {
+        Validity::Fit => judge_whole(program, edges, nodes, edge_count, initial, solution, names),
+        Validity::Refused(x) => Verdict::Refused(x),
+    }
+}
+
+// The verdict on a candidate solution.
+pub fn judge(program: &[u8], initial: &[u8], solution: &[u8]) -> Verdict
+    ensures { λ r. ⌜ r ≡ spec.verdict (now (program .entry)) (now (initial .entry)) (now (solution .entry)) ⌝ }
+    ensures numbers { λ r. ⌜ spec.verdictNumbers r ≡ spec.verdictNumbers (spec.verdict (now (program .entry)) (now (initial .entry)) (now (solution .entry))) ⌝ }
+    ensures third { λ r. ⌜ Soundness.ThirdTermFor (now (program .entry)) (now (initial .entry)) (now (solution .entry)) r ⌝ }
+{
+    let mut edges = [0u8; 1785];
+    let drawn = drawing::draw_edges(program, &mut edges);
+    let v = drawn.validity;
+    match v {
+        Validity::Fit => judge_drawn(program, &edges, drawn.nodes, drawn.edges, initial, solution),
+        Validity::Refused(x) => Verdict::Refused(x),
+    }
 }

@@ -50,6 +50,13 @@ pub enum Verdict {
     Accepted(Mark),
 }
 
+// What the index mark of a list of records by itself answers.
+pub enum Marking {
+    Refused(Refusal),
+    Malformed(WrongByte),
+    Marked(Mark),
+}
+
 // What the solver answers.
 pub enum Solving {
     Finished,

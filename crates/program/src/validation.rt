@@ -452,7 +452,7 @@ pub fn initial_part<'a>(s: &'a [u8]) -> &'a [u8]
 }
 
 // The `count` bytes from `start` on, as far as they are there.
-fn part<'a>(s: &'a [u8], start: usize, count: usize) -> &'a [u8]
+pub fn part<'a>(s: &'a [u8], start: usize, count: usize) -> &'a [u8]
     ensures { λ r. ⌜ now r ≡ take count (drop start (now (s .entry))) ⌝ }
 {
     if s.len() <= start {

@@ -1,25 +1,21 @@
 -- The lowest defined edge out of a node is found by following the links.
-use mathlib.Core.Path.{_≡_, refl, sym, ap, _∙_}
-use mathlib.Core.Bool.{Bool, true, false, _&&_}
+use mathlib.Core.Path.{_≡_, sym, ap, _∙_}
+use mathlib.Core.Bool.{true, false}
 use mathlib.Core.List.{List}
 use Prim.Native.Nat.{ℕ, _-_, _<_, _≤_}
-use native.Mathlib.Omega.{arith}
-use borrow.Author.Tests.{eq-eqb}
-use lib.Dec.{eqb}
 use lib.IntN.{ℤ}
 use Rattle.program.specs.Decoding.{decodedEntry}
 use Rattle.program.specs.Drawing.{edgeRead}
 use Rattle.program.specs.File.{sizes}
 use Rattle.program.specs.Graph.{graph, actionOf}
-use Rattle.program.specs.Links.{sourceIn, Followed}
+use Rattle.program.specs.Links.{Followed}
 use Rattle.program.specs.declared.EdgeBytes.{EdgeBytes}
 use Rattle.program.specs.declared.First.the-variants.{Nothing}
-use Rattle.program.proofs.Laws.{first-such, none-such}
 use Rattle.semantics.specs.Action.{isDefined}
 use Rattle.semantics.specs.Budget.{lowestDefined}
 use Rattle.semantics.specs.Coding.{EffectIn}
 use Rattle.semantics.specs.Running.{Ready, Chosen}
-use Rattle.semantics.specs.Step.{leaves, edgeEffect}
+use Rattle.semantics.specs.Step.{edgeEffect}
 use Rattle.semantics.specs.declared.Effect.{Effect}
 use Rattle.semantics.proofs.Drawn.{first-along, none-along, effect-read}
 
