@@ -2,7 +2,7 @@
 
 ghost use mathlib.Core.Path.{_≡_};
 ghost use mathlib.Core.Bool.{true, _&&_};
-ghost use mathlib.Core.List.{List, map, _++_};
+ghost use mathlib.Core.List.{List, map};
 ghost use Prim.Native.Nat.{ℕ, _+_, _≤_, _<_};
 ghost use lib.ListN.{set, take};
 ghost use Rattle.signs.specs.Grid;
@@ -41,18 +41,6 @@ enum Query {
     NegativeIndex,
 }
 
-// The record of an abstract memory, one name with another set, at a node.
-fn record_with(node: u16, rho: &[u8; 32], name: u16, signs: u8) -> [u8; 34]
-    ensures { λ r. ⌜ r ≡ set (Graph.wordBytes node ++ now (rho .entry)) (2 + name) signs ⌝ }
-{
-    let mut row = lists::record_for(node, rho);
-    let column = 2 + name as usize;
-    if column < 34 {
-        row[column] = signs;
-    }
-    row
-}
-
 // Whether a solution has an abstract memory, one name with another set, at a node.
 fn listed(
     factors: &[u16; 34],
@@ -70,7 +58,7 @@ fn listed(
         → parts.Searchable ns names count (now (solution .entry)) (now (factors .entry)) (now (heads .entry)) (now (next .entry))
         → parts.ReadInto ρ (now (rho .entry)) names → r ≡ Records.hasAt ns (now (solution .entry)) node (set ρ name signs)) ⌝ }
 {
-    let row = record_with(node, rho, name, signs);
+    let row = lists::record_with(node, rho, name, signs);
     let width = 2 + names;
     membership::find(factors, heads, next, solution, width, &row[..width])
 }
