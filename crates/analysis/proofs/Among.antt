@@ -1,15 +1,15 @@
 -- Membership as an index answers it: of the records of a list of bytes, and of those that begin one. Bytes past them do not matter.
-use mathlib.Core.Path.{_≡_, refl, sym, ap, _∙_}
+use mathlib.Core.Path.{_≡_, refl, sym, ap, subst, _∙_}
 use mathlib.Core.Bool.{Bool, _&&_, _||_, and-assoc}
-use mathlib.Core.List.{List, [], _∷_, _++_, flatten, append-assoc}
+use mathlib.Core.List.{List, [], _∷_}
 use Prim.Native.Nat.{ℕ, zero, suc, _+_, _*_, _/_, _%_, _<_, _≤_}
 use native.Mathlib.Decide.{ℕ-discrete}
-use native.Mathlib.Nat.{zero-add, suc-add, mul-zero, mul-suc}
+use native.Mathlib.Nat.{zero-add, suc-add}
 use native.Mathlib.Omega.{arith}
 use borrow.Author.Tests.{eq-eqb, ne-eqb}
 use lib.Dec.{eqb}
-use lib.ListN.{length, getD, take, drop, length-append, length-drop}
-use lib.Seq.{length-take-le, take-all, take-nil, take-at, drop-at, drop-drop, take-take, getD-take, getD-drop}
+use lib.ListN.{length, getD, take, drop, length-drop}
+use lib.Seq.{length-take-le, take-all, take-nil, take-take, getD-take, getD-drop}
 use Rattle.signs.specs.Lists.{anyOf, tabulate}
 use Rattle.signs.proofs.Lists.{or-assoc, or-false, anyOf-append}
 use Rattle.program.specs.File.{byteAt, wordAt}
@@ -78,45 +78,22 @@ module _ (ns bytes : List ℕ) (n : ℕ) (room : recordWidth ns * n ≤ length b
   unfolding among
   any-gives = any-same _ _ n (λ k h. record-gives k h)
 
+  -- membership in the first n records
+  listed-first : listed ns (tabulate n (recordAt (recordWidth ns) bytes)) node ρ ≡ among (recordWidth ns) bytes n (recordFor node ρ)
+  unfolding listed
+  listed-first = any-tabulated (gives ns node ρ) n (recordAt (recordWidth ns) bytes) ∙ any-gives
+
   -- membership in a solution of n records
   pub has-among : recordCount (recordWidth ns) bytes ≡ n → hasAt ns bytes node ρ ≡ among (recordWidth ns) bytes n (recordFor node ρ)
   unfolding hasAt listed recordsOf
   has-among e = rw e (any-tabulated (gives ns node ρ) n (recordAt (recordWidth ns) bytes) ∙ any-gives)
 
--- records of one width, one after the other
-abbrev pub OfWidth : ℕ → List (List ℕ) → Type 0
-OfWidth width rs = (k : ℕ) → k < length rs → length (getD rs k []) ≡ width
-
-module _ (width : ℕ) where
-  pub flatten-length : (rs : List (List ℕ)) → OfWidth width rs → length (flatten rs) ≡ width * length rs
-  unfolding flatten
-  flatten-length [] w = sym (mul-zero width)
-  flatten-length (r ∷ rs) w =
-      rw (length-append r (flatten rs), flatten-length rs (λ k h. w (suc k) (omega arith))) (omega (arith, w 0 (omega arith), mul-suc width (length rs)))
-
-  pub record-of : (rs : List (List ℕ)) (rest : List ℕ) → OfWidth width rs → (k : ℕ) → k < length rs → recordAt width (flatten rs ++ rest) k ≡ getD rs k []
-  unfolding recordAt flatten
-  record-of [] rest w k h = absurd (omega arith)
-  record-of (r ∷ rs) rest w zero h = rw (mul-zero width, append-assoc r (flatten rs) rest) (take-at r (flatten rs ++ rest) width (w 0 (omega arith)))
-  record-of (r ∷ rs) rest w (suc k) h =
-      let step : width * suc k ≡ width + width * k = omega (arith, mul-suc width k) in
-      rw (step, append-assoc r (flatten rs) rest, ← drop-drop (width * k) width (r ++ (flatten rs ++ rest)), drop-at r (flatten rs ++ rest) width (w 0 (omega arith)))
-      (record-of rs rest (λ j l. w (suc j) (omega arith)) k (omega arith))
-
--- membership in the records that begin a list
-pub listed-among : (ns bytes : List ℕ) (rs : List (List ℕ)) (rest : List ℕ) → OfWidth (recordWidth ns) rs → bytes ≡ flatten rs ++ rest
-    → ((k i : ℕ) → k < length rs → i < 2 → getD bytes (recordWidth ns * k + i) 0 < 256) → (node : ℕ) (ρ : List ℕ) → node < 65536
-    → listed ns rs node ρ ≡ among (recordWidth ns) bytes (length rs) (recordFor node ρ)
-unfolding listed
-listed-among ns bytes rs rest w e small node ρ low =
-    any-listed (gives ns node ρ) rs []
-    ∙ any-same _ _ (length rs) (λ k h. ap (gives ns node ρ) (sym (ap (λ (b : List ℕ). recordAt (recordWidth ns) b k) e ∙ record-of (recordWidth ns) rs rest w k h)))
-    ∙ any-gives ns bytes (length rs) (omega (arith, flatten-length (recordWidth ns) rs w, ap length e, length-append (flatten rs) rest)) small node ρ low
-
--- one record more
-pub among-more : (width : ℕ) (bytes : List ℕ) (n : ℕ) (r : List ℕ) → among width bytes (suc n) r ≡ (among width bytes n r || sameSigns (recordAt width bytes n) r)
-unfolding among anyBelow
-among-more width bytes n r = refl
+-- the same by their width
+pub listed-among : (ns : List ℕ) (width : ℕ) → recordWidth ns ≡ width → (bytes : List ℕ) (n : ℕ) → width * n ≤ length bytes → ((i : ℕ) → getD bytes i 0 < 256)
+    → (node : ℕ) (ρ : List ℕ) → node < 65536 → listed ns (tabulate n (recordAt width bytes)) node ρ ≡ among width bytes n (recordFor node ρ)
+listed-among ns width e bytes n room small node ρ low =
+    subst (λ (w : ℕ). w * n ≤ length bytes → listed ns (tabulate n (recordAt w bytes)) node ρ ≡ among w bytes n (recordFor node ρ)) e
+    (λ l. listed-first ns bytes n l (λ k i h j. small (recordWidth ns * k + i)) node ρ low) room
 
 -- the first n records alone matter
 take-of-drop : (m n : ℕ) (l : List ℕ) → take m (drop n l) ≡ drop n (take (n + m) l)
@@ -131,10 +108,6 @@ module _ (width n : ℕ) (bytes bytes′ : List ℕ) (same : take (width * n) by
     where
       up : (l : List ℕ) → take width (drop (width * k) l) ≡ drop (width * k) (take (width * k + width) (take (width * n) l))
       up l = take-of-drop width (width * k) l ∙ ap (drop (width * k)) (sym (take-take (width * k + width) (width * n) l (record-inside width k n (width * n) h (omega arith))))
-
-  pub among-kept : (r : List ℕ) → among width bytes n r ≡ among width bytes′ n r
-  unfolding among
-  among-kept r = any-same _ _ n (λ k h. ap (λ (s : List ℕ). sameSigns s r) (record-kept k h))
 
   pub indexed-kept : (fs heads next : List ℕ) → width * n ≤ length bytes′ → Indexed fs width bytes n heads next → Indexed fs width bytes′ n heads next
   indexed-kept fs heads next room x =

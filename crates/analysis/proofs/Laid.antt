@@ -23,6 +23,8 @@ use Rattle.program.proofs.Asking.{then-first, then-second}
 use Rattle.program.proofs.Laws.{ask-fit, each-fit, each-same, sizes-length, names-decoded}
 use Rattle.program.proofs.Lists.{length-tabulate, getD-tabulate}
 use Rattle.analysis.specs.Abstraction.{wellFormed}
+use Rattle.analysis.specs.Changing.{Alike}
+use Rattle.analysis.specs.Judging.{ReadInto}
 use Rattle.analysis.specs.RecordParts.{paddedByte, padded, SizesIn, recordFormed}
 use Rattle.analysis.specs.Records.{initialWidth, recordWidth, recordCount, recordAt, nodeOf, memoryOf, recordFor, memoryFormed, initialFormed, solutionFormed}
 
@@ -96,31 +98,23 @@ padded-length bytes at names = length-tabulate 32 (paddedByte bytes at names)
 part-length : (bytes : List ℕ) (at names : ℕ) → at + names ≤ length bytes → length (take names (drop at bytes)) ≡ names
 part-length bytes at names h = length-take-le names (drop at bytes) (omega (arith, length-drop at bytes))
 
-module _ (ns bytes : List ℕ) (k : ℕ) where
-  -- the memory of record k of a solution, and its node
-  memory-part : memoryOf ns (recordAt (recordWidth ns) bytes k) ≡ take (length ns) (drop (recordWidth ns * k + 2) bytes)
-  unfolding memoryOf recordAt recordWidth
-  memory-part = rw (part-taken 2 (length ns) (drop ((2 + length ns) * k) bytes), drop-drop, take-take (length ns) (length ns) _ (le-refl _))
+-- so record k of a start list of so many names, and the memory and the node of record k of a solution, are read into an array
+module _ (bytes : List ℕ) (k names : ℕ) where
+  pub start-reads : names ≤ 32 → names * k + names ≤ length bytes → (rho : List ℕ) → rho ≡ padded bytes (names * k) names → ReadInto (recordAt names bytes k) rho names
+  unfolding recordAt Alike
+  start-reads few h rho p = record { sized = part-length bytes (names * k) names h; alike = λ x. part-padded bytes (names * k) names few x ∙ ap (λ (l : List ℕ). getD l x 0) (sym p) }
 
-  pub memory-reads : length ns ≤ 32 → (x : ℕ) → getD (memoryOf ns (recordAt (recordWidth ns) bytes k)) x 0 ≡ getD (padded bytes (recordWidth ns * k + 2) (length ns)) x 0
-  memory-reads few x = rw memory-part (part-padded bytes (recordWidth ns * k + 2) (length ns) few x)
+  pub memory-reads : (ns : List ℕ) → length ns ≡ names → names ≤ 32 → (2 + names) * k + (2 + names) ≤ length bytes → (rho : List ℕ) → rho ≡ padded bytes ((2 + names) * k + 2) names
+      → ReadInto (memoryOf ns (recordAt (2 + names) bytes k)) rho names
+  unfolding memoryOf recordAt Alike
+  memory-reads ns e few h rho p =
+      let at = (2 + names) * k + 2 in
+      rw (e, part-taken 2 names (drop ((2 + names) * k) bytes), drop-drop, take-take names names (drop at bytes) (le-refl _))
+      (record { sized = part-length bytes at names (omega arith); alike = λ x. part-padded bytes at names few x ∙ ap (λ (l : List ℕ). getD l x 0) (sym p) })
 
-  pub memory-length : k < recordCount (recordWidth ns) bytes → length (memoryOf ns (recordAt (recordWidth ns) bytes k)) ≡ length ns
-  unfolding recordCount recordWidth
-  memory-length h = rw memory-part (part-length bytes ((2 + length ns) * k + 2) (length ns) (omega (arith, record-inside (length bytes) (2 + length ns) k h)))
-
-  pub node-reads : nodeOf (recordAt (recordWidth ns) bytes k) ≡ wordAt bytes (recordWidth ns * k)
-  unfolding nodeOf recordAt recordWidth wordAt byteAt
-  node-reads = let at = (2 + length ns) * k in rw (part-at bytes at (2 + length ns) 0 (omega arith), part-at bytes at (2 + length ns) 1 (omega arith), add-zero)
-
-  -- record k of a start list
-  pub start-reads : length ns ≤ 32 → (x : ℕ) → getD (recordAt (initialWidth ns) bytes k) x 0 ≡ getD (padded bytes (initialWidth ns * k) (length ns)) x 0
-  unfolding recordAt initialWidth
-  start-reads few x = part-padded bytes (length ns * k) (length ns) few x
-
-  pub start-length : k < recordCount (initialWidth ns) bytes → length (recordAt (initialWidth ns) bytes k) ≡ length ns
-  unfolding recordCount recordAt initialWidth
-  start-length h = part-length bytes _ (length ns) (record-inside (length bytes) (length ns) k h)
+  pub node-reads : nodeOf (recordAt (2 + names) bytes k) ≡ wordAt bytes ((2 + names) * k)
+  unfolding nodeOf recordAt wordAt byteAt
+  node-reads = let at = (2 + names) * k in rw (part-at bytes at (2 + names) 0 (omega arith), part-at bytes at (2 + names) 1 (omega arith), add-zero)
 
 -- ---- Records as they are written
 
@@ -143,7 +137,7 @@ set-past [] ys i a = rw zero-add
 set-past (x ∷ xs) ys i a = rw (suc-add (length xs) i) (ap (λ l. x ∷ l) (set-past xs ys i a))
 
 -- the record of an abstract memory is in front of the array's
-pub record-taken : (node : ℕ) (ρ rho : List ℕ) → Front ρ rho → take (2 + length ρ) (wordBytes node ++ rho) ≡ recordFor node ρ
+record-taken : (node : ℕ) (ρ rho : List ℕ) → Front ρ rho → take (2 + length ρ) (wordBytes node ++ rho) ≡ recordFor node ρ
 unfolding recordFor wordBytes
 record-taken node ρ rho h =
     let long = length-take-le (length ρ) rho (h .0) in
@@ -151,12 +145,26 @@ record-taken node ρ rho h =
     ∙ ap (λ l. wordBytes node ++ l) (ext-getD 0 (take (length ρ) rho) ρ long (λ x l. getD-take (length ρ) rho x 0 (omega arith) ∙ sym (h .1 x (omega arith))))
 
 -- also where a name has another set; where there is no such name, both are unchanged
-pub record-changed : (node : ℕ) (ρ rho : List ℕ) → Front ρ rho → (x b : ℕ) → take (2 + length ρ) (set (wordBytes node ++ rho) (2 + x) b) ≡ recordFor node (set ρ x b)
+record-changed : (node : ℕ) (ρ rho : List ℕ) → Front ρ rho → (x b : ℕ) → take (2 + length ρ) (set (wordBytes node ++ rho) (2 + x) b) ≡ recordFor node (set ρ x b)
 unfolding wordBytes
 record-changed node ρ rho h x b =
     ap (take (2 + length ρ)) (set-past (wordBytes node) rho x b)
     ∙ ap (λ (n : ℕ). take (2 + n) (wordBytes node ++ set rho x b)) (sym (length-set ρ x b))
     ∙ record-taken node (set ρ x b) (set rho x b) (front-changed ρ rho x b h)
+
+-- the record of an abstract memory, and of one with a name changed, is in front of the row that is made of its array
+module _ {ρ rho : List ℕ} {names : ℕ} (y : ReadInto ρ rho names) (few : 2 + names ≤ 34) (node : ℕ) (row : List ℕ) (long : length row ≡ 34) where
+  pub row-read : row ≡ wordBytes node ++ rho → take (2 + names) row ≡ recordFor node ρ
+  unfolding Alike wordBytes
+  row-read e =
+      ap (take (2 + names)) e ∙ ap (λ (n : ℕ). take (2 + n) (wordBytes node ++ rho)) (sym (y .sized))
+      ∙ record-taken node ρ rho (omega (arith, y .sized, long, ap length e), λ k l. y .alike k)
+
+  pub row-changed : (name signs : ℕ) → row ≡ set (wordBytes node ++ rho) (2 + name) signs → take (2 + names) row ≡ recordFor node (set ρ name signs)
+  unfolding Alike wordBytes
+  row-changed name signs e =
+      ap (take (2 + names)) e ∙ ap (λ (n : ℕ). take (2 + n) (set (wordBytes node ++ rho) (2 + name) signs)) (sym (y .sized))
+      ∙ record-changed node ρ rho (omega (arith, y .sized, long, ap length e, length-set (wordBytes node ++ rho) (2 + name) signs), λ k l. y .alike k) name signs
 
 -- ---- What question 17 says of a list where it is answered yes
 

@@ -13,5 +13,8 @@ pub mod Alike
 pub mod Writing
 pub mod Chains
 pub mod Among
+pub mod Growing
+pub mod Descending
+pub mod Answering
 pub mod ThirdTerm
 pub mod Examples

@@ -4,7 +4,7 @@ use mathlib.Core.Bool.{Bool, true, false, not, _||_, false≢true}
 use mathlib.Core.List.{List, [], _∷_, _++_, map}
 use Prim.Native.Nat.{ℕ, zero, suc, _+_, _*_, _<_, _≤_}
 use native.Mathlib.Omega.{arith}
-use lib.ListN.{length, getD, set, take, length-set}
+use lib.ListN.{length, getD, set, take}
 use lib.Seq.{take-suc, set-getD}
 use Rattle.signs.specs.Lists.{anyOf}
 use Rattle.signs.proofs.Lists.{anyOf-append, anyOf-map}
@@ -34,14 +34,15 @@ use Rattle.analysis.specs.declared.judging.Query.{Query}
 use Rattle.analysis.specs.declared.judging.Query.the-variants.{MissingResult, NegativeIndex}
 use Rattle.analysis.proofs.Alike.{negative-alike}
 use Rattle.analysis.proofs.Among.{has-among}
-use Rattle.analysis.proofs.Laid.{record-changed, start-reads, start-length, memory-reads, memory-length, node-reads, node-formed}
+use Rattle.analysis.proofs.Laid.{record-inside as counted-inside, row-changed, start-reads, memory-reads, node-reads, node-formed}
+use Rattle.analysis.proofs.Chains.{record-inside}
 
 -- what the index says of an abstract memory with one name changed, as the code asks it
 pub has-found : (ns : List ℕ) (names count : ℕ) (solution fs heads next : List ℕ) → Searchable ns names count solution fs heads next
     → ((i : ℕ) → getD solution i 0 < 256) → (node : ℕ) → node < 65536 → (ρ rho : List ℕ) → ReadInto ρ rho names → names ≤ 32 → (name signs : ℕ)
     → (row : List ℕ) → row ≡ set (wordBytes node ++ rho) (2 + name) signs → length row ≡ 34
     → among (2 + names) solution count (take (2 + names) row) ≡ hasAt ns solution node (set ρ name signs)
-unfolding recordWidth Alike wordBytes
+unfolding recordWidth
 has-found ns names count solution fs heads next x small node low ρ rho y few name signs row e long =
     ap (among (2 + names) solution count) taken
     ∙ ap (λ (n : ℕ). among (2 + n) solution count (recordFor node (set ρ name signs))) (sym (x .names-are))
@@ -52,13 +53,8 @@ has-found ns names count solution fs heads next x small node low ρ rho y few na
     whole : (2 + length ns) * count ≡ (2 + names) * count
     whole = ap (λ (n : ℕ). (2 + n) * count) (x .names-are)
 
-    room : length rho ≡ 32
-    room = omega (arith, long, ap length e, length-set (wordBytes node ++ rho) (2 + name) signs)
-
     taken : take (2 + names) row ≡ recordFor node (set ρ name signs)
-    taken =
-        ap (take (2 + names)) e ∙ ap (λ (n : ℕ). take (2 + n) (set (wordBytes node ++ rho) (2 + name) signs)) (sym (y .sized))
-        ∙ record-changed node ρ rho (omega (arith, y .sized, room), λ k l. y .alike k) name signs
+    taken = row-changed y (omega arith) node row long name signs e
 
 -- a test of the elements of a list, one by one
 any-more : (q : ℕ → Bool) (xs : List ℕ) (j : ℕ) → j < length xs → anyOf q (take j xs) ≡ false → q (getD xs j 0) ≡ false → anyOf q (take (suc j) xs) ≡ false
@@ -144,7 +140,7 @@ module _ {s edges entries : List ℕ} {edge-count names count : ℕ} {solution f
   there = rw width (omega (arith, x .searchable .counted))
 
   pub node-read : (node : ℕ) → node ≡ wordAt solution ((2 + names) * k) → nodeOf (recordAt (recordWidth (sizes s)) solution k) ≡ node
-  node-read node p = node-reads (sizes s) solution k ∙ ap (λ (w : ℕ). wordAt solution (w * k)) width ∙ sym p
+  node-read node p = ap (λ (w : ℕ). nodeOf (recordAt w solution k)) width ∙ node-reads solution k names ∙ sym p
 
   pub node-low : (node : ℕ) → node ≡ wordAt solution ((2 + names) * k) → node < 129
   unfolding nodeCount
@@ -153,16 +149,8 @@ module _ {s edges entries : List ℕ} {edge-count names count : ℕ} {solution f
       omega (arith, p, ap (λ (w : ℕ). wordAt solution (w * k)) width, few-nodes s (x .drawn .drawing .fit))
 
   pub memory-read : (rho : List ℕ) → rho ≡ padded solution ((2 + names) * k + 2) names → ReadInto (memoryOf (sizes s) (recordAt (recordWidth (sizes s)) solution k)) rho names
-  unfolding Alike
   memory-read rho p =
-      record {
-        sized = memory-length (sizes s) solution k there ∙ x .searchable .names-are;
-        alike = λ i.
-            memory-reads (sizes s) solution k (omega (arith, x .searchable .names-are)) i
-            ∙ ap (λ (w : ℕ). getD (padded solution (w * k + 2) (length (sizes s))) i 0) width
-            ∙ ap (λ (n : ℕ). getD (padded solution ((2 + names) * k + 2) n) i 0) (x .searchable .names-are)
-            ∙ ap (λ (l : List ℕ). getD l i 0) (sym p);
-      }
+      rw width (memory-reads solution k names (sizes s) (x .searchable .names-are) few (record-inside _ _ _ _ h (x .searchable .indexed .room)) rho p)
 
 -- the first record that a query finds something at, as a loop finds it
 only-nowhere : (x : Spot) → isHere x ≡ false → x ≡ Nowhere
@@ -200,14 +188,8 @@ module _ {s edges entries : List ℕ} {edge-count names count : ℕ} {solution f
 module _ {ns : List ℕ} {names count : ℕ} {solution fs heads next : List ℕ} (x : Searchable ns names count solution fs heads next) (few : names ≤ 32) (initial : List ℕ) (k : ℕ)
     (h : k < recordCount names initial) (rho : List ℕ) (p : rho ≡ padded initial (names * k) names) where
   pub start-read : ReadInto (recordAt (initialWidth ns) initial k) rho names
-  unfolding Alike initialWidth
-  start-read =
-      record {
-        sized = start-length ns initial k (rw (x .names-are) h) ∙ x .names-are;
-        alike = λ i.
-            start-reads ns initial k (omega (arith, x .names-are)) i ∙ ap (λ (n : ℕ). getD (padded initial (n * k) n) i 0) (x .names-are)
-            ∙ ap (λ (l : List ℕ). getD l i 0) (sym p);
-      }
+  unfolding initialWidth recordCount
+  start-read = rw (x .names-are) (start-reads initial k names few (counted-inside _ _ k h) rho p)
 
   pub start-unchanged : set (recordAt (initialWidth ns) initial k) 0 (getD rho 0 0) ≡ recordAt (initialWidth ns) initial k
   unfolding Alike

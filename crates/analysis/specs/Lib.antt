@@ -9,6 +9,7 @@ pub mod Index
 pub mod Verdict
 pub mod Judging
 pub mod Solver
+pub mod Solving
 pub mod Splitter
 pub mod Sheet
 pub mod Soundness

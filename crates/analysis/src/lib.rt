@@ -4,6 +4,7 @@ mod evaluator;
 pub mod judging;
 mod lists;
 mod membership;
+pub mod solver;
 pub mod splitting;
 
 use program::Refusal;

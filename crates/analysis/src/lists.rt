@@ -3,7 +3,7 @@
 ghost use mathlib.Core.Path.{_≡_};
 ghost use mathlib.Core.List.{List, _++_};
 ghost use Prim.Native.Nat.{ℕ, _<_, _≤_, _+_};
-ghost use lib.ListN.{length};
+ghost use lib.ListN.{length, set};
 ghost use Rattle.program.specs.DrawingParts;
 ghost use Rattle.program.specs.Graph;
 ghost use Rattle.analysis.specs.Abstraction;
@@ -145,4 +145,16 @@ pub(crate) fn record_for(node: u16, rho: &[u8; 32]) -> [u8; 34]
     out[1] = (node % 256) as u8;
     put(&mut out, 2, rho);
     out
+}
+
+// The record of an abstract memory, one name with another set, at a node.
+pub(crate) fn record_with(node: u16, rho: &[u8; 32], name: u16, signs: u8) -> [u8; 34]
+    ensures { λ r. ⌜ r ≡ set (Graph.wordBytes node ++ now (rho .entry)) (2 + name) signs ⌝ }
+{
+    let mut row = record_for(node, rho);
+    let column = 2 + name as usize;
+    if column < 34 {
+        row[column] = signs;
+    }
+    row
 }

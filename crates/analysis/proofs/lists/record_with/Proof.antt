@@ -1,11 +1,11 @@
--- `judging::record_with`: past the last column, nothing is replaced.
+-- `lists::record_with`: past the last column, nothing is replaced.
 use borrow.Author.Needs.{needs}
 use mathlib.Core.Path.{_≡_, sym, ap, _∙_}
 use native.Mathlib.Omega.{arith}
 use lib.ListN.{length}
 use lib.Seq.{set-out}
-use Rattle.analysis.proofs.judging.record_with.Statement.{statement}
-use Rattle.analysis.proofs.judging.record_with.Tie as tie
+use Rattle.analysis.proofs.lists.record_with.Statement.{statement}
+use Rattle.analysis.proofs.lists.record_with.Tie as tie
 
 returns : tie.Need-returns
 returns c = rw (c .before .record-for .ensures)

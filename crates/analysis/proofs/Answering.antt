@@ -1,0 +1,133 @@
+-- The solver's answer: its questions, and the list that it leaves in the buffer.
+use mathlib.Core.Path.{_≡_, refl, sym, ap, subst, _∙_}
+use mathlib.Core.Bool.{Bool, false}
+use mathlib.Core.List.{List, [], _∷_, _++_, foldl, flatten, append-assoc, append-nil}
+use Prim.Native.Nat.{ℕ, zero, suc, _+_, _*_, _/_, _≤_, min}
+use native.Mathlib.Nat.{mul-zero, mul-suc, mul-div-le, mul-le-mul-left}
+use native.Mathlib.Omega.{arith}
+use lib.ListN.{length, take, replicate, take-append-drop}
+use lib.Seq.{length-take-le, take-add}
+use Rattle.signs.specs.Lists.{tabulate}
+use Rattle.program.specs.Asking.{ask, thenAsk}
+use Rattle.program.specs.Decoding.{decodedSizes}
+use Rattle.program.specs.Drawing.{over}
+use Rattle.program.specs.File.{nameCount, sizes}
+use Rattle.program.specs.Graph.{Graph, graph}
+use Rattle.program.specs.Questions.{validity}
+use Rattle.program.specs.declared.Refusal.{Refusal}
+use Rattle.program.specs.declared.Validity.{Validity}
+use Rattle.program.specs.declared.Validity.the-variants.{Fit, Refused}
+use Rattle.program.proofs.Laws.{counts, sizes-length}
+use Rattle.program.proofs.Lists.{length-tabulate}
+use Rattle.analysis.specs.RecordParts.{SizesIn}
+use Rattle.analysis.specs.Records.{initialWidth, recordWidth, recordAt, recordsOf, wholeRecords, initialWhole, initialFormed, wrongByte}
+use Rattle.analysis.specs.Solver.{Found, offer, descend, solution, roomOf, finishedOr, solvedWith, bufferWith, initialValidity, solutionIn, solved, solvedBuffer, solvedNumbers}
+use Rattle.analysis.specs.Solving.{foundIn, Growing, Extended, Roomy, Wrote, Answered}
+use Rattle.analysis.specs.declared.Records.the-variants.{Initial}
+use Rattle.analysis.specs.declared.Solved.{Solved}
+use Rattle.analysis.specs.declared.Solving.the-variants.{Refused as Refuses, Malformed}
+use Rattle.analysis.specs.declared.solver.Progress.{Progress}
+use Rattle.analysis.proofs.Chains.{indexed-none}
+use Rattle.analysis.proofs.Growing.{extended-more}
+use Rattle.analysis.proofs.Laid.{sizes-in}
+
+-- ---- The list
+
+-- before the first record; and from there on
+pub growing-none : (fs : List ℕ) {names room : ℕ} {buffer : List ℕ} → Roomy names room buffer
+    → Growing fs (2 + names) room buffer (replicate 8192 0) (replicate 4096 0) (record { count = 0; full = false })
+growing-none fs {names} {room} {buffer} y = record { wide = omega (arith, y .few); most = y .most; fits = y .fits; few = omega arith; indexed = indexed-none fs (2 + names) buffer }
+
+pub wrote : {fs : List ℕ} {width room : ℕ} {b₀ b₁ h₁ n₁ b₂ h₂ n₂ : List ℕ} {p₀ p₁ p₂ : Progress} → Extended fs width room b₀ p₀ b₁ h₁ n₁ p₁ → Extended fs width room b₁ p₁ b₂ h₂ n₂ p₂
+    → Wrote width room b₀ b₂ p₂
+wrote {fs} {width} {room} x y = let z = extended-more fs width room x y in record { few = z .growing .few; sized = z .sized; past = z .past }
+
+pub solution-found : (ns : List ℕ) (g : Graph) (initial : List ℕ) (room width : ℕ) (buffer : List ℕ) {f f′ : Found}
+    → f ≡ foldl (offer ns room 0) (foundIn width buffer (record { count = 0; full = false })) (recordsOf (initialWidth ns) initial) → f′ ≡ descend room ns g room 0 f
+    → f′ ≡ solution ns g initial room
+unfolding solution foundIn tabulate
+solution-found ns g initial room width buffer p q = q ∙ ap (descend room ns g room 0) p
+
+-- room is the buffer's whole records, at most 4,096
+pub roomy : (s : List ℕ) → validity s ≡ Fit → {names room : ℕ} (buffer : List ℕ) → names ≡ nameCount s → room ≡ min 4096 (length buffer / (2 + names)) → Roomy names room buffer
+roomy s fit {names} {room} buffer e p =
+    record {
+      some = omega (arith, counts s fit .some-name);
+      few = omega (arith, counts s fit .names);
+      most = omega arith;
+      fits = omega (arith, mul-le-mul-left {m = room} {n = length buffer / (2 + names)} (2 + names) (omega arith), mul-div-le (length buffer) (2 + names));
+    }
+
+pub solution-in : (s initial buffer : List ℕ) {names room : ℕ} → names ≡ nameCount s → room ≡ min 4096 (length buffer / (2 + names))
+    → solution (sizes s) (graph s) initial room ≡ solutionIn s initial buffer
+unfolding solutionIn roomOf recordWidth
+solution-in s initial buffer e p =
+    ap (solution (sizes s) (graph s) initial) (p ∙ ap (λ (n : ℕ). min 4096 (length buffer / (2 + n))) (e ∙ sym (sizes-length s)))
+
+-- the records that begin a buffer are its front
+flatten-more : (rs : List (List ℕ)) (r : List ℕ) → flatten (rs ++ (r ∷ [])) ≡ flatten rs ++ r
+unfolding flatten
+flatten-more [] r = append-nil r
+flatten-more (x ∷ xs) r = rw (flatten-more xs r) (sym (append-assoc x (flatten xs) r))
+
+flatten-found : (width n : ℕ) (buffer : List ℕ) → flatten (tabulate n (recordAt width buffer)) ≡ take (width * n) buffer
+unfolding flatten tabulate recordAt
+flatten-found width zero buffer = rw mul-zero
+flatten-found width (suc n) buffer = flatten-more (tabulate n (recordAt width buffer)) (recordAt width buffer n) ∙ rw (flatten-found width n buffer, mul-suc) (sym (take-add (width * n) width buffer))
+
+-- ---- The answer
+
+module _ {f : Found} {before : List ℕ} where
+  pub answered-found : (width room : ℕ) (buffer : List ℕ) (p : Progress) → Wrote width room before buffer p → width * room ≤ length before → foundIn width buffer p ≡ f
+      → {r : Solved} → r ≡ record { solving = finishedOr (p .full); count = p .count } → Answered Fit Fit f before buffer r
+  unfolding solvedWith bufferWith foundIn over
+  answered-found width room buffer p w fits e {r} q =
+      record {
+        reply = q ∙ ap (λ (n : ℕ). record { solving = finishedOr (p .full); count = n }) (sym (length-tabulate (p .count) (recordAt width buffer))) ∙ ap (solvedWith Fit Fit) e;
+        buffer = laid ∙ ap (λ (v : Found). bufferWith Fit Fit v before) e;
+      }
+    where
+      long : length (take (width * p .count) buffer) ≡ width * p .count
+      long = length-take-le (width * p .count) buffer (omega (arith, w .sized, fits, mul-le-mul-left {m = p .count} {n = room} width (w .few)))
+
+      laid : buffer ≡ over (flatten (tabulate (p .count) (recordAt width buffer))) before
+      laid = rw (flatten-found width (p .count) buffer, long, ← w .past) (sym (take-append-drop (width * p .count) buffer))
+
+  -- by the answer to each question
+  pub answered-formed : {asked formed : Validity} {buffer : List ℕ} {r : Solved} → formed ≡ Fit → Answered asked Fit f before buffer r → Answered asked formed f before buffer r
+  answered-formed {asked} {formed} {buffer} {r} e a = subst (λ (v : Validity). Answered asked v f before buffer r) (sym e) a
+
+  pub answered-asked : {asked then formed : Validity} {buffer : List ℕ} {r : Solved} → asked ≡ then → Answered then formed f before buffer r → Answered asked formed f before buffer r
+  answered-asked {asked} {then} {formed} {buffer} {r} e a = subst (λ (v : Validity). Answered v formed f before buffer r) (sym e) a
+
+  pub answered-malformed : {formed : Validity} (x : Refusal) {r : Solved} → formed ≡ Refused x → r ≡ record { solving = Malformed (wrongByte Initial x); count = 0 } → Answered Fit formed f before before r
+  unfolding solvedWith bufferWith
+  answered-malformed x {r} e p = subst (λ (v : Validity). Answered Fit v f before before r) (sym e) (record { reply = p; buffer = refl })
+
+  pub answered-refused : {asked formed : Validity} (x : Refusal) {r : Solved} → asked ≡ Refused x → r ≡ record { solving = Refuses x; count = 0 } → Answered asked formed f before before r
+  unfolding solvedWith bufferWith
+  answered-refused {asked} {formed} x {r} e p = subst (λ (v : Validity). Answered v formed f before before r) (sym e) (record { reply = p; buffer = refl })
+
+-- question 16 as code asks it, after questions 1 to 11
+pub whole-asked : (s initial : List ℕ) {names : ℕ} {b : Bool} {v : Validity} → names ≡ nameCount s → b ≡ wholeRecords names initial → v ≡ ask b 16 0 → initialWhole (sizes s) initial ≡ v
+unfolding initialWhole initialWidth
+whole-asked s initial e p q = sym (q ∙ ap (λ (b : Bool). ask b 16 0) p ∙ ap (λ (n : ℕ). ask (wholeRecords n initial) 16 0) (e ∙ sym (sizes-length s)))
+
+pub validity-fit : (s initial : List ℕ) → validity s ≡ Fit → initialValidity s initial ≡ initialWhole (sizes s) initial
+unfolding initialValidity thenAsk
+validity-fit s initial e = rw e
+
+pub validity-refused : (s initial : List ℕ) (x : Refusal) → validity s ≡ Refused x → initialValidity s initial ≡ Refused x
+unfolding initialValidity thenAsk
+validity-refused s initial x e = rw e
+
+-- the sizes as code decodes and counts them
+pub sizes-read : (s : List ℕ) → validity s ≡ Fit → {szs : List ℕ} {names : ℕ} → szs ≡ decodedSizes s → names ≡ nameCount s → SizesIn (sizes s) szs names
+sizes-read s fit p e = rw (p, e) (sizes-in s fit)
+
+-- the clauses of the contract
+pub answered-all : (s initial buffer : List ℕ) {buffer′ : List ℕ} {r : Solved}
+    → Answered (initialValidity s initial) (initialFormed (sizes s) initial) (solutionIn s initial buffer) buffer buffer′ r
+    → ((r ≡ solved s initial buffer) × (buffer′ ≡ solvedBuffer s initial buffer)) × (solvedNumbers r ≡ solvedNumbers (solved s initial buffer))
+unfolding solved solvedBuffer
+answered-all s initial buffer a = ((a .reply, a .buffer), ap solvedNumbers (a .reply))

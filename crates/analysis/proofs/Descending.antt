@@ -1,0 +1,201 @@
+-- The solver goes along the edges out of a node and down its own list as the definition does.
+use mathlib.Core.Path.{_≡_, refl, sym, ap, _∙_}
+use mathlib.Core.Bool.{Bool, true, false, cond}
+use mathlib.Core.List.{List, [], _∷_, _++_, foldl, map, foldl-append, append-nil}
+use Prim.Native.Nat.{ℕ, zero, suc, _+_, _*_, _-_, _<_, _≤_, min}
+use native.Mathlib.Nat.{add-zero}
+use native.Mathlib.Omega.{arith}
+use borrow.Author.Tests.{eq-eqb, ne-eqb, lt-ltb, le-ltb}
+use lib.Dec.{eqb, ltb}
+use lib.ListN.{length, getD, set, take}
+use Rattle.signs.specs.Lists.{tabulate, passing, indices}
+use Rattle.program.specs.Decoding.{decodedEntry}
+use Rattle.program.specs.Drawing.{edgeRead}
+use Rattle.program.specs.File.{wordAt, sizes}
+use Rattle.program.specs.Graph.{Graph, graph, actionOf}
+use Rattle.program.specs.Links.{sourceIn, Followable, Followed}
+use Rattle.program.specs.declared.EdgeBytes.{EdgeBytes}
+use Rattle.program.proofs.Lists.{getD-tabulate}
+use Rattle.program.proofs.Laws.{next-beyond, first-followed, next-followed}
+use Rattle.semantics.specs.Action.{meaning}
+use Rattle.semantics.specs.Step.{edgeAt, leaves}
+use Rattle.semantics.proofs.Laws.{drawn-leaves, drawn-target, drawn-action, linkable}
+use Rattle.analysis.specs.Changing.{ResultsIn}
+use Rattle.analysis.specs.Judging.{ReadInto}
+use Rattle.analysis.specs.Records.{recordAt, nodeOf, memoryOf}
+use Rattle.analysis.specs.Results.{results}
+use Rattle.analysis.specs.Solver.{Found, offer, offerResults, offerSuccessors, descend}
+use Rattle.analysis.specs.Solving.{foundIn, along, Decoded}
+use Rattle.analysis.specs.declared.Changes.{Changes}
+use Rattle.analysis.specs.declared.solver.Progress.{Progress}
+use Rattle.analysis.proofs.Growing.{offer-full}
+use Rattle.analysis.proofs.Laid.{node-reads}
+
+-- ---- Along an edge
+
+-- the results of an edge, as the code reads it and offers them
+pub edge-offered : {s edges entries : List ℕ} {edge-count names : ℕ} (x : Decoded s edges entries edge-count names) (e : ℕ) → e < edge-count → (r : EdgeBytes) → r ≡ edgeRead edges e
+    → (ρ rho : List ℕ) → ReadInto ρ rho names → (c : Changes) → ResultsIn rho (meaning (actionOf (decodedEntry entries) (r .kind) (r .entry))) c → (room : ℕ) (f : Found) {f′ : Found}
+    → f′ ≡ foldl (offer (sizes s) room (r .target)) f (map (set ρ (c .name)) (take (c .count) (c .sets))) → f′ ≡ offerResults (sizes s) (graph s) room ρ f e
+unfolding offerResults
+edge-offered {s} {edges} {entries} {edge-count} x e h r read ρ rho y c k room f p =
+    let same =
+    ap (λ (l : List ℕ). meaning (actionOf (decodedEntry l) (r .kind) (r .entry))) (x .entries-decoded) ∙ ap meaning (drawn-action s edges _ edge-count (x .drawn .drawing) e r h read)
+    in
+    rw (← drawn-target s edges _ edge-count (x .drawn .drawing) e r h read, ← same, k .gives ρ (y .alike)) p
+
+-- ---- Along the edges out of a node
+
+passing-more : (p : ℕ → Bool) (xs : List ℕ) (x : ℕ) → passing p (xs ++ (x ∷ [])) ≡ passing p xs ++ cond (p x) (x ∷ []) []
+unfolding passing
+passing-more p [] x = refl
+passing-more p (y ∷ ys) x = by (passing-more p ys x) (p y)
+  where
+    by : passing p (ys ++ (x ∷ [])) ≡ passing p ys ++ cond (p x) (x ∷ []) [] → (b : Bool)
+        → cond b (y ∷ passing p (ys ++ (x ∷ []))) (passing p (ys ++ (x ∷ []))) ≡ cond b (y ∷ passing p ys) (passing p ys) ++ cond (p x) (x ∷ []) []
+    by below true = ap (λ (l : List ℕ). y ∷ l) below
+    by below false = below
+
+module _ (f : Found → ℕ → Found) (g : Graph) (node : ℕ) (z : Found) where
+  -- one that leaves the node is taken, others are passed over
+  along-taken : (n : ℕ) → leaves g n node ≡ true → along f g node (suc n) z ≡ f (along f g node n z) n
+  unfolding along indices tabulate
+  along-taken n e = rw (passing-more (λ e. leaves g e node) (indices n) n, e) (foldl-append f z (passing (λ e. leaves g e node) (indices n)) (n ∷ []))
+
+  along-other : (n : ℕ) → leaves g n node ≡ false → along f g node (suc n) z ≡ along f g node n z
+  unfolding along indices tabulate
+  along-other n e = rw (passing-more (λ e. leaves g e node) (indices n) n, e, append-nil (passing (λ e. leaves g e node) (indices n)))
+
+  along-passed : (n k : ℕ) → ((i : ℕ) → n ≤ i → i < n + k → leaves g i node ≡ false) → along f g node (n + k) z ≡ along f g node n z
+  along-passed n zero h = rw add-zero
+  along-passed n (suc k) h =
+      let step : n + suc k ≡ suc (n + k) = omega arith in
+      ap (λ (m : ℕ). along f g node m z) step ∙ along-other (n + k) (h (n + k) (omega arith) (omega arith)) ∙ along-passed n k (λ i a b. h i a (omega arith))
+
+  along-none : along f g node 0 z ≡ z
+  unfolding along indices tabulate passing
+  along-none = refl
+
+  -- from n to m, where none of them leaves the node
+  along-between : (n m : ℕ) → n ≤ m → ((i : ℕ) → n ≤ i → i < m → leaves g i node ≡ false) → along f g node m z ≡ along f g node n z
+  along-between n m l h =
+      let whole : n + (m - n) ≡ m = omega arith in
+      ap (λ (k : ℕ). along f g node k z) (sym whole) ∙ along-passed n (m - n) (λ i a b. h i a (omega arith))
+
+module _ {edges : List ℕ} {count : ℕ} {ls : List ℕ} (w : Followable edges count ls) (node : ℕ) where
+  -- following a link comes to an edge out of the node
+  pub first-leaves : node < 129 → getD ls node 0 < count → sourceIn edges (getD ls node 0) ≡ node
+  first-leaves h l = first-followed w node (λ k. ⊥) h .here l
+
+  abbrev Before : ℕ → ℕ → Type 0
+  Before e k = k < suc e
+
+  next-passes : (e : ℕ) → e < count → sourceIn edges e ≡ node → Followed edges count node (Before e) (getD ls (129 + e) 0)
+  next-passes e h here = next-followed w node (Before e) e h (record { here = λ l. here; before = λ k l a b. omega arith }) (omega arith)
+
+  pub next-leaves : (e : ℕ) → e < count → sourceIn edges e ≡ node → getD ls (129 + e) 0 < count → sourceIn edges (getD ls (129 + e) 0) ≡ node
+  next-leaves e h here l = next-passes e h here .here l
+
+  module _ {s entries : List ℕ} {names : ℕ} (x : Decoded s edges entries count names) (f : Found → ℕ → Found) (z : Found) where
+    leaves-by : (k : ℕ) → k < count → leaves (graph s) k node ≡ eqb (sourceIn edges k) node
+    unfolding sourceIn
+    leaves-by k h = sym (drawn-leaves s edges _ count (x .drawn .drawing) k node (edgeRead edges k) h refl)
+
+    -- an edge before which something holds that does not hold of it is passed over
+    passed-over : (P : ℕ → Type 0) (e : ℕ) → Followed edges count node P e → (k : ℕ) → k < e → k < count → (P k → ⊥) → leaves (graph s) k node ≡ false
+    passed-over P e at k h l d = by (eqb (sourceIn edges k) node) refl
+      where
+        by : (b : Bool) → eqb (sourceIn edges k) node ≡ b → leaves (graph s) k node ≡ false
+        by true q = absurd (d (at .before k h l q))
+        by false q = leaves-by k l ∙ q
+
+    pub first-along : node < 129 → z ≡ along f (graph s) node (min (getD ls node 0) count) z
+    first-along h =
+        sym
+        (along-between f (graph s) node z 0 (min (getD ls node 0) count) (omega arith)
+        (λ i a b. passed-over (λ k. ⊥) _ (first-followed w node (λ k. ⊥) h) i (omega arith) (omega arith) (λ v. v))
+        ∙ along-none f (graph s) node z)
+
+    pub next-along : (e : ℕ) → e < count → sourceIn edges e ≡ node → {a b : Found} → a ≡ along f (graph s) node (min e count) z → b ≡ f a e
+        → b ≡ along f (graph s) node (min (getD ls (129 + e) 0) count) z
+    next-along e h here {a} {b} p q =
+        let here-now : min e count ≡ e = omega arith in
+        q ∙ ap (λ (v : Found). f v e) (p ∙ ap (λ (n : ℕ). along f (graph s) node n z) here-now)
+        ∙ sym (along-taken f (graph s) node z e (leaves-by e h ∙ eq-eqb (sourceIn edges e) node here))
+        ∙ sym
+        (along-between f (graph s) node z (suc e) (min (getD ls (129 + e) 0) count) (omega (arith, next-beyond w e h))
+        (λ i a b. passed-over (Before e) _ (next-passes e h here) i (omega arith) (omega arith) (λ v. omega arith)))
+
+    -- all edges; and from a node past the last there is none
+    pub all-along : (e : ℕ) → count ≤ e → {a : Found} → a ≡ along f (graph s) node (min e count) z → a ≡ along f (graph s) node (length (graph s .edges)) z
+    all-along e h p =
+        let all : min e count ≡ length (graph s .edges) = omega (arith, x .drawn .drawing .edge-count) in
+        p ∙ ap (λ (n : ℕ). along f (graph s) node n z) all
+
+    pub none-along : 129 ≤ node → z ≡ along f (graph s) node (length (graph s .edges)) z
+    none-along h =
+        sym
+        (along-between f (graph s) node z 0 (length (graph s .edges)) (omega arith)
+        (λ i a b.
+        let l : i < count = omega (arith, x .drawn .drawing .edge-count) in
+        leaves-by i l ∙ ne-eqb (sourceIn edges i) node (λ q. omega (arith, linkable s edges _ count (x .drawn .drawing) .inside i l)))
+        ∙ along-none f (graph s) node z)
+
+-- ---- Down the list
+
+-- what follows record k
+pub record-offered : (ns : List ℕ) (names : ℕ) (g : Graph) (buffer : List ℕ) (p : Progress) (k : ℕ) → k < p .count → (room : ℕ) {node : ℕ} → node ≡ wordAt buffer ((2 + names) * k)
+    → {f′ : Found} → f′ ≡ along (offerResults ns g room (memoryOf ns (recordAt (2 + names) buffer k))) g node (length (g .edges)) (foundIn (2 + names) buffer p)
+    → f′ ≡ offerSuccessors ns g room (getD (foundIn (2 + names) buffer p .records) k []) (foundIn (2 + names) buffer p)
+unfolding offerSuccessors along foundIn
+record-offered ns names g buffer p k h room r q =
+    rw (getD-tabulate (p .count) (recordAt (2 + names) buffer) k [] h, node-reads buffer k names, ← r) q
+
+module _ (ns : List ℕ) (g : Graph) (room : ℕ) where
+  -- a full list stays as it is
+  fold-full : {A : Type 0} (f : Found → A → Found) (z : Found) → ((x : A) → f z x ≡ z) → (xs : List A) → foldl f z xs ≡ z
+  fold-full f z h [] = refl
+  fold-full f z h (x ∷ xs) = ap (λ (v : Found). foldl f v xs) (h x) ∙ fold-full f z h xs
+
+  results-full : (ρ : List ℕ) (f : Found) → f .full ≡ true → (n : ℕ) → offerResults ns g room ρ f n ≡ f
+  unfolding offerResults
+  results-full ρ f e n = fold-full (offer ns room (edgeAt g n .target)) f (λ σ. offer-full ns room (edgeAt g n .target) f σ e) (results ρ (meaning (edgeAt g n .action)))
+
+  successors-full : (r : List ℕ) (f : Found) → f .full ≡ true → offerSuccessors ns g room r f ≡ f
+  unfolding offerSuccessors
+  successors-full r f e =
+      fold-full (offerResults ns g room (memoryOf ns r)) f (results-full (memoryOf ns r) f e) (passing (λ n. leaves g n (nodeOf r)) (indices (length (g .edges))))
+
+  descend-full : (turns k : ℕ) (f : Found) → f .full ≡ true → descend turns ns g room k f ≡ f
+  unfolding descend
+  descend-full zero k f e = refl
+  descend-full (suc turns) k f e = by (ap (descend turns ns g room (k + 1)) (successors-full (getD (f .records) k []) f e) ∙ descend-full turns (k + 1) f e) (ltb k (length (f .records)))
+    where
+      by : {rest : Found} → rest ≡ f → (b : Bool) → cond b rest f ≡ f
+      by p true = p
+      by p false = refl
+
+  descend-end : (turns k : ℕ) (f : Found) → length (f .records) ≤ k → descend turns ns g room k f ≡ f
+  unfolding descend
+  descend-end zero k f h = refl
+  descend-end (suc turns) k f h = rw (le-ltb k (length (f .records)) h)
+
+  descend-goes : (turns k : ℕ) (f : Found) → k < length (f .records) → descend (suc turns) ns g room k f ≡ descend turns ns g room (k + 1) (offerSuccessors ns g room (getD (f .records) k []) f)
+  unfolding descend
+  descend-goes turns k f h = rw (lt-ltb k (length (f .records)) h)
+
+  -- as the code goes: from the first record, one turn more, and no more turns
+  pub descended-start : (f : Found) → descend room ns g room 0 f ≡ descend (room - 0) ns g room 0 f
+  descended-start f = ap (λ (t : ℕ). descend t ns g room 0 f) (omega arith)
+
+  pub descended-more : (k : ℕ) (f : Found) {f′ d : Found} → k < length (f .records) → length (f .records) ≤ room → f′ ≡ offerSuccessors ns g room (getD (f .records) k []) f
+      → d ≡ descend (room - k) ns g room k f → d ≡ descend (room - (k + 1)) ns g room (k + 1) f′
+  descended-more k f h l p q =
+      let step : room - k ≡ suc (room - (k + 1)) = omega arith in
+      q ∙ ap (λ (t : ℕ). descend t ns g room k f) step ∙ descend-goes (room - (k + 1)) k f h ∙ ap (descend (room - (k + 1)) ns g room (k + 1)) (sym p)
+
+  pub descended-end : (k : ℕ) (f : Found) {d : Found} → length (f .records) ≤ k → d ≡ descend (room - k) ns g room k f → f ≡ d
+  descended-end k f h q = sym (q ∙ descend-end (room - k) k f h)
+
+  pub descended-full : (k : ℕ) (f : Found) {d : Found} → f .full ≡ true → d ≡ descend (room - k) ns g room k f → f ≡ d
+  descended-full k f h q = sym (q ∙ descend-full (room - k) k f h)
