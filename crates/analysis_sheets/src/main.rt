@@ -13,12 +13,14 @@
 // 5. the third term tried: the further numbers are as many cells of a memory as the number says, four bytes each, and then step calls, two bytes each. It prints what the solver
 //    answers and, for the run before the first call and after each, whether the sheet has the memory's record at the run's node; then the sheet's index mark.
 use analysis::Mark;
+use analysis::Marking;
 use analysis::Records;
 use analysis::Solving;
 use analysis::Split;
 use analysis::Verdict;
 use analysis::WrongByte;
 use analysis::judging;
+use analysis::solver;
 use analysis::splitting;
 use libc::STDOUT_FILENO;
 use program::Refusal;
@@ -109,6 +111,14 @@ fn print_mark(mark: Mark) {
     match mark {
         Mark::Clean => print(b"index clean"),
         Mark::Unclean { record, edge } => print_unclean(record, edge),
+    }
+}
+
+fn print_marking(marking: Marking) {
+    match marking {
+        Marking::Refused(x) => print_refusal(x),
+        Marking::Malformed(x) => print_wrong(x),
+        Marking::Marked(mark) => print_mark(mark),
     }
 }
 
@@ -213,17 +223,22 @@ fn answer_judge(s: &[u8], initial: &[u8], sheet: &[u8]) {
 }
 
 fn answer_offending(s: &[u8], initial: &[u8], sheet: &[u8]) {
-    print(b"; later");
+    print(b"; offending");
+    print_records(judging::verdict(s, initial, sheet), 0);
 }
 
 fn answer_mark(s: &[u8], sheet: &[u8]) {
-    print(b"later");
+    print_marking(judging::index_mark(s, sheet));
 }
 
 // Says what the solver answers, and gives the number of records that it wrote.
 fn answer_solve(s: &[u8], initial: &[u8], buffer: &mut [u8]) -> u16 {
-    print(b"later");
-    0
+    let solved = solver::solve(s, initial, buffer);
+    let answer = solved.solving;
+    print_solving(answer);
+    print(b" with ");
+    print_number(wide_word(solved.count));
+    solved.count
 }
 
 fn answer_split(s: &[u8], at: u32) {
