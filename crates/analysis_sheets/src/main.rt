@@ -222,7 +222,8 @@ fn answer_judge(s: &[u8], initial: &[u8], sheet: &[u8]) {
     print_verdict(judging::judge(s, initial, sheet));
 }
 
-fn answer_offending(s: &[u8], initial: &[u8], sheet: &[u8]) {
+// The offending record is a part of either list, so that here and above the two have one lifetime.
+fn answer_offending<'a>(s: &[u8], initial: &'a [u8], sheet: &'a [u8]) {
     print(b"; offending");
     print_records(judging::verdict(s, initial, sheet), 0);
 }
@@ -246,7 +247,7 @@ fn answer_split(s: &[u8], at: u32) {
 }
 
 // Mode 1: the verdict, and the offending record.
-fn answer_verdict(s: &[u8], initial: &[u8], sheet: &[u8]) {
+fn answer_verdict<'a>(s: &[u8], initial: &'a [u8], sheet: &'a [u8]) {
     answer_judge(s, initial, sheet);
     answer_offending(s, initial, sheet);
 }
@@ -568,7 +569,7 @@ fn answer_calls(s: &[u8], initial: &[u8], further: &[u8], cells: usize) {
     answer_cells(s, initial, further, &mut memory, cells);
 }
 
-fn answer(h: Head, s: &[u8], initial: &[u8], sheet: &[u8], further: &[u8]) {
+fn answer<'a>(h: Head, s: &[u8], initial: &'a [u8], sheet: &'a [u8], further: &[u8]) {
     let mode = h.mode;
     match mode {
         1 => answer_verdict(s, initial, sheet),
@@ -595,7 +596,7 @@ fn print_front(bytes: &[u8], n: usize) {
     }
 }
 
-fn answer_front(h: Head, bytes: &[u8], initial: &[u8], sheet: &[u8], further: &[u8]) {
+fn answer_front<'a>(h: Head, bytes: &[u8], initial: &'a [u8], sheet: &'a [u8], further: &[u8]) {
     let n = h.length;
     if n <= bytes.len() {
         answer(h, &bytes[..n], initial, sheet, further);
@@ -603,7 +604,7 @@ fn answer_front(h: Head, bytes: &[u8], initial: &[u8], sheet: &[u8], further: &[
 }
 
 // Answers a case whose file comes next, and says whether all of that is there.
-fn answer_file(fd: i32, h: Head, initial: &[u8], sheet: &[u8], further: &[u8]) -> bool {
+fn answer_file<'a>(fd: i32, h: Head, initial: &'a [u8], sheet: &'a [u8], further: &[u8]) -> bool {
     let mut bytes = [0u8; 8192];
     let got = read_front(fd, &mut bytes, h.length);
     if got != h.length {
@@ -614,7 +615,7 @@ fn answer_file(fd: i32, h: Head, initial: &[u8], sheet: &[u8], further: &[u8]) -
     true
 }
 
-fn answer_with(fd: i32, h: Head, initial: &[u8], sheet: &[u8], bytes: &[u8]) -> bool {
+fn answer_with<'a>(fd: i32, h: Head, initial: &'a [u8], sheet: &'a [u8], bytes: &[u8]) -> bool {
     let n = h.further;
     if n <= bytes.len() {
         answer_file(fd, h, initial, sheet, &bytes[..n])
@@ -624,7 +625,7 @@ fn answer_with(fd: i32, h: Head, initial: &[u8], sheet: &[u8], bytes: &[u8]) -> 
 }
 
 // Answers a case whose further numbers and file come next.
-fn answer_further(fd: i32, h: Head, initial: &[u8], sheet: &[u8]) -> bool {
+fn answer_further<'a>(fd: i32, h: Head, initial: &'a [u8], sheet: &'a [u8]) -> bool {
     let mut bytes = [0u8; 4096];
     let got = read_front(fd, &mut bytes, h.further);
     if got != h.further {
@@ -694,7 +695,7 @@ fn read_list(fd: i32, list: &mut [u8], chunks: u8) -> usize {
     at
 }
 
-fn answer_sheet(fd: i32, h: Head, initial: &[u8], list: &[u8], n: usize) -> bool {
+fn answer_sheet<'a>(fd: i32, h: Head, initial: &'a [u8], list: &'a [u8], n: usize) -> bool {
     if n <= list.len() {
         answer_further(fd, h, initial, &list[..n])
     } else {
