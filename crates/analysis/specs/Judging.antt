@@ -5,6 +5,7 @@ use mathlib.Core.List.{List}
 use Prim.Native.Nat.{ℕ, _+_, _≤_, _<_}
 use lib.ListN.{length}
 use Rattle.signs.specs.Lists.{anyOf}
+use Rattle.program.specs.Asking.{askPlain}
 use Rattle.program.specs.Decoding.{decodedEntries}
 use Rattle.program.specs.File.{sizes}
 use Rattle.program.specs.FirstSuch.{firstSuch}
@@ -20,7 +21,8 @@ use Rattle.analysis.specs.Index.{mayBeNegative}
 use Rattle.analysis.specs.Membership.{Indexed}
 use Rattle.analysis.specs.Records.{recordWidth, recordCount, recordAt, nodeOf, memoryOf, hasAt, wholeRecords, initialFormed, solutionFormed}
 use Rattle.analysis.specs.Results.{results}
-use Rattle.analysis.specs.Verdict.{missingInitial, spotAt, missingResult, indexMark, verdictBy, unlessMalformed}
+use Rattle.analysis.specs.Verdict.{missingInitial, spotAt, missingResult, indexMark, verdictBy, unlessMalformed, markingBy}
+use Rattle.analysis.specs.declared.Marking.{Marking}
 use Rattle.analysis.specs.declared.Records.the-variants.{Initial, Solution}
 use Rattle.analysis.specs.declared.Spot.{Spot}
 use Rattle.analysis.specs.declared.Verdict.{Verdict}
@@ -101,8 +103,12 @@ foundFormed s initial solution =
 -- a program whose graph was drawn, and two lists of which 16 was answered yes
 pub record Whole (s edges : List ℕ) (nodes edge-count names : ℕ) (initial solution : List ℕ) : Type 0 where
   pub drawing : DrawnInto s edges nodes edge-count
-  pub names-are : length (sizes s) ≡ names
-  pub some : 0 < names
-  pub few : names ≤ 32
+  pub named : DrawnNames s edges edge-count names
   pub initial-whole : wholeRecords names initial ≡ true
   pub solution-whole : wholeRecords (2 + names) solution ≡ true
+
+-- the index mark of a list of records by itself, of a well-formed program
+unfoldable pub markingDrawn : List ℕ → List ℕ → Marking
+markingDrawn s solution =
+    markingBy (askPlain (wholeRecords (recordWidth (sizes s)) solution) 16) (solutionFormed (sizes s) (graph s) solution)
+    (indexMark (sizes s) (graph s) solution)

@@ -16,6 +16,7 @@ ghost use Rattle.analysis.specs.Soundness;
 ghost use Rattle.analysis.specs.Verdict as spec;
 use crate::Changes;
 use crate::Mark;
+use crate::Marking;
 use crate::Records as Lists;
 use crate::Spot;
 use crate::Verdict;
@@ -609,5 +610,57 @@ pub fn judge(program: &[u8], initial: &[u8], solution: &[u8]) -> Verdict
     match v {
         Validity::Fit => judge_drawn(program, &edges, drawn.nodes, drawn.edges, initial, solution),
         Validity::Refused(x) => Verdict::Refused(x),
+    }
+}
+
+// The offending record of 41 or 42, a part of the list that it lies in; else an empty part.
+pub fn verdict<'a>(program: &[u8], initial: &'a [u8], solution: &'a [u8]) -> &'a [u8]
+    ensures { λ r. ⌜ now r ≡ spec.offending (File.sizes (now (program .entry))) (now (initial .entry)) (now (solution .entry))
+        (spec.verdict (now (program .entry)) (now (initial .entry)) (now (solution .entry))) ⌝ }
+{
+    let names = file::name_count(program) as usize;
+    let v = judge(program, initial, solution);
+    match v {
+        Verdict::InitialMissing { record } => {
+            validation::part(initial, names * record as usize, names)
+        }
+        Verdict::ResultMissing { record, edge: _ } => {
+            validation::part(solution, (2 + names) * record as usize, 2 + names)
+        }
+        Verdict::Refused(_) => &initial[..0],
+        Verdict::Malformed(_) => &initial[..0],
+        Verdict::Accepted(_) => &initial[..0],
+    }
+}
+
+// 16 and 17 of a list of records, and then its index mark.
+fn mark_drawn(program: &[u8], edges: &[u8], nodes: u16, edge_count: u16, solution: &[u8]) -> Marking
+    requires { ⌜ Stepping.DrawnInto (now program) (now edges) nodes «edge_count» ⌝ }
+    ensures { λ r. ⌜ r ≡ parts.markingDrawn (now (program .entry)) (now (solution .entry)) ⌝ }
+{
+    let names = file::name_count(program) as usize;
+    let whole = validation::ask(lists::whole(solution, 2 + names), 16, 0);
+    if let Validity::Refused(x) = whole {
+        return Marking::Refused(x);
+    }
+    let sizes = decoding::name_sizes(program);
+    let formed = lists::solution_formed(&sizes, names, nodes, solution);
+    match formed {
+        Validity::Fit => Marking::Marked(mark_formed(program, edges, edge_count, solution, names)),
+        Validity::Refused(x) => Marking::Malformed(malformed(Lists::Solution, x)),
+    }
+}
+
+// The index mark of a list of records by itself.
+pub fn index_mark(program: &[u8], solution: &[u8]) -> Marking
+    ensures { λ r. ⌜ r ≡ spec.marking (now (program .entry)) (now (solution .entry)) ⌝ }
+    ensures numbers { λ r. ⌜ spec.markingNumbers r ≡ spec.markingNumbers (spec.marking (now (program .entry)) (now (solution .entry))) ⌝ }
+{
+    let mut edges = [0u8; 1785];
+    let drawn = drawing::draw_edges(program, &mut edges);
+    let v = drawn.validity;
+    match v {
+        Validity::Fit => mark_drawn(program, &edges, drawn.nodes, drawn.edges, solution),
+        Validity::Refused(x) => Marking::Refused(x),
     }
 }

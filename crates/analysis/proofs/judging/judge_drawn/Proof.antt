@@ -13,11 +13,11 @@ both-whole-requires : tie.Need-both-whole-requires
 both-whole-requires c κs = some-names _ (c .before .before .before .before .before .pre .fit) _ (c .name-count .ensures)
 
 judge-whole-requires : tie.Need-judge-whole-requires
-judge-whole-requires c κs = both-whole _ _ _ _ (c .before .before .before .before .name-count .ensures) _ (c .before .before .before .both-whole .ensures) _ _ _ (c .before .before .before .before .before .before .before .before .before .pre) _ (c .before .before .ask .ensures) (c .enum-told .given .1)
+judge-whole-requires c κs = both-whole _ _ (c .before .before .before .before .name-count .ensures) _ _ _ (c .before .before .before .both-whole .ensures) _ (c .before .before .ask .ensures) _ _ _ (c .before .before .before .before .before .before .before .before .before .pre) (c .enum-told .given .1)
 
 -- what was asked
 asked : (c : tie.After-ask) → c .ask .result ≡ bothWhole (sizes (c .before .before .before .before .before .before .before .args .program .now)) (c .before .before .before .before .before .before .before .args .initial .now) (c .before .before .before .before .before .before .before .args .solution .now)
-asked c = whole-asked _ _ _ _ (c .before .before .name-count .ensures) _ (c .before .both-whole .ensures) _ (c .ask .ensures)
+asked c = whole-asked _ _ (c .before .before .name-count .ensures) _ _ _ (c .before .both-whole .ensures) _ (c .ask .ensures)
 
 returns : tie.Need-returns
 unfolding judged unlessRefused foundFormed found

@@ -12,24 +12,24 @@ use Rattle.analysis.proofs.judging.judge_whole.Statement.{statement}
 use Rattle.analysis.proofs.judging.judge_whole.Tie as tie
 
 initial-formed-requires : tie.Need-initial-formed-requires
-initial-formed-requires c κs = let s = c .before .before .before .before .before .before in (s .pre .some, s .pre .few)
+initial-formed-requires c κs = let s = c .before .before .before .before .before .before in (s .pre .named .some, s .pre .named .few)
 
 solution-formed-requires : tie.Need-solution-formed-requires
-solution-formed-requires c κs = c .before .before .before .before .before .before .before .before .before .before .pre .few
+solution-formed-requires c κs = c .before .before .before .before .before .before .before .before .before .before .pre .named .few
 
 -- the start list is well formed
 first-fit : (c : tie.After-enum-told) → initialFormed (sizes (c .before .before .before .before .before .before .before .before .before .args .program .now)) (c .before .before .before .before .before .before .before .before .before .args .initial .now) ≡ Fit
-first-fit c = sym (c .before .before .initial-formed .ensures _ (sizes-read (c .before .before .before .before .before .before .before .before .before .pre) _ (c .before .before .before .before .name-sizes .ensures))) ∙ c .enum-told .given .1
+first-fit c = sym (c .before .before .initial-formed .ensures _ (sizes-read _ (c .before .before .before .before .before .before .before .before .before .pre .drawing .fit) (c .before .before .before .before .before .before .before .before .before .pre .named .names-are) _ (c .before .before .before .before .name-sizes .ensures))) ∙ c .enum-told .given .1
 
 -- what was asked of the solution
 second-answer : (c : tie.After-solution-formed) → solutionFormed (sizes (c .before .before .before .before .before .before .before .before .before .before .before .args .program .now)) (graph (c .before .before .before .before .before .before .before .before .before .before .before .args .program .now)) (c .before .before .before .before .before .before .before .before .before .before .before .args .solution .now) ≡ c .solution-formed .result
-second-answer c = sym (c .solution-formed .ensures _ (graph (c .before .before .before .before .before .before .before .before .before .before .before .args .program .now)) (sizes-read (c .before .before .before .before .before .before .before .before .before .before .before .pre) _ (c .before .before .before .before .before .before .name-sizes .ensures)) (sym (c .before .before .before .before .before .before .before .before .before .before .before .pre .drawing .node-count)))
+second-answer c = sym (c .solution-formed .ensures _ (graph (c .before .before .before .before .before .before .before .before .before .before .before .args .program .now)) (sizes-read _ (c .before .before .before .before .before .before .before .before .before .before .before .pre .drawing .fit) (c .before .before .before .before .before .before .before .before .before .before .before .pre .named .names-are) _ (c .before .before .before .before .before .before .name-sizes .ensures)) (sym (c .before .before .before .before .before .before .before .before .before .before .before .pre .drawing .node-count)))
 
 judge-formed-requires : tie.Need-judge-formed-requires
 judge-formed-requires c κs =
     let s = c .before .before .before .before .before .before .before .before .before .before .before .before .before in (
       record {
-        named = record { drawn = record { nodes = _; drawing = s .pre .drawing }; names-are = s .pre .names-are; some = s .pre .some; few = s .pre .few };
+        named = s .pre .named;
         whole = s .pre .solution-whole;
         formed = second-answer (c .before .before) ∙ c .enum-told2 .given .1;
       },
@@ -39,7 +39,7 @@ judge-formed-requires c κs =
 returns : tie.Need-returns
 unfolding foundFormed unlessMalformed
 returns c =
-    let answer = c .before .before .before .before .initial-formed .ensures _ (sizes-read (c .before .before .before .before .before .before .before .before .before .before .before .pre) _ (c .before .before .before .before .before .before .name-sizes .ensures)) in
+    let answer = c .before .before .before .before .initial-formed .ensures _ (sizes-read _ (c .before .before .before .before .before .before .before .before .before .before .before .pre .drawing .fit) (c .before .before .before .before .before .before .before .before .before .before .before .pre .named .names-are) _ (c .before .before .before .before .before .before .name-sizes .ensures)) in
     rw (sym answer ∙ c .before .before .first .given .1, c .malformed .ensures)
 
 returns-2 : tie.Need-returns-2
