@@ -17,7 +17,7 @@ use Rattle.program.specs.Questions.{validity}
 use Rattle.program.specs.declared.Refusal.{Refusal}
 use Rattle.program.specs.declared.Validity.{Validity}
 use Rattle.program.specs.declared.Validity.the-variants.{Fit, Refused}
-use Rattle.program.proofs.Laws.{counts, sizes-length}
+use Rattle.program.proofs.Laws.{sizes-length}
 use Rattle.program.proofs.Lists.{length-tabulate}
 use Rattle.analysis.specs.RecordParts.{SizesIn}
 use Rattle.analysis.specs.Records.{initialWidth, recordWidth, recordAt, recordsOf, wholeRecords, initialWhole, initialFormed, wrongByte}
@@ -29,6 +29,7 @@ use Rattle.analysis.specs.declared.Solving.the-variants.{Refused as Refu
 use Rattle.analysis.specs.declared.solver.Progress.{Progress}
 use Rattle.analysis.proofs.Chains.{indexed-none}
 use Rattle.analysis.proofs.Growing.{extended-more}
+use Rattle.analysis.proofs.Judged.{some-names}
 use Rattle.analysis.proofs.Laid.{sizes-in}
 
 -- ---- The list
@@ -52,8 +53,8 @@ solution-found ns g initial room width buffer p q = q ∙ ap (descend room ns g 
 pub roomy : (s : List ℕ) → validity s ≡ Fit → {names room : ℕ} (buffer : List ℕ) → names ≡ nameCount s → room ≡ min 4096 (length buffer / (2 + names)) → Roomy names room buffer
 roomy s fit {names} {room} buffer e p =
     record {
-      some = omega (arith, counts s fit .some-name);
-      few = omega (arith, counts s fit .names);
+      some = some-names s fit names e .0;
+      few = some-names s fit names e .1;
       most = omega arith;
       fits = omega (arith, mul-le-mul-left {m = room} {n = length buffer / (2 + names)} (2 + names) (omega arith), mul-div-le (length buffer) (2 + names));
     }

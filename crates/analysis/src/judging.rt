@@ -353,44 +353,6 @@ fn mark_of(spot: Spot) -> Mark
     }
 }
 
-// The index mark of a solution that is indexed.
-fn mark_indexed(
-    entries: &[u16; 4096],
-    grids: &[[[u8; 3]; 3]; 5],
-    edges: &[u8],
-    links: &[u16; 384],
-    edge_count: u16,
-    factors: &[u16; 34],
-    heads: &[u16; 8192],
-    next: &[u16; 4096],
-    solution: &[u8],
-    names: usize,
-    records: u16,
-) -> Mark
-    requires { ⌜ parts.OrderedTo names records (now solution) (now factors) (now heads) (now next) ⌝ }
-    requires { ⌜ now grids ≡ Grid.grids ⌝ }
-    requires { ⌜ Links.Followable (now edges) «edge_count» (now links) ⌝ }
-    ensures { λ r. ⌜ ((s : List ℕ)
-        → parts.Searched s (now (edges .entry)) (now (entries .entry)) «edge_count» names records (now (solution .entry)) (now (factors .entry)) (now (heads .entry)) (now (next .entry))
-        → r ≡ spec.indexMark (File.sizes s) (Graph.graph s) (now (solution .entry))) ⌝ }
-{
-    let spot = first_spot(
-        Query::NegativeIndex,
-        entries,
-        grids,
-        edges,
-        links,
-        edge_count,
-        factors,
-        heads,
-        next,
-        solution,
-        names,
-        records,
-    );
-    mark_of(spot)
-}
-
 // 42, or accepted with the index mark, of a solution that is indexed.
 fn results_indexed(
     entries: &[u16; 4096],
@@ -428,19 +390,23 @@ fn results_indexed(
     );
     match spot {
         Spot::At { record, edge } => Verdict::ResultMissing { record, edge },
-        Spot::Nowhere => Verdict::Accepted(mark_indexed(
-            entries,
-            grids,
-            edges,
-            links,
-            edge_count,
-            factors,
-            heads,
-            next,
-            solution,
-            names,
-            records,
-        )),
+        Spot::Nowhere => {
+            let negative = first_spot(
+                Query::NegativeIndex,
+                entries,
+                grids,
+                edges,
+                links,
+                edge_count,
+                factors,
+                heads,
+                next,
+                solution,
+                names,
+                records,
+            );
+            Verdict::Accepted(mark_of(negative))
+        }
     }
 }
 
@@ -521,7 +487,8 @@ fn mark_formed(program: &[u8], edges: &[u8], edge_count: u16, solution: &[u8], n
         width,
         records as usize,
     );
-    mark_indexed(
+    let negative = first_spot(
+        Query::NegativeIndex,
         &entries,
         &grids,
         edges,
@@ -533,7 +500,8 @@ fn mark_formed(program: &[u8], edges: &[u8], edge_count: u16, solution: &[u8], n
         solution,
         names,
         records,
-    )
+    );
+    mark_of(negative)
 }
 
 fn malformed(list: Lists, x: Refusal) -> WrongByte

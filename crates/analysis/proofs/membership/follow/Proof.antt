@@ -19,7 +19,7 @@ abbrev μ-loop : tie.MeasureT-loop
 there : (c : tie.In-loop Inv-loop μ-loop) → let a = c .before .before .before .before .before .args in There (a .width) (a .bytes .now) (a .next .now) (c .before .loop .link)
 there c =
     let p = c .before .before .before .before .before .pre in
-    walked-there _ _ _ _ _ _ _ _ (p .2) _ (c .loop-test .taken) (c .before .loop .inv (p .0) (p .1) (p .2))
+    walked-there _ _ _ _ _ _ _ _ (p .2) (c .before .loop .link) (omega (arith, c .loop-test .taken)) (c .before .loop .inv (p .0) (p .1) (p .2))
 
 mul-link : tie.Need-mul-link Inv-loop μ-loop
 mul-link c = omega (arith, hash-small _ _ _ _ _ _ _ _ (c .before .before .pre .2))
@@ -45,7 +45,7 @@ part-same-end c = there c .room
 returns : tie.Need-returns Inv-loop μ-loop
 returns c fs n x =
     let l = c .before .before .before .before in
-    found-here _ _ _ _ _ _ _ _ x _ (c .before .before .before .loop-test .taken) (l .loop .inv fs n x) _ (c .before .same .ensures) (c .if1 .taken)
+    found-here _ _ _ _ _ _ _ _ x (l .loop .link) (omega (arith, c .before .before .before .loop-test .taken)) (l .loop .inv fs n x) _ (c .before .same .ensures) (c .if1 .taken)
 
 element-copy-out-link-2 : tie.Need-element-copy-out-link-2 Inv-loop μ-loop
 element-copy-out-link-2 c = there (c .before .before .before) .few
@@ -56,7 +56,7 @@ loop-less c = there (c .before .before .before .before) .down
 loop-again : tie.Need-loop-again Inv-loop μ-loop
 loop-again c fs n x =
     let l = c .before .before .before .before .before in
-    walked-on _ _ _ _ _ _ _ _ x _ (c .before .before .before .before .loop-test .taken) (l .loop .inv fs n x) _ (c .before .before .same .ensures) (c .before .if1 .left)
+    walked-on _ _ _ _ _ _ _ _ x (l .loop .link) (omega (arith, c .before .before .before .before .loop-test .taken)) (l .loop .inv fs n x) _ (c .before .before .same .ensures) (c .before .if1 .left)
 
 returns-2 : tie.Need-returns-2 Inv-loop μ-loop
 returns-2 c fs n x = found-nowhere _ _ _ _ _ _ _ _ x _ (c .loop-test .left) (c .before .loop .inv fs n x)

@@ -2,15 +2,15 @@
 use borrow.Author.Needs.{needs}
 use mathlib.Core.Path.{sym, _∙_}
 use native.Mathlib.Omega.{arith}
-use Rattle.program.proofs.Laws.{counts, links-linked, sizes-length}
-use Rattle.semantics.proofs.Laws.{linkable}
+use Rattle.program.proofs.Laws.{sizes-length}
 use Rattle.analysis.specs.Solving.{Roomy}
 use Rattle.analysis.proofs.Answering.{roomy, answered-found, solution-in}
+use Rattle.analysis.proofs.Judged.{followable, some-names}
 use Rattle.analysis.proofs.solver.solve_drawn.Statement.{statement}
 use Rattle.analysis.proofs.solver.solve_drawn.Tie as tie
 
 room-of-requires : tie.Need-room-of-requires
-room-of-requires c κs = omega (arith, c .name-count .ensures, counts _ (c .before .before .before .before .before .before .before .pre .drawing .fit) .names)
+room-of-requires c κs = some-names _ (c .before .before .before .before .before .before .before .pre .drawing .fit) _ (c .name-count .ensures) .1
 
 -- the room in the buffer
 room : (c : tie.After-room-of) → let a = c .before .before .before .before .before .before .before .before .args in Roomy (c .before .name-count .result) (c .room-of .result) (a .buffer .now)
@@ -20,8 +20,7 @@ find-all-requires : tie.Need-find-all-requires
 find-all-requires c κs =
     let r = c .before .before .before in
     let l = r .before .before in
-    let all = linkable _ _ _ _ (l .before .before .before .before .before .before .pre .drawing) in
-    (record { few = all .few; linked = rw (l .links .ensures) (links-linked _ _ all) }, room r)
+    (followable (l .before .before .before .before .before .before .pre) _ (l .links .ensures), room r)
 
 replied-requires : tie.Need-replied-requires
 replied-requires c κs =

@@ -1,16 +1,15 @@
 -- `solver::solve_fit`: refused by question 16, or asked 17.
 use borrow.Author.Needs.{needs}
 use mathlib.Core.Path.{_≡_, _∙_}
-use native.Mathlib.Omega.{arith}
 use Rattle.program.specs.File as file
-use Rattle.program.proofs.Laws.{counts}
 use Rattle.analysis.specs.Records.{initialWhole}
 use Rattle.analysis.proofs.Answering.{whole-asked, answered-asked, answered-refused}
+use Rattle.analysis.proofs.Judged.{some-names}
 use Rattle.analysis.proofs.solver.solve_fit.Statement.{statement}
 use Rattle.analysis.proofs.solver.solve_fit.Tie as tie
 
 whole-requires : tie.Need-whole-requires
-whole-requires c κs = omega (arith, c .name-count .ensures, counts _ (c .before .before .before .before .before .pre .drawing .fit) .some-name)
+whole-requires c κs = some-names _ (c .before .before .before .before .before .pre .drawing .fit) _ (c .name-count .ensures) .0
 
 -- question 16
 asked : (c : tie.After-ask) → let s = c .before .before .before .before .before .before .before in

@@ -1,19 +1,15 @@
 -- `solver::solve_whole`: refused by question 17, or the list.
 use borrow.Author.Needs.{needs}
 use mathlib.Core.Path.{sym, _∙_}
-use native.Mathlib.Omega.{arith}
-use Rattle.program.proofs.Laws.{counts}
 use Rattle.analysis.specs.RecordParts.{SizesIn}
 use Rattle.program.specs.File as file
 use Rattle.analysis.proofs.Answering.{sizes-read, answered-formed, answered-malformed}
+use Rattle.analysis.proofs.Judged.{some-names}
 use Rattle.analysis.proofs.solver.solve_whole.Statement.{statement}
 use Rattle.analysis.proofs.solver.solve_whole.Tie as tie
 
 initial-formed-requires : tie.Need-initial-formed-requires
-initial-formed-requires c κs =
-    let n = c .before in
-    let all = counts _ (n .before .before .before .before .before .before .pre .drawing .fit) in
-    (omega (arith, n .name-count .ensures, all .some-name), omega (arith, n .name-count .ensures, all .names))
+initial-formed-requires c κs = let n = c .before in some-names _ (n .before .before .before .before .before .before .pre .drawing .fit) _ (n .name-count .ensures)
 
 -- the sizes as they were decoded
 read : (c : tie.After-name-count) → let s = c .before .before .before .before .before .before in SizesIn (file.sizes (s .args .program .now)) (c .before .name-sizes .result) (c .name-count .result)
