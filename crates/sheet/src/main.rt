@@ -154,12 +154,11 @@ fn answer(input: &[u8]) {
     }
 }
 
-// The largest fit input has 23,631 bytes: fields of 3 + 2 * 32, 3 + 7 * 512, 3 + 7 * 256 and 3 + 7 * 256, and a start list of 3 + 512 * 32. The array is
-// longer, and a longer input is answered by the bytes that it begins with. That is its right answer. Question 3 bounds each field's length, so whatever
-// is asked of an input by questions 1 to 4 lies in its first 23,631 bytes: a head begins at 7,244 at most and a content ends at 23,631 at most, both for
-// the input and for what the array holds of it, and both are longer than that. So each of these questions has the same answer and the same place of
-// both. Where all five fields pass, question 5 is refused of both, and its place, the first byte after the fifth field, lies in the array too.
-// Questions 6 to 11, 17 and 18 are asked only after it, and so never of an input that was cut.
+// The largest fit input has 23,631 bytes: 3 + 2 * 32 of names, 3 + 7 * 512, 3 + 7 * 256 and 3 + 7 * 256 of entries, and a start list of 3 + 512 * 32. The
+// array is longer, and an input that is longer still is answered by the bytes that it begins with. They have its answer: question 3 bounds each length,
+// so whatever questions 1 to 4 ask lies in the first 23,631 bytes, which are all there, and each is answered alike, with the same place. Where the five
+// fields pass, 5 is refused at the first byte after them, of the input and of what the array holds. The later questions are asked only after 5, so never
+// of an input that was cut. A read that fails counts as the input's end.
 fn main() {
     let mut input = [0u8; 32768];
     let n = io::read_full(STDIN_FILENO, &mut input);
