@@ -91,10 +91,6 @@ part-padded bytes at names few x =
           ])
     ]
 
-pub padded-length : (bytes : List ℕ) (at names : ℕ) → length (padded bytes at names) ≡ 32
-unfolding padded
-padded-length bytes at names = length-tabulate 32 (paddedByte bytes at names)
-
 part-length : (bytes : List ℕ) (at names : ℕ) → at + names ≤ length bytes → length (take names (drop at bytes)) ≡ names
 part-length bytes at names h = length-take-le names (drop at bytes) (omega (arith, length-drop at bytes))
 
