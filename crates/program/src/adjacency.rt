@@ -50,14 +50,14 @@ fn link_at(links: &[u16], i: usize) -> u16
     if i < links.len() { links[i] } else { 0 }
 }
 
-// The lowest edge out of a node; 255, where there is none.
+// The lowest edge out of one of 129 nodes; 255, where there is none.
 pub fn first_edge(links: &[u16; 384], node: u16) -> u16
     ensures { λ r. ⌜ r ≡ getD (now (links .entry)) node 0 ⌝ }
 {
     link_at(links, node as usize)
 }
 
-// The next edge out of the same node; 255, where there is none.
+// The next edge after one of 255 out of the same node; 255, where there is none.
 pub fn next_edge(links: &[u16; 384], e: u16) -> u16
     ensures { λ r. ⌜ r ≡ getD (now (links .entry)) (129 + e) 0 ⌝ }
 {
