@@ -1,4 +1,4 @@
-// Reads test cases from `sheets.bin`, which `oracle/sheets.rs` makes, and prints for each its title and what the library replies of it.
+// Reads test cases from `sheets.bin`, which `oracle/` makes, and prints for each its title and what the library replies of it.
 //
 // A case of `sheets.bin` is a mode, the length of a title, a number (four bytes), the length of a list of further numbers in bytes and the length of a file
 // (two bytes each), how many chunks a start list has and how many a sheet has; and then the title, the chunks of the start list, those of the sheet, the further numbers
@@ -22,14 +22,10 @@ use analysis::WrongByte;
 use analysis::judging;
 use analysis::solver;
 use analysis::splitting;
-use libc::STDOUT_FILENO;
 use program::Refusal;
 use program::Validity;
 use program::file;
-use semantics::Fault;
-use semantics::Outcome;
 use semantics::Run;
-use signs::Reason;
 
 // What the first twelve bytes of a case say: lengths are in bytes.
 struct Head {
@@ -40,18 +36,6 @@ struct Head {
     length: usize,
     start_chunks: u8,
     sheet_chunks: u8,
-}
-
-fn wide(x: u8) -> u64 {
-    x as u64
-}
-
-fn wide_word(x: u16) -> u64 {
-    x as u64
-}
-
-fn wide_number(x: u32) -> u64 {
-    x as u64
 }
 
 fn place(x: u16) -> usize {
@@ -66,80 +50,46 @@ fn long_place(x: u32) -> usize {
     x as usize
 }
 
-fn print(text: &[u8]) {
-    io::write_all(STDOUT_FILENO, text);
-}
-
-fn print_number(n: u64) {
-    io::print_decimal(STDOUT_FILENO, n);
-}
-
-fn print_refusal(x: Refusal) {
-    print(b"refused ");
-    print_number(wide(x.number));
-    print(b" at ");
-    print_number(x.offset as u64);
-}
-
 fn print_list(list: Records) {
     match list {
-        Records::Initial => print(b" of the start list"),
-        Records::Solution => print(b" of the sheet"),
+        Records::Initial => printing::text(b" of the start list"),
+        Records::Solution => printing::text(b" of the sheet"),
     }
 }
 
 fn print_wrong(x: WrongByte) {
-    print(b"refused 17 at ");
-    print_number(x.offset as u64);
+    printing::text(b"refused 17 at ");
+    printing::place(x.offset);
     let list = x.list;
     print_list(list);
 }
 
-fn print_spot(record: u16, edge: u16) {
-    print(b" record ");
-    print_number(wide_word(record));
-    print(b" arrow ");
-    print_number(wide_word(edge));
-}
-
-fn print_unclean(record: u16, edge: u16) {
-    print(b"index");
-    print_spot(record, edge);
-}
-
-fn print_mark(mark: Mark) {
-    match mark {
-        Mark::Clean => print(b"index clean"),
-        Mark::Unclean { record, edge } => print_unclean(record, edge),
-    }
-}
-
 fn print_marking(marking: Marking) {
     match marking {
-        Marking::Refused(x) => print_refusal(x),
+        Marking::Refused(x) => printing::refusal(x),
         Marking::Malformed(x) => print_wrong(x),
-        Marking::Marked(mark) => print_mark(mark),
+        Marking::Marked(mark) => printing::mark(mark),
     }
 }
 
 fn print_accepted(mark: Mark) {
-    print(b"accepted ");
-    print_mark(mark);
+    printing::text(b"accepted ");
+    printing::mark(mark);
 }
 
 fn print_initial_missing(record: u16) {
-    print(b"41 record ");
-    print_number(wide_word(record));
+    printing::text(b"41 record ");
+    printing::word(record);
 }
 
 fn print_result_missing(record: u16, edge: u16) {
-    print(b"42");
-    print_spot(record, edge);
+    printing::text(b"42");
+    printing::spot(record, edge);
 }
 
 fn print_verdict(verdict: Verdict) {
     match verdict {
-        Verdict::Refused(x) => print_refusal(x),
+        Verdict::Refused(x) => printing::refusal(x),
         Verdict::Malformed(x) => print_wrong(x),
         Verdict::InitialMissing { record } => print_initial_missing(record),
         Verdict::ResultMissing { record, edge } => print_result_missing(record, edge),
@@ -149,9 +99,9 @@ fn print_verdict(verdict: Verdict) {
 
 fn print_solving(solving: Solving) {
     match solving {
-        Solving::Finished => print(b"finished"),
-        Solving::Full => print(b"refused 18 at 0"),
-        Solving::Refused(x) => print_refusal(x),
+        Solving::Finished => printing::text(b"finished"),
+        Solving::Full => printing::text(b"refused 18 at 0"),
+        Solving::Refused(x) => printing::refusal(x),
         Solving::Malformed(x) => print_wrong(x),
     }
 }
@@ -162,8 +112,8 @@ fn farther(at: usize, by: u16) -> usize {
 }
 
 fn print_refused(x: Refusal) {
-    print_refusal(x);
-    print(b" ");
+    printing::refusal(x);
+    printing::text(b" ");
 }
 
 fn print_split(split: Split) {
@@ -172,11 +122,11 @@ fn print_split(split: Split) {
         Validity::Fit => {}
         Validity::Refused(x) => print_refused(x),
     }
-    print(b"record ");
-    print_number(wide_number(split.record));
-    print(b" column ");
-    print_number(wide_number(split.column));
-    print(b"; ");
+    printing::text(b"record ");
+    printing::long(split.record);
+    printing::text(b" column ");
+    printing::long(split.column);
+    printing::text(b"; ");
 }
 
 // Whether a record of so many bytes starts at a byte of a list.
@@ -186,10 +136,10 @@ fn starts(i: usize, width: usize) -> bool {
 
 fn print_byte(i: usize, width: usize, x: u8) {
     if starts(i, width) {
-        print(b";");
+        printing::text(b";");
     }
-    print(b" ");
-    print_number(wide(x));
+    printing::text(b" ");
+    printing::byte(x);
 }
 
 // The bytes of a list, with a semicolon before each record.
@@ -201,21 +151,6 @@ fn print_records(list: &[u8], width: usize) {
     }
 }
 
-// A checksum's next state. The modulus is a prime above all that is mixed in.
-fn mix(sum: u64, x: u64) -> u64 {
-    (sum % 4294967311 * 1000003 + x % 4294967296) % 4294967311
-}
-
-fn mix_bytes(bytes: &[u8]) -> u64 {
-    let mut sum: u64 = 1;
-    let mut i: usize = 0;
-    while i < bytes.len() {
-        sum = mix(sum, wide(bytes[i]));
-        i += 1;
-    }
-    sum
-}
-
 // The calls of the library that are asked about, each in a function of its own.
 
 fn answer_judge(s: &[u8], initial: &[u8], sheet: &[u8]) {
@@ -224,7 +159,7 @@ fn answer_judge(s: &[u8], initial: &[u8], sheet: &[u8]) {
 
 // The offending record is a part of either list, so that here and above the two have one lifetime.
 fn answer_offending<'a>(s: &[u8], initial: &'a [u8], sheet: &'a [u8]) {
-    print(b"; offending");
+    printing::text(b"; offending");
     print_records(judging::verdict(s, initial, sheet), 0);
 }
 
@@ -237,8 +172,8 @@ fn answer_solve(s: &[u8], initial: &[u8], buffer: &mut [u8]) -> u16 {
     let solved = solver::solve(s, initial, buffer);
     let answer = solved.solving;
     print_solving(answer);
-    print(b" with ");
-    print_number(wide_word(solved.count));
+    printing::text(b" with ");
+    printing::word(solved.count);
     solved.count
 }
 
@@ -291,9 +226,9 @@ fn judge_solved(s: &[u8], initial: &[u8], buffer: &[u8], n: usize) {
 // A solved part of a buffer, a checksum of the whole, and the verdict on the part.
 fn print_buffer(s: &[u8], initial: &[u8], buffer: &[u8], n: usize) {
     print_solved(buffer, n, width_of(s));
-    print(b" sum ");
-    print_number(mix_bytes(buffer));
-    print(b"; ");
+    printing::text(b" sum ");
+    printing::number(cases::mix_bytes(buffer));
+    printing::text(b"; ");
     judge_solved(s, initial, buffer, n);
 }
 
@@ -314,51 +249,12 @@ fn answer_solver(s: &[u8], initial: &[u8], room: usize) {
     solve_part(s, initial, &mut buffer, room);
 }
 
-// Two halves of a number, the high one first.
-fn joined(p: u16, q: u16) -> u32 {
-    p as u32 * 65536 + q as u32
-}
-
-fn long_at(bytes: &[u8], i: usize) -> u32 {
-    if i < bytes.len() {
-        joined(file::word_at(bytes, i), file::word_at(bytes, i + 2))
-    } else {
-        0
-    }
-}
-
 // Mode 4: the places, four bytes each.
 fn answer_splits(s: &[u8], places: &[u8]) {
     let mut i: usize = 0;
     while i < places.len() / 4 {
-        answer_split(s, long_at(places, i * 4));
+        answer_split(s, cases::long_at(places, i * 4));
         i += 1;
-    }
-}
-
-// Document 01's number of a reason.
-fn reason_number(reason: Reason) -> u8 {
-    match reason {
-        Reason::ConditionFalse => 31,
-        Reason::DivisorZero => 32,
-        Reason::ExponentNegative => 33,
-        Reason::IndexNegative => 34,
-        Reason::IndexTooLarge => 35,
-        Reason::OutOfRange => 36,
-    }
-}
-
-fn print_fault(fault: Fault) {
-    let reason = fault.reason;
-    print(b"undefined ");
-    print_number(wide(reason_number(reason)));
-}
-
-fn print_outcome(outcome: Outcome) {
-    match outcome {
-        Outcome::Taken => print(b"taken"),
-        Outcome::Undefined(fault) => print_fault(fault),
-        Outcome::Refused(x) => print_refusal(x),
     }
 }
 
@@ -466,9 +362,9 @@ fn print_has(run: Run, s: &[u8], sheet: &[u8], memory: &[i32]) {
     let mut key = [0u8; 34];
     set_key(&mut key, s, run.node, memory);
     if has(sheet, &key, width_of(s)) {
-        print(b"has; ");
+        printing::text(b"has; ");
     } else {
-        print(b"has not; ");
+        printing::text(b"has not; ");
     }
 }
 
@@ -476,8 +372,8 @@ fn print_has(run: Run, s: &[u8], sheet: &[u8], memory: &[i32]) {
 fn step_told(run: Run, s: &[u8], edge: u16, memory: &mut [i32]) -> Run {
     let stepped = run.step(s, edge, memory);
     let outcome = stepped.outcome;
-    print_outcome(outcome);
-    print(b" ");
+    printing::outcome(outcome);
+    printing::text(b" ");
     stepped.run
 }
 
@@ -523,37 +419,12 @@ fn follow_solved(s: &[u8], further: &[u8], buffer: &[u8], n: usize, memory: &mut
 fn follow_from(s: &[u8], initial: &[u8], further: &[u8], memory: &mut [i32]) {
     let mut buffer = [170u8; 140000];
     let count = answer_solve(s, initial, &mut buffer);
-    print(b"; ");
+    printing::text(b"; ");
     follow_solved(s, further, &buffer, end_of(count, width_of(s)), memory);
 }
 
-// A number of 32 bits as two's complement.
-fn signed(x: u32) -> i32 {
-    if x < 2147483648 {
-        x as i32
-    } else {
-        -1 - (4294967295 - x) as i32
-    }
-}
-
-fn cell_at(further: &[u8], i: usize) -> i32 {
-    if i < 512 {
-        signed(long_at(further, i * 4))
-    } else {
-        0
-    }
-}
-
-fn set_cells(memory: &mut [i32], further: &[u8]) {
-    let mut i: usize = 0;
-    while i < memory.len() {
-        memory[i] = cell_at(further, i);
-        i += 1;
-    }
-}
-
 fn answer_lent(s: &[u8], initial: &[u8], further: &[u8], memory: &mut [i32]) {
-    set_cells(memory, further);
+    cases::set_cells(memory, further);
     follow_from(s, initial, further, memory);
 }
 
@@ -577,23 +448,9 @@ fn answer<'a>(h: Head, s: &[u8], initial: &'a [u8], sheet: &'a [u8], further: &[
         3 => answer_solver(s, initial, long_place(h.number)),
         4 => answer_splits(s, further),
         5 => answer_calls(s, initial, further, long_place(h.number)),
-        _ => print(b"unknown mode"),
+        _ => printing::text(b"unknown mode"),
     }
-    print(b"\n");
-}
-
-fn read_front(fd: i32, bytes: &mut [u8], n: usize) -> usize {
-    if n <= bytes.len() {
-        io::read_full(fd, &mut bytes[..n])
-    } else {
-        0
-    }
-}
-
-fn print_front(bytes: &[u8], n: usize) {
-    if n <= bytes.len() {
-        print(&bytes[..n]);
-    }
+    printing::text(b"\n");
 }
 
 fn answer_front<'a>(h: Head, bytes: &[u8], initial: &'a [u8], sheet: &'a [u8], further: &[u8]) {
@@ -606,9 +463,9 @@ fn answer_front<'a>(h: Head, bytes: &[u8], initial: &'a [u8], sheet: &'a [u8], f
 // Answers a case whose file comes next, and says whether all of that is there.
 fn answer_file<'a>(fd: i32, h: Head, initial: &'a [u8], sheet: &'a [u8], further: &[u8]) -> bool {
     let mut bytes = [0u8; 8192];
-    let got = read_front(fd, &mut bytes, h.length);
+    let got = cases::read_front(fd, &mut bytes, h.length);
     if got != h.length {
-        print(b"file cut\n");
+        printing::text(b"file cut\n");
         return false;
     }
     answer_front(h, &bytes, initial, sheet, further);
@@ -627,9 +484,9 @@ fn answer_with<'a>(fd: i32, h: Head, initial: &'a [u8], sheet: &'a [u8], bytes: 
 // Answers a case whose further numbers and file come next.
 fn answer_further<'a>(fd: i32, h: Head, initial: &'a [u8], sheet: &'a [u8]) -> bool {
     let mut bytes = [0u8; 4096];
-    let got = read_front(fd, &mut bytes, h.further);
+    let got = cases::read_front(fd, &mut bytes, h.further);
     if got != h.further {
-        print(b"numbers cut\n");
+        printing::text(b"numbers cut\n");
         return false;
     }
     answer_with(fd, h, initial, sheet, &bytes)
@@ -667,7 +524,7 @@ fn lay_front(list: &mut [u8], from: usize, bytes: &[u8], n: usize, times: u16) -
 
 fn read_repeated(fd: i32, list: &mut [u8], from: usize, times: u16, n: usize) -> usize {
     let mut bytes = [0u8; 8192];
-    read_front(fd, &mut bytes, n);
+    cases::read_front(fd, &mut bytes, n);
     lay_front(list, from, &bytes, n, times)
 }
 
@@ -725,24 +582,11 @@ fn answer_titled(fd: i32, h: Head) -> bool {
     answer_start(fd, h, &list, n)
 }
 
-// Prints a title of so many bytes: answers whether all of it is there.
-fn print_title(fd: i32, n: usize) -> bool {
-    let mut bytes = [0u8; 256];
-    let got = read_front(fd, &mut bytes, n);
-    if got != n {
-        print(b"title cut\n");
-        return false;
-    }
-    print_front(&bytes, n);
-    print(b": ");
-    true
-}
-
 fn head_of(bytes: &[u8]) -> Head {
     Head {
         mode: file::byte_at(bytes, 0),
         title: small_place(file::byte_at(bytes, 1)),
-        number: long_at(bytes, 2),
+        number: cases::long_at(bytes, 2),
         further: place(file::word_at(bytes, 6)),
         length: place(file::word_at(bytes, 8)),
         start_chunks: file::byte_at(bytes, 10),
@@ -751,7 +595,7 @@ fn head_of(bytes: &[u8]) -> Head {
 }
 
 fn answer_headed(fd: i32, h: Head) -> bool {
-    print_title(fd, h.title) && answer_titled(fd, h)
+    cases::title(fd, h.title) && answer_titled(fd, h)
 }
 
 // Reads a case and answers it, and says whether to go on.
@@ -762,7 +606,7 @@ fn answer_next(fd: i32) -> bool {
         return false;
     }
     if n < 12 {
-        print(b"head cut\n");
+        printing::text(b"head cut\n");
         return false;
     }
     answer_headed(fd, head_of(&bytes))

@@ -97,14 +97,14 @@ pub fn name_cells(s: &[u8]) -> [usize; 32]
 }
 
 // Two halves of a number, the high one first.
-fn joined(p: u16, q: u16) -> u32
+pub fn joined(p: u16, q: u16) -> u32
     ensures { λ r. ⌜ r ≡ p * 65536 + q ⌝ }
 {
     p as u32 * 65536 + q as u32
 }
 
 // A number of 32 bits as two's complement.
-fn signed(x: u32) -> i32
+pub fn signed(x: u32) -> i32
     ensures { λ r. ⌜ r ≡ File.signed32 x ⌝ }
 {
     if x < 2147483648 {

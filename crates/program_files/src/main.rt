@@ -1,15 +1,13 @@
-// Reads test files from `files.bin`, which `oracle/files.rs` makes, and prints for each its title and what the library replies of it.
+// Reads test files from `files.bin`, which `oracle/` makes, and prints for each its title and what the library replies of it.
 //
 // A record of `files.bin` is a mode, a room (two bytes), the length of a title, the length of a file (two bytes), the title and the file.
 // Numbers have the high byte first. The mode says what is asked of the file: 1 its edges, 2 its graph drawn into a buffer of so much room,
 // 3 the questions of the sheet program's input, 4 what the crates above read of a program, 5 the parts of the sheet program's input and its fields' heads.
-use libc::STDOUT_FILENO;
 use program::Drawn;
 use program::EdgeBytes;
 use program::Entry;
 use program::FieldHead;
 use program::Head;
-use program::Refusal;
 use program::Table;
 use program::Validity;
 use program::drawing;
@@ -33,45 +31,30 @@ fn small_place(x: u8) -> usize {
     x as usize
 }
 
-fn print(text: &[u8]) {
-    io::write_all(STDOUT_FILENO, text);
-}
-
-fn print_number(n: u64) {
-    io::print_decimal(STDOUT_FILENO, n);
-}
-
-fn print_refusal(x: Refusal) {
-    print(b"refused ");
-    print_number(wide(x.number));
-    print(b" at ");
-    print_number(x.offset as u64);
-}
-
 fn print_counts(d: Drawn) {
-    print(b"nodes ");
-    print_number(wide_word(d.nodes));
-    print(b" arrows ");
-    print_number(wide_word(d.edges));
+    printing::text(b"nodes ");
+    printing::word(d.nodes);
+    printing::text(b" arrows ");
+    printing::word(d.edges);
 }
 
 fn print_drawn(d: Drawn) {
     let v = d.validity;
     match v {
         Validity::Fit => print_counts(d),
-        Validity::Refused(x) => print_refusal(x),
+        Validity::Refused(x) => printing::refusal(x),
     }
 }
 
 fn print_edge(e: EdgeBytes) {
-    print_number(wide_word(e.source));
-    print(b" ");
-    print_number(wide_word(e.target));
-    print(b" ");
-    print_number(wide(e.kind));
-    print(b" ");
-    print_number(wide_word(e.entry));
-    print(b"\n");
+    printing::word(e.source);
+    printing::text(b" ");
+    printing::word(e.target);
+    printing::text(b" ");
+    printing::byte(e.kind);
+    printing::text(b" ");
+    printing::word(e.entry);
+    printing::text(b"\n");
 }
 
 fn print_edges(edges: &[u8; 1785], count: u16) {
@@ -87,7 +70,7 @@ fn answer_edges(s: &[u8]) {
     let mut edges = [0u8; 1785];
     let d = drawing::draw_edges(s, &mut edges);
     print_drawn(d);
-    print(b"\n");
+    printing::text(b"\n");
     print_edges(&edges, d.edges);
 }
 
@@ -119,19 +102,19 @@ fn answer_sum(s: &[u8], room: usize) {
     let mut buffer = [170u8; 2000];
     let d = draw_front(s, &mut buffer, room);
     print_drawn(d);
-    print(b" sum ");
-    print_number(mix_bytes(&buffer));
-    print(b"\n");
+    printing::text(b" sum ");
+    printing::number(mix_bytes(&buffer));
+    printing::text(b"\n");
 }
 
 // Mode 3: the questions of the sheet program's input.
 fn answer_input(s: &[u8]) {
     let v = validation::validate_input(s);
     match v {
-        Validity::Fit => print(b"fit"),
-        Validity::Refused(x) => print_refusal(x),
+        Validity::Fit => printing::text(b"fit"),
+        Validity::Refused(x) => printing::refusal(x),
     }
-    print(b"\n");
+    printing::text(b"\n");
 }
 
 fn mix_entry(sum: u64, e: Entry) -> u64 {
@@ -165,21 +148,21 @@ fn mix_names(s: &[u8]) -> u64 {
 }
 
 fn print_readings(s: &[u8]) {
-    print(b"names ");
-    print_number(wide_word(file::name_count(s)));
-    print(b" cells ");
-    print_number(file::cell_count(s) as u64);
-    print(b" entries ");
-    print_number(wide_word(file::entry_count(s, Table::Arithmetic)));
-    print(b" ");
-    print_number(wide_word(file::entry_count(s, Table::Boolean)));
-    print(b" ");
-    print_number(wide_word(file::entry_count(s, Table::Commands)));
-    print(b" sum ");
+    printing::text(b"names ");
+    printing::word(file::name_count(s));
+    printing::text(b" cells ");
+    printing::place(file::cell_count(s));
+    printing::text(b" entries ");
+    printing::word(file::entry_count(s, Table::Arithmetic));
+    printing::text(b" ");
+    printing::word(file::entry_count(s, Table::Boolean));
+    printing::text(b" ");
+    printing::word(file::entry_count(s, Table::Commands));
+    printing::text(b" sum ");
     let names = mix_names(s);
     let arithmetic = mix_table(names, s, Table::Arithmetic);
     let boolean = mix_table(arithmetic, s, Table::Boolean);
-    print_number(mix_table(boolean, s, Table::Commands));
+    printing::number(mix_table(boolean, s, Table::Commands));
 }
 
 // Mode 4: the counts of a well-formed program, and a checksum of its names and entries.
@@ -187,45 +170,45 @@ fn answer_readings(s: &[u8]) {
     let v = validation::validate(s);
     match v {
         Validity::Fit => print_readings(s),
-        Validity::Refused(x) => print_refusal(x),
+        Validity::Refused(x) => printing::refusal(x),
     }
-    print(b"\n");
+    printing::text(b"\n");
 }
 
 fn print_part(bytes: &[u8]) {
-    print_number(bytes.len() as u64);
-    print(b" sum ");
-    print_number(mix_bytes(bytes));
+    printing::place(bytes.len());
+    printing::text(b" sum ");
+    printing::number(mix_bytes(bytes));
 }
 
 fn print_parts(s: &[u8]) {
-    print(b"program ");
+    printing::text(b"program ");
     print_part(validation::program_part(s));
-    print(b" list ");
+    printing::text(b" list ");
     print_part(validation::initial_part(s));
 }
 
 fn print_found(h: FieldHead) {
-    print_number(h.start as u64);
-    print(b" tag ");
-    print_number(wide(h.tag));
-    print(b" length ");
-    print_number(wide_word(h.length));
-    print(b" content ");
-    print_number(h.content as u64);
-    print(b" next ");
-    print_number(h.next as u64);
+    printing::place(h.start);
+    printing::text(b" tag ");
+    printing::byte(h.tag);
+    printing::text(b" length ");
+    printing::word(h.length);
+    printing::text(b" content ");
+    printing::place(h.content);
+    printing::text(b" next ");
+    printing::place(h.next);
 }
 
 fn print_head(head: Head) {
     match head {
         Head::Short(at) => {
-            print(b"none at ");
-            print_number(at as u64);
+            printing::text(b"none at ");
+            printing::place(at);
         }
         Head::Found(h) => print_found(h),
     }
-    print(b"\n");
+    printing::text(b"\n");
 }
 
 fn print_heads(s: &[u8]) {
@@ -241,9 +224,9 @@ fn answer_parts(s: &[u8]) {
     let v = validation::validate_input(s);
     match v {
         Validity::Fit => print_parts(s),
-        Validity::Refused(x) => print_refusal(x),
+        Validity::Refused(x) => printing::refusal(x),
     }
-    print(b"\n");
+    printing::text(b"\n");
     print_heads(s);
 }
 
@@ -254,15 +237,7 @@ fn answer(mode: u8, room: usize, s: &[u8]) {
         3 => answer_input(s),
         4 => answer_readings(s),
         5 => answer_parts(s),
-        _ => print(b"unknown mode\n"),
-    }
-}
-
-fn read_front(fd: i32, bytes: &mut [u8], n: usize) -> usize {
-    if n <= bytes.len() {
-        io::read_full(fd, &mut bytes[..n])
-    } else {
-        0
+        _ => printing::text(b"unknown mode\n"),
     }
 }
 
@@ -272,31 +247,12 @@ fn answer_front(mode: u8, room: usize, bytes: &[u8], n: usize) {
     }
 }
 
-fn print_front(bytes: &[u8], n: usize) {
-    if n <= bytes.len() {
-        print(&bytes[..n]);
-    }
-}
-
-// Prints a title of so many bytes: answers whether all of it is there.
-fn print_title(fd: i32, n: usize) -> bool {
-    let mut bytes = [0u8; 256];
-    let got = read_front(fd, &mut bytes, n);
-    if got != n {
-        print(b"title cut\n");
-        return false;
-    }
-    print_front(&bytes, n);
-    print(b": ");
-    true
-}
-
 // Answers a file of so many bytes, and whether all of it is there.
 fn answer_file(fd: i32, mode: u8, room: usize, n: usize) -> bool {
     let mut bytes = [0u8; 32768];
-    let got = read_front(fd, &mut bytes, n);
+    let got = cases::read_front(fd, &mut bytes, n);
     if got != n {
-        print(b"file cut\n");
+        printing::text(b"file cut\n");
         return false;
     }
     answer_front(mode, room, &bytes, n);
@@ -309,7 +265,7 @@ fn answer_record(fd: i32, head: &[u8]) -> bool {
     let room = place(file::word_at(head, 1));
     let title = file::byte_at(head, 3);
     let length = place(file::word_at(head, 4));
-    print_title(fd, small_place(title)) && answer_file(fd, mode, room, length)
+    cases::title(fd, small_place(title)) && answer_file(fd, mode, room, length)
 }
 
 // Reads a record and answers it, and says whether to go on.
@@ -320,7 +276,7 @@ fn answer_next(fd: i32) -> bool {
         return false;
     }
     if n < 6 {
-        print(b"head cut\n");
+        printing::text(b"head cut\n");
         return false;
     }
     answer_record(fd, &head)

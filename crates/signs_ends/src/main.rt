@@ -1,6 +1,5 @@
 // Runs the ends of the range, zero, one and minus one through all five operators, a line for each case: operator, left, right, value.
 use signs::Operator;
-use signs::Reason;
 use signs::Value;
 use signs::number;
 
@@ -8,63 +7,32 @@ const LEAST: i32 = -2147483648;
 
 const GREATEST: i32 = 2147483647;
 
-// Document 01's number of a reason.
-fn reason_number(r: Reason) -> u64 {
-    match r {
-        Reason::ConditionFalse => 31,
-        Reason::DivisorZero => 32,
-        Reason::ExponentNegative => 33,
-        Reason::IndexNegative => 34,
-        Reason::IndexTooLarge => 35,
-        Reason::OutOfRange => 36,
-    }
-}
-
-fn magnitude(z: i32) -> u64 {
-    let wide = z as i64;
-    if wide < 0 {
-        (0 - wide) as u64
-    } else {
-        wide as u64
-    }
-}
-
-fn print_number(z: i32) {
-    if z < 0 {
-        io::write_all(1, b"-");
-    }
-    io::print_decimal(1, magnitude(z));
-}
-
 fn print_value(v: Value) {
     match v {
-        Value::Number(z) => print_number(z),
-        Value::Undefined(r) => {
-            io::write_all(1, b"undefined ");
-            io::print_decimal(1, reason_number(r));
-        }
+        Value::Number(z) => printing::integer(z),
+        Value::Undefined(reason) => printing::undefined(reason),
     }
 }
 
 fn print_operator(operator: Operator) {
     match operator {
-        Operator::Add => io::write_all(1, b"+ "),
-        Operator::Sub => io::write_all(1, b"- "),
-        Operator::Mul => io::write_all(1, b"* "),
-        Operator::Div => io::write_all(1, b"/ "),
-        Operator::Pow => io::write_all(1, b"^ "),
+        Operator::Add => printing::text(b"+ "),
+        Operator::Sub => printing::text(b"- "),
+        Operator::Mul => printing::text(b"* "),
+        Operator::Div => printing::text(b"/ "),
+        Operator::Pow => printing::text(b"^ "),
     }
     ;
 }
 
 fn print_case(operator: Operator, a: i32, b: i32) {
     print_operator(operator);
-    print_number(a);
-    io::write_all(1, b" ");
-    print_number(b);
-    io::write_all(1, b" ");
+    printing::integer(a);
+    printing::text(b" ");
+    printing::integer(b);
+    printing::text(b" ");
     print_value(number::apply(operator, a, b));
-    io::write_all(1, b"\n");
+    printing::text(b"\n");
 }
 
 fn print_row(operator: Operator, a: i32) {
