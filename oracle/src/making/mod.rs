@@ -1,0 +1,19 @@
+//! Makers of scripts, files, memories, step calls and records: by hand, from text, and from a seed.
+
+mod damage;
+mod known;
+mod lessons;
+mod random;
+mod records;
+mod scripts;
+mod text;
+mod writing;
+
+pub use damage::*;
+pub use known::*;
+pub use lessons::*;
+pub use random::*;
+pub use records::*;
+pub use scripts::*;
+pub use text::*;
+pub use writing::*;

@@ -1,0 +1,29 @@
+//! The cases of `program_files`.
+
+mod graphs;
+mod inputs;
+mod random;
+mod refusals;
+
+use super::Out;
+use crate::answers::files::Mode;
+use crate::language::Operand::*;
+use crate::language::*;
+use crate::making::*;
+use std::io;
+use std::path::Path;
+
+pub fn store(folder: &Path) -> io::Result<()> {
+    let mut out = Out::new();
+    graphs::graphs(&mut out);
+    graphs::limits(&mut out);
+    refusals::heads(&mut out);
+    refusals::entries(&mut out);
+    refusals::rest(&mut out);
+    graphs::rooms(&mut out);
+    inputs::inputs(&mut out);
+    random::neighbours(&mut out);
+    random::random(&mut out);
+    inputs::parts(&mut out);
+    out.write(folder, "files.bin")
+}

@@ -1,0 +1,108 @@
+//! Files near others, and random ones.
+
+use super::*;
+
+/// Every file a byte away from the tour or the factorial.
+pub fn neighbours(out: &mut Out) {
+    out.group("near");
+    let file = tour().bytes();
+    for i in 0..file.len() {
+        for to in [file[i].wrapping_add(1), file[i].wrapping_sub(1)] {
+            // A zero becomes one, and not 255 too.
+            if to == 255 && file[i] == 0 {
+                continue;
+            }
+            let mut bytes = file.clone();
+            bytes[i] = to;
+            out.put(&format!("tour, byte {i} to {to}"), &bytes, &Mode::Sum(1785));
+        }
+    }
+    let file = factorial().bytes();
+    for i in 0..file.len() {
+        out.put(&format!("factorial, first {i}"), &file[..i], &Mode::Sum(1785));
+        let mut bytes = file.clone();
+        bytes.remove(i);
+        out.put(&format!("factorial, without byte {i}"), &bytes, &Mode::Sum(1785));
+        let mut bytes = file.clone();
+        bytes.insert(i, 0);
+        out.put(&format!("factorial, 0 before byte {i}"), &bytes, &Mode::Sum(1785));
+    }
+}
+
+pub fn random(out: &mut Out) {
+    let mut r = Random(20_260_101_004);
+    out.group("random");
+    for k in 0..240 {
+        let size = [4, 10, 20, 30, 50, 80][k % 6];
+        let s = random_script(&mut r, if k < 234 { size } else { 300 });
+        let mode = if k < 12 { Mode::Edges } else { Mode::Sum(1785) };
+        let bytes = s.bytes();
+        out.put(&k.to_string(), &bytes, &mode);
+        if k % 8 == 0 {
+            out.put(&format!("{k}, read"), &bytes, &Mode::Readings);
+        }
+    }
+    out.group("entry damage");
+    for k in 0..360 {
+        let mut s = random_script(&mut r, [3, 8, 16, 32][k % 4]);
+        for _ in 0..1 + k % 3 {
+            damage_script(&mut r, &mut s);
+        }
+        out.put(&k.to_string(), &s.bytes(), &Mode::Sum(1785));
+    }
+    out.group("other reference");
+    for k in 0..120 {
+        let mut s = random_script(&mut r, [8, 16, 32][k % 3]);
+        for _ in 0..1 + k % 2 {
+            refer_elsewhere(&mut r, &mut s);
+        }
+        out.put(&k.to_string(), &s.bytes(), &Mode::Sum(1785));
+    }
+    // A script under one guard more, or two in a choice: well formed, but for its last entry.
+    out.group("guarded last");
+    for k in 0..40 {
+        let mut s = random_script(&mut r, [4, 8, 16, 32][k % 4]);
+        let b = s.truth();
+        let c = s.tables[2].len() as u16 - 1;
+        let g = s.guard(b, c);
+        if k % 2 == 1 {
+            let h = s.true_skip();
+            s.choice(h, g);
+        }
+        out.known(&k.to_string(), &s.bytes(), &Mode::Edges, &format!("refused 11 at {}", s.place(2, s.tables[2].len() - 1)));
+    }
+    out.group("byte damage");
+    for k in 0..300 {
+        let mut bytes = random_script(&mut r, [3, 8, 16, 32][k % 4]).bytes();
+        for _ in 0..1 + k % 3 {
+            damage_bytes(&mut r, &mut bytes);
+        }
+        out.put(&k.to_string(), &bytes, &Mode::Sum(1785));
+    }
+    out.group("noise");
+    for k in 0..60 {
+        let length = r.below(40);
+        let mut bytes: Vec<u8> = (0..length).map(|_| r.below(8) as u8).collect();
+        // The first bytes of a head, so that some noise gets further.
+        for (i, x) in [1, 0, 2, 0, 0, 2, 0, 0, 3, 0, 0, 4, 0, 7].into_iter().enumerate() {
+            if i < bytes.len() && i < k / 2 {
+                bytes[i] = x;
+            }
+        }
+        out.put(&k.to_string(), &bytes, &Mode::Sum(1785));
+    }
+    out.group("random input");
+    for k in 0..150 {
+        let mut s = random_script(&mut r, [3, 8, 16][k % 3]);
+        if k % 5 == 1 {
+            damage_script(&mut r, &mut s);
+        }
+        let count = r.below(6) * s.names.len();
+        let list: Vec<u8> = (0..count).map(|_| 1 + r.below(7) as u8).collect();
+        let mut bytes = [s.bytes(), field(5, &list)].concat();
+        if k % 5 > 1 {
+            damage_bytes(&mut r, &mut bytes);
+        }
+        out.put(&k.to_string(), &bytes, &Mode::Input);
+    }
+}
