@@ -5,7 +5,7 @@ use Prim.Native.Nat.{ℕ, zero, suc, _+_, _*_, _/_, _%_, _≤_, _<_}
 use native.Mathlib.Nat.{div-add-mod', mul-div-le}
 use native.Mathlib.Omega.{arith}
 use lib.Dec.{eqb, leb}
-use lib.ListN.{length, getD, drop, length-drop}
+use lib.ListN.{length, getD, take, drop, length-drop}
 use lib.Seq.{length-take-le, getD-take}
 use borrow.Author.Tests.{leb-true, eqb-true, eq-eqb}
 use Rattle.program.specs.Asking.{ask, thenAsk, inTurn}
@@ -69,7 +69,7 @@ module _ (s : List ℕ) (fit : headsValidity s 0 programFields ≡ Fit) where
   unfolding nameCount layoutOf namesField placeAfter
   names-end = omega (arith, field-end 0 (omega arith) namesField, ap (λ (x : Span). x .start) (field-span s fit 0 (omega arith) namesField))
 
-  table-end : (t : Table) → tableStart s t + 7 * entryCount s t ≤ fieldStart s 4
+  pub table-end : (t : Table) → tableStart s t + 7 * entryCount s t ≤ fieldStart s 4
   unfolding tableStart entryCount spanOf layoutOf tableField
   table-end Arithmetic = field-end 1 (omega arith) (tableField Arithmetic)
   table-end Boolean = field-end 2 (omega arith) (tableField Boolean)
@@ -152,3 +152,12 @@ module _ (s : List ℕ) (fit : inputValidity s ≡ Fit) where
 
   pub initial-records : length (initialPart s) ≡ length (initialPart s) / nameCount (programPart s) * nameCount (programPart s)
   initial-records = omega (arith, div-add-mod' (length (initialPart s)) (nameCount (programPart s)), initial-whole)
+
+  -- the parts of the input, one after the other with a head of three bytes between them
+  pub program-there : take (length (programPart s)) s ≡ programPart s
+  unfolding programPart
+  program-there = rw (part-length s heads)
+
+  pub initial-there : take (length (initialPart s)) (drop (length (programPart s) + 3) s) ≡ initialPart s
+  unfolding initialPart fieldHead headContent headFound
+  initial-there = rw (initial-length, part-length s heads, initial-field .found)

@@ -5,7 +5,7 @@ use mathlib.Core.List.{List}
 use Prim.Native.Nat.{ℕ, suc, _+_, _*_, _/_, _%_, _≤_, _<_}
 use lib.Dec.{T}
 use lib.IntN.{pos}
-use lib.ListN.{length, getD}
+use lib.ListN.{length, getD, take, drop}
 use Rattle.program.specs.Asking.{ask, thenAsk, isRefused, inTurn, askEach}
 use Rattle.program.specs.Counting.{capacity}
 use Rattle.program.specs.Decoding.{decodedEntries, decodedEntry, decodedSizes, decodedCells, NamesIn}
@@ -47,6 +47,8 @@ use Rattle.program.proofs.Links
 use Rattle.program.proofs.Made.{made}
 use Rattle.program.proofs.Nodes
 use Rattle.program.proofs.Nodes.{Inside}
+use Rattle.program.proofs.Places
+use Rattle.program.proofs.Places.{Placed}
 use Rattle.program.proofs.SameTrees
 use Rattle.program.proofs.Sorting
 use Rattle.program.proofs.Tests.{passed}
@@ -267,6 +269,27 @@ each-stops = Asking.each-stops
 pub each-goes-on : (q : ℕ → Validity) (k : ℕ) (v : Validity) (r : Bool) → askEach k q ≡ Fit → v ≡ q k → r ≡ isRefused v → r ≡ false → askEach (suc k) q ≡ Fit
 each-goes-on = Asking.each-goes-on
 
+-- where an answer is a refusal, it has a number and its place is small
+module _ {most : ℕ} where
+  pub placed-fit : Placed most Fit
+  placed-fit = Places.placed-fit
+
+  pub placed-ask : (yes? : Bool) (n at : ℕ) → 1 ≤ n → at ≤ most → Placed most (ask yes? n at)
+  placed-ask = Places.placed-ask
+
+  pub placed-then : (a b : Validity) → Placed most a → (a ≡ Fit → Placed most b) → Placed most (thenAsk a b)
+  placed-then = Places.placed-then
+
+  pub placed-each : (n : ℕ) (q : ℕ → Validity) → ((k : ℕ) → k < n → Placed most (q k)) → Placed most (askEach n q)
+  placed-each = Places.placed-each
+
+-- the questions of a program file, and of the sheet program's input
+pub validity-placed : (s : List ℕ) → Placed 7244 (validity s)
+validity-placed = Places.validity-placed
+
+pub input-placed : (s : List ℕ) → Placed 23631 (inputValidity s)
+input-placed = Places.input-placed
+
 -- ---- The graph, of every file: each edge leaves and enters a node of the graph, and none leaves node 1 (book, Proposition 2.12)
 
 pub two-nodes : (s : List ℕ) → 2 ≤ nodeCount s
@@ -288,6 +311,10 @@ module _ (s : List ℕ) (fit : validity s ≡ Fit) where
 
   pub few-cells : cellCount (sizes s) ≤ 512
   few-cells = Fitness.few-cells s fit
+
+  -- it has no more bytes than four fields with as many entries as are allowed
+  pub few-bytes : length s ≤ 7244
+  few-bytes = Places.few-bytes s fit
 
   -- "There are at most 129 nodes and 255 arrows."
   pub few-nodes : nodeCount s ≤ 129
@@ -380,6 +407,13 @@ module _ (s : List ℕ) (fit : inputValidity s ≡ Fit) where
 
   pub initial-few : length (initialPart s) / nameCount (programPart s) ≤ 512
   initial-few = Inputs.initial-few s fit
+
+  -- the parts of the input, one after the other with a head of three bytes between them
+  pub program-there : take (length (programPart s)) s ≡ programPart s
+  program-there = Inputs.program-there s fit
+
+  pub initial-there : take (length (initialPart s)) (drop (length (programPart s) + 3) s) ≡ initialPart s
+  initial-there = Inputs.initial-there s fit
 
 -- ---- The edges of a node
 

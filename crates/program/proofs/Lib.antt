@@ -29,6 +29,7 @@ pub mod Links
 pub mod SameTrees
 pub mod Agreeing
 pub mod Inputs
+pub mod Places
 pub mod Laws
 pub mod Open
 pub mod Examples

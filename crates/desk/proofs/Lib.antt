@@ -1,0 +1,4 @@
+pub mod Replies
+pub mod Places
+pub mod Parts
+pub mod Acceptance

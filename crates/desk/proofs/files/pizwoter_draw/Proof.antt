@@ -1,0 +1,26 @@
+-- `pizwoter_draw`: a reply that is too short, and one that has room.
+use borrow.Author.Needs.{needs}
+use mathlib.Core.Path.{ap, _∙_}
+use Rattle.program.specs.Drawing.{drawnNumbers}
+use Rattle.desk.specs.Rows.{drew}
+use Rattle.desk.proofs.Places.{drawn-narrow}
+use Rattle.desk.proofs.Replies.{short-told, short-kept, roomy-told, roomy-kept}
+use Rattle.desk.proofs.files.pizwoter_draw.Statement.{statement}
+use Rattle.desk.proofs.files.pizwoter_draw.Tie as tie
+
+returns : tie.Need-returns
+returns c = (short-told _ (c .if1 .taken) _, short-kept _ (c .if1 .taken) _ _)
+
+of-drawn-requires : tie.Need-of-drawn-requires
+of-drawn-requires c κs = drawn-narrow _ _ (c .before .before .draw .ensures .0 .0)
+
+returns-2 : tie.Need-returns-2
+unfolding drew
+returns-2 c =
+    let made = c .before .before .before .before in
+    let drawn = made .before .before .before in
+    let roomy = drawn .before .before .if1 .left in
+    (roomy-told _ roomy (made .of-drawn .ensures ∙ ap drawnNumbers (drawn .draw .ensures .0 .0)) (c .before .before .put .ensures), drawn .draw .ensures .0 .1 ∙ roomy-kept _ roomy _ _)
+
+pub pizwoter-draw-spec : {M : Type 1} → statement M
+pizwoter-draw-spec = tie.close (tie.spec returns (λ c κs. search needs) of-drawn-requires (λ c κs. search needs) (λ c. search needs) (λ c. search needs) returns-2)

@@ -1,0 +1,26 @@
+-- `pizwoter_solve`: a reply that is too short, and one that has room.
+use borrow.Author.Needs.{needs}
+use mathlib.Core.Path.{ap, _∙_}
+use Rattle.analysis.specs.Solver.{solvedNumbers}
+use Rattle.desk.specs.Rows.{solved}
+use Rattle.desk.proofs.Places.{solved-narrow}
+use Rattle.desk.proofs.Replies.{short-told, short-kept, roomy-told, roomy-kept}
+use Rattle.desk.proofs.sheets.pizwoter_solve.Statement.{statement}
+use Rattle.desk.proofs.sheets.pizwoter_solve.Tie as tie
+
+returns : tie.Need-returns
+returns c = (short-told _ (c .if1 .taken) _, short-kept _ (c .if1 .taken) _ _)
+
+of-solved-requires : tie.Need-of-solved-requires
+of-solved-requires c κs = solved-narrow _ _ _ (c .before .before .solve .ensures .0 .0)
+
+returns-2 : tie.Need-returns-2
+unfolding solved
+returns-2 c =
+    let made = c .before .before .before .before in
+    let found = made .before .before .before in
+    let roomy = found .before .before .if1 .left in
+    (roomy-told _ roomy (made .of-solved .ensures ∙ ap solvedNumbers (found .solve .ensures .0 .0)) (c .before .before .put .ensures), found .solve .ensures .0 .1 ∙ roomy-kept _ roomy _ _)
+
+pub pizwoter-solve-spec : {M : Type 1} → statement M
+pizwoter-solve-spec = tie.close (tie.spec returns (λ c κs. search needs) of-solved-requires (λ c κs. search needs) (λ c. search needs) (λ c. search needs) returns-2)

@@ -1,0 +1,3 @@
+pub mod Reply
+pub mod Rows
+pub mod Accepting

@@ -1,0 +1,80 @@
+-- The row of each call, in document 01's numbers: what it writes at the front of the reply.
+use Prim.Native.Nat.{ℕ, _+_, _*_}
+use mathlib.Core.List.{List, [], _∷_}
+use lib.IntN.{ℤ}
+use lib.ListN.{length}
+use Rattle.program.specs.Asking.{validityNumbers}
+use Rattle.program.specs.Drawing.{drawn, drawnNumbers}
+use Rattle.program.specs.File.{nameCount}
+use Rattle.program.specs.Questions.{validity, inputValidity, programPart, initialPart}
+use Rattle.program.specs.declared.Validity.{Validity}
+use Rattle.program.specs.declared.Validity.the-variants.{Fit, Refused}
+use Rattle.semantics.specs.Budget.{budgetReply, endedNumbers}
+use Rattle.semantics.specs.Step.{Configuration, stepReply, steppedNumbers}
+use Rattle.analysis.specs.Records.{listNumber}
+use Rattle.analysis.specs.Solver as Solver
+use Rattle.analysis.specs.Splitter as Splitter
+use Rattle.analysis.specs.Verdict.{verdict, verdictNumbers, marking, markingNumbers}
+use Rattle.analysis.specs.declared.Records.the-variants.{Initial, Solution}
+use Rattle.analysis.specs.declared.Verdict.{Verdict}
+use Rattle.analysis.specs.declared.Verdict.the-variants.{Refused as Refuses, Malformed, InitialMissing, ResultMissing, Accepted}
+
+-- questions 1 to 11 of a program file, and of the sheet program's input: 0, or the question's number and its place
+unfoldable pub validated : List ℕ → List ℕ
+validated s = validityNumbers (validity s)
+
+unfoldable pub inputValidated : List ℕ → List ℕ
+inputValidated s = validityNumbers (inputValidity s)
+
+-- the parts of that input: 0, the program's length, where the start list begins, after the three bytes of the fifth field's head, and its length;
+-- or the question's number and its place
+unfoldable pub partsBy : List ℕ → Validity → List ℕ
+partsBy s Fit = 0 ∷ length (programPart s) ∷ (length (programPart s) + 3) ∷ length (initialPart s) ∷ []
+partsBy s (Refused x) = x .number ∷ x .offset ∷ []
+
+unfoldable pub parts : List ℕ → List ℕ
+parts s = partsBy s (inputValidity s)
+
+-- the graph drawn into a buffer: the answer's, then nodes and edges
+unfoldable pub drew : List ℕ → List ℕ → List ℕ
+drew s buffer = drawnNumbers (drawn s buffer)
+
+-- a run at a node with so many edges taken, over a memory, as a step takes it
+abbrev pub standing : ℕ → ℕ → List ℤ → Configuration
+standing node count m = record { run = record { node = node; count = count }; memory = m }
+
+-- a step along an edge, and a budgeted run: the answer's, then node and count
+unfoldable pub stepped : List ℕ → Configuration → ℕ → List ℕ
+stepped s c e = steppedNumbers (stepReply s c e)
+
+unfoldable pub ran : List ℕ → ℕ → List ℤ → List ℕ
+ran s budget m = endedNumbers (budgetReply s budget m)
+
+-- the verdict on a sheet: the answer's, with 41 its record, with 42 its record and edge, accepted the index mark's record and edge where it is not
+-- clean
+unfoldable pub judged : List ℕ → List ℕ → List ℕ → List ℕ
+judged s initial solution = verdictNumbers (verdict s initial solution)
+
+-- "With 41 or 42 comes the offending record itself, as a part of whichever of the two lists it lies in; otherwise that part is empty.": the list, and
+-- the record's offset and length in it, in a program with so many names
+unfoldable pub offendingBy : ℕ → Verdict → List ℕ
+offendingBy names (Refuses x) = 0 ∷ 0 ∷ 0 ∷ []
+offendingBy names (Malformed w) = 0 ∷ 0 ∷ 0 ∷ []
+offendingBy names (InitialMissing k) = listNumber Initial ∷ (names * k) ∷ names ∷ []
+offendingBy names (ResultMissing k e) = listNumber Solution ∷ ((2 + names) * k) ∷ (2 + names) ∷ []
+offendingBy names (Accepted mark) = 0 ∷ 0 ∷ 0 ∷ []
+
+unfoldable pub offended : List ℕ → List ℕ → List ℕ → List ℕ
+offended s initial solution = offendingBy (nameCount s) (verdict s initial solution)
+
+-- the index mark of a sheet by itself
+unfoldable pub marked : List ℕ → List ℕ → List ℕ
+marked s solution = markingNumbers (marking s solution)
+
+-- the solver's list into a buffer: the answer's, then the count
+unfoldable pub solved : List ℕ → List ℕ → List ℕ → List ℕ
+solved s initial buffer = Solver.solvedNumbers (Solver.solved s initial buffer)
+
+-- a place in a sheet: the answer's, then record and column
+unfoldable pub split : List ℕ → ℕ → List ℕ
+split s place = Splitter.splitNumbers (Splitter.split s place)

@@ -1,0 +1,15 @@
+// The engine as a C library: each operation on numbers and slices, its reply a row of document 01's numbers.
+
+pub mod files;
+pub(crate) mod reply;
+pub(crate) mod rows;
+pub mod sheets;
+pub mod steps;
+
+// A row of numbers for a reply.
+pub(crate) enum Row {
+    One(u32),
+    Two(u32, u32),
+    Three(u32, u32, u32),
+    Four(u32, u32, u32, u32),
+}
