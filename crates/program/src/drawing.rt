@@ -269,11 +269,19 @@ pub fn draw_edges(s: &[u8], edges: &mut [u8; 1785]) -> Drawn
     draw_edges_valid(s, edges, v)
 }
 
-// Edge `k` of such bytes.
+// Edge `k` of such bytes. Where all of it is there, one test serves its seven.
 pub fn edge_at(bytes: &[u8], k: u16) -> EdgeBytes
     ensures { λ r. ⌜ r ≡ spec.edgeRead (now (bytes .entry)) k ⌝ }
 {
     let at = 7 * file::long(k);
+    if at + 7 <= bytes.len() {
+        return EdgeBytes {
+            source: file::whole_word(bytes, at),
+            target: file::whole_word(bytes, at + 2),
+            kind: bytes[at + 4],
+            entry: file::whole_word(bytes, at + 5),
+        };
+    }
     EdgeBytes {
         source: file::word_at(bytes, at),
         target: file::word_at(bytes, at + 2),

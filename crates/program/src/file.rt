@@ -2,6 +2,7 @@
 
 ghost use mathlib.Core.Path.{_≡_};
 ghost use Prim.Native.Nat.{_<_, _+_, _*_, min};
+ghost use lib.ListN.{length};
 ghost use Rattle.program.specs.File as spec;
 use crate::Entry;
 use crate::Field;
@@ -35,11 +36,27 @@ pub fn word_at(s: &[u8], i: usize) -> u16
     }
 }
 
-// The entry whose kind byte is at `at`.
+// The same where both bytes are there.
+pub(crate) fn whole_word(s: &[u8], i: usize) -> u16
+    requires { ⌜ i + 1 < length (now s) ⌝ }
+    ensures { λ r. ⌜ r ≡ spec.wordAt (now (s .entry)) i ⌝ }
+{
+    wide(s[i]) * 256 + wide(s[i + 1])
+}
+
+// The entry whose kind byte is at `at`. Where all of it is there, which is nearly always, one test serves its seven bytes.
 pub fn entry_at(s: &[u8], at: usize) -> Entry
     ensures { λ r. ⌜ r ≡ spec.entryAt (now (s .entry)) at ⌝ }
 {
     if at < s.len() {
+        if 7 <= s.len() - at {
+            return Entry {
+                kind: s[at],
+                p: whole_word(s, at + 1),
+                q: whole_word(s, at + 3),
+                r: whole_word(s, at + 5),
+            };
+        }
         Entry {
             kind: byte_at(s, at),
             p: word_at(s, at + 1),
@@ -156,8 +173,7 @@ pub fn span_of(l: Layout, table: Table) -> Span
 pub fn name_count(s: &[u8]) -> u16
     ensures { λ r. ⌜ r ≡ spec.nameCount (now (s .entry)) ⌝ }
 {
-    let l = layout(s);
-    let names = l.names;
+    let names = head_span(reader::field_head(s, 0), names_field());
     names.count
 }
 

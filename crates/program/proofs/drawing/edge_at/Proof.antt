@@ -1,6 +1,7 @@
 -- `program::drawing::edge_at` meets its contract.
 use borrow.Author.Needs.{needs}
 use Rattle.program.specs.Drawing.{edgeRead}
+use Rattle.program.specs.File.{byteAt}
 use Rattle.program.proofs.drawing.edge_at.Statement.{statement}
 use Rattle.program.proofs.drawing.edge_at.Tie as tie
 
@@ -9,6 +10,35 @@ long-requires c κs = search needs
 
 mul-at : tie.Need-mul-at
 mul-at c = search needs
+
+add-if1 : tie.Need-add-if1
+add-if1 c = search needs
+
+whole-word-requires : tie.Need-whole-word-requires
+whole-word-requires c κs = search needs
+
+add-whole-word : tie.Need-add-whole-word
+add-whole-word c = search needs
+
+whole-word-requires-2 : tie.Need-whole-word-requires-2
+whole-word-requires-2 c κs = search needs
+
+add-t10 : tie.Need-add-t10
+add-t10 c = search needs
+
+shared-slice-read-t12 : tie.Need-shared-slice-read-t12
+shared-slice-read-t12 c = search needs
+
+add-whole-word-2 : tie.Need-add-whole-word-2
+add-whole-word-2 c = search needs
+
+whole-word-requires-3 : tie.Need-whole-word-requires-3
+whole-word-requires-3 c κs = search needs
+
+returns : tie.Need-returns
+unfolding edgeRead byteAt
+returns c =
+    rw (c .before .before .before .whole-word .ensures, c .before .before .whole-word2 .ensures, c .whole-word3 .ensures, c .before .before .before .before .before .long .ensures)
 
 word-at-requires : tie.Need-word-at-requires
 word-at-requires c κs = search needs
@@ -31,9 +61,10 @@ add-word-at-2 c = search needs
 word-at-requires-3 : tie.Need-word-at-requires-3
 word-at-requires-3 c κs = search needs
 
-returns : tie.Need-returns
+returns-2 : tie.Need-returns-2
 unfolding edgeRead
-returns c = rw (c .before .before .before .word-at .ensures, c .before .before .word-at2 .ensures, c .before .byte-at .ensures, c .word-at3 .ensures, c .before .before .before .before .long .ensures)
+returns-2 c =
+    rw (c .before .before .before .word-at .ensures, c .before .before .word-at2 .ensures, c .before .byte-at .ensures, c .word-at3 .ensures, c .before .before .before .before .before .long .ensures)
 
 pub edge-at-spec : {M : Type 1} → statement M
 edge-at-spec =
@@ -41,6 +72,15 @@ edge-at-spec =
     (tie.spec
     long-requires
     mul-at
+    add-if1
+    whole-word-requires
+    add-whole-word
+    whole-word-requires-2
+    add-t10
+    shared-slice-read-t12
+    add-whole-word-2
+    whole-word-requires-3
+    returns
     word-at-requires
     add-word-at
     word-at-requires-2
@@ -48,4 +88,4 @@ edge-at-spec =
     byte-at-requires
     add-word-at-2
     word-at-requires-3
-    returns)
+    returns-2)

@@ -1,0 +1,92 @@
+//! What is timed: lessons from tiny to maximal, and sheets of a given number of records.
+
+use oracle::making::{exact, factorial, file_of, full_names, loops, script_of, Random};
+
+pub struct Lesson {
+    pub title: &'static str,
+    pub file: Vec<u8>,
+}
+
+fn lesson(title: &'static str, file: Vec<u8>) -> Lesson {
+    Lesson { title, file }
+}
+
+/// Files for validation, drawing, one step and splitting: by their size.
+pub fn files() -> Vec<Lesson> {
+    vec![
+        lesson("factorial, 135 bytes", factorial().bytes()),
+        lesson("sorting, 40 entries", sorting()),
+        lesson("127 loops, 255 arrows", loops(127).bytes()),
+        lesson("largest, 7,244 bytes", exact(&full_names(), 512, 256, 256).bytes()),
+    ]
+}
+
+/// Bubbles through an array for ever.
+fn sorting() -> Vec<u8> {
+    file_of(
+        "i j t A8",
+        "do true -> i := 0; do 7 > i -> j := i + 1; if A[i] > A[j] -> t := A[j]; A[j] := A[i]; A[i] := t [] !(A[i] > A[j]) -> skip fi; i := i + 1 od od",
+    )
+}
+
+/// Lessons that never end, so that a run uses up its budget.
+pub fn endless() -> Vec<Lesson> {
+    // 40 guards of which only the last is true, and a value of many operators in its arm.
+    let tests: String = (0..40).map(|k| format!("x > {} -> skip [] ", 1000 + k)).collect();
+    let sum = vec!["x * y - x / 3"; 20].join(" + ");
+    // The largest tables: x := A[A[...A[7]]], 511 elements in one another.
+    let nested = format!("{}0{}", "A[".repeat(500), "]".repeat(500));
+    vec![
+        lesson("two variables", file_of("x y", "do x >= 0 -> y := y + x; y := y - x od")),
+        lesson("factorial again and again", file_of("x y n", "do true -> x := n; y := 1; do x > 0 -> y := x * y; x := x - 1 od od")),
+        lesson("sorting", sorting()),
+        lesson("40 guards, 160 operators", file_of("x y z", &format!("do {tests}true -> z := {sum} od"))),
+        lesson("500 elements in one another", file_of("x A9", &format!("do true -> x := {nested} od"))),
+    ]
+}
+
+/// A lesson whose sheet has 16 records for each start record: 15 assignments in turn, none of which changes a sign.
+pub struct Walk {
+    pub title: &'static str,
+    pub file: Vec<u8>,
+    names: usize,
+}
+
+const LETTERS: &str = "abcdefghijklmnopqrstuvwxyzABCDEF";
+
+fn names(count: usize) -> String {
+    LETTERS.chars().take(count).map(|c| c.to_string()).collect::<Vec<_>>().join(" ")
+}
+
+fn walk(title: &'static str, count: usize, factor: &str) -> Walk {
+    let letters: Vec<char> = LETTERS.chars().take(count).collect();
+    let steps: Vec<String> = (0..15).map(|k| letters[k % count]).map(|x| format!("{x} := {x} * {factor}")).collect();
+    let script = script_of(&names(count), &steps.join("; "));
+    Walk { title, file: script.bytes(), names: count }
+}
+
+/// Of 8 names with short actions, of 32 names, and of 32 names with actions of 31 entries each, 465 in all.
+pub fn walks() -> Vec<Walk> {
+    let product = vec!["1"; 15].join(" * ");
+    vec![walk("8 names", 8, "1"), walk("32 names", 32, "1"), walk("32 names, 465 entries", 32, &format!("({product})"))]
+}
+
+impl Walk {
+    /// So many different start records, in no order.
+    pub fn starts(&self, count: usize) -> Vec<u8> {
+        let mut random = Random(20_261_115);
+        let mut seen = std::collections::HashSet::new();
+        let mut list = Vec::new();
+        while seen.len() < count {
+            let record: Vec<u8> = (0..self.names).map(|_| 1 << random.below(3)).collect();
+            if seen.insert(record.clone()) {
+                list.extend(record);
+            }
+        }
+        list
+    }
+
+    pub fn width(&self) -> usize {
+        self.names + 2
+    }
+}

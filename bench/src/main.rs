@@ -1,0 +1,176 @@
+//! How fast the engine is: each operation beside a plain optimised Rust program that does the same, on the same input in the same run.
+//!
+//! Prints a table in Markdown, as docs/BENCHMARKS.md has it. Before anything is timed the two programs' answers are compared.
+
+mod lessons;
+mod plain;
+mod timing;
+
+use lessons::{Lesson, Walk};
+use pizwoter::{Ending, Mark, Outcome, Run, Verdict};
+use timing::{side_by_side, Timed};
+
+fn main() {
+    println!("Machine: {}.\n", machine());
+    println!("| operation | input | engine | plain Rust | ratio | |\n|---|---|---:|---:|---:|---|");
+    let only = std::env::args().nth(1).unwrap_or_default();
+    let wanted = |name: &str| name.contains(&only);
+    for lesson in lessons::files() {
+        if wanted("validate") {
+            row("validate", lesson.title, validate(&lesson));
+        }
+    }
+    for lesson in lessons::files() {
+        if wanted("draw") {
+            row("draw", lesson.title, draw(&lesson));
+        }
+    }
+    for lesson in lessons::files() {
+        if wanted("step") {
+            row("one step", lesson.title, step(&lesson));
+        }
+    }
+    for lesson in lessons::files() {
+        if wanted("split") {
+            row("split", lesson.title, split(&lesson));
+        }
+    }
+    for lesson in lessons::endless() {
+        for budget in [1_000, 8_000, 65_535] {
+            if wanted("run") {
+                row("run", &format!("{}, {} steps", lesson.title, grouped(budget)), run(&lesson, budget as u16));
+            }
+        }
+    }
+    for walk in lessons::walks() {
+        for records in [16, 256, 4096] {
+            if wanted("judge") {
+                row("judge", &format!("{}, {} records", walk.title, grouped(records)), judge(&walk, records));
+            }
+        }
+    }
+    for walk in lessons::walks() {
+        for records in [16, 256, 4096] {
+            if wanted("solve") {
+                row("solve", &format!("{}, {} records", walk.title, grouped(records)), solve(&walk, records));
+            }
+        }
+    }
+}
+
+/// A number with a comma before its last three digits.
+fn grouped(n: usize) -> String {
+    match n / 1000 {
+        0 => n.to_string(),
+        thousands => format!("{thousands},{:03}", n % 1000),
+    }
+}
+
+fn machine() -> String {
+    let cpu = std::fs::read_to_string("/proc/cpuinfo").unwrap_or_default();
+    let model = cpu.lines().find_map(|line| line.strip_prefix("model name")).map_or("unknown", |rest| rest.trim_start_matches([' ', '\t', ':']));
+    let cores = std::thread::available_parallelism().map_or(1, |n| n.get());
+    format!("{model}, {cores} cores")
+}
+
+fn time(nanoseconds: f64) -> String {
+    match nanoseconds {
+        t if t < 1e3 => format!("{t:.0} ns"),
+        t if t < 1e4 => format!("{:.2} µs", t / 1e3),
+        t if t < 1e6 => format!("{:.1} µs", t / 1e3),
+        t => format!("{:.2} ms", t / 1e6),
+    }
+}
+
+/// A line of the table: its bar has ten blocks where the two are as fast.
+fn row(operation: &str, input: &str, timed: Timed) {
+    let ratio = timed.ratio();
+    let bar = "█".repeat(((ratio * 10.0).round() as usize).clamp(1, 40));
+    println!("| {operation} | {input} | {} | {} | {ratio:.2} | {bar} |", time(timed.engine), time(timed.plain));
+}
+
+fn validate(lesson: &Lesson) -> Timed {
+    let file = &lesson.file[..];
+    assert!(pizwoter::validate(file).is_ok() && plain::validate(file).is_ok());
+    side_by_side(|| pizwoter::validate(file), || plain::validate(file))
+}
+
+fn draw(lesson: &Lesson) -> Timed {
+    let file = &lesson.file[..];
+    let (mut ours, mut theirs) = ([170; 2000], [170; 2000]);
+    let drawn = pizwoter::draw(file, &mut ours).unwrap();
+    assert_eq!(plain::draw(file, &mut theirs), Ok((drawn.nodes as u16, drawn.arrows as u16)));
+    assert_eq!(ours, theirs);
+    side_by_side(|| pizwoter::draw(file, &mut ours).is_ok(), || plain::draw(file, &mut theirs).is_ok())
+}
+
+/// The first arrow, from a fresh run.
+fn step(lesson: &Lesson) -> Timed {
+    let file = &lesson.file[..];
+    let (mut ours, mut theirs) = (memory(file), memory(file));
+    let (next, outcome) = Run::FRESH.step(file, 0, &mut ours);
+    match plain::step(file, 0, 0, 0, &mut theirs).unwrap() {
+        Ok((node, count)) => assert_eq!((outcome, next), (Outcome::Taken, Run { node, count })),
+        Err(reason) => assert!(matches!(outcome, Outcome::Undefined(r) if r as u32 == reason)),
+    }
+    assert_eq!(ours, theirs);
+    side_by_side(|| Run::FRESH.step(file, 0, &mut ours).0, || plain::step(file, 0, 0, 0, &mut theirs).is_ok())
+}
+
+fn split(lesson: &Lesson) -> Timed {
+    let (file, place) = (&lesson.file[..], 3_000_000_019);
+    let split = pizwoter::split(file, place).unwrap();
+    assert_eq!(plain::split(file, place), Ok((split.record, split.column)));
+    side_by_side(|| pizwoter::split(file, place).is_ok(), || plain::split(file, place).is_ok())
+}
+
+/// Small numbers in no order.
+fn memory(file: &[u8]) -> Vec<i32> {
+    let cells = pizwoter::cells(file).unwrap() as i32;
+    (0..cells).map(|k| (k * 7 + 5) % 9).collect()
+}
+
+fn run(lesson: &Lesson, budget: u16) -> Timed {
+    let (file, memory) = (&lesson.file[..], memory(&lesson.file));
+    let (mut ours, mut theirs) = (memory.clone(), memory.clone());
+    let ended = pizwoter::run(file, budget, &mut ours).unwrap();
+    assert_eq!((ended.ending, ended.run.count), (Ending::Spent, budget), "{}", lesson.title);
+    assert_eq!(plain::run(file, budget, &mut theirs), Ok((1, ended.run.node, ended.run.count)));
+    assert_eq!(ours, theirs);
+    let anew = |kept: &mut Vec<i32>| kept.copy_from_slice(&memory);
+    side_by_side(
+        || {
+            anew(&mut ours);
+            pizwoter::run(file, budget, &mut ours).is_ok()
+        },
+        || {
+            anew(&mut theirs);
+            plain::run(file, budget, &mut theirs).is_ok()
+        },
+    )
+}
+
+/// The solver's sheet of a walk, with as many records as are wanted.
+fn solved(walk: &Walk, records: usize) -> (Vec<u8>, Vec<u8>) {
+    let start = walk.starts(records / 16);
+    let mut sheet = vec![0; walk.width() * records];
+    assert_eq!(pizwoter::solve(&walk.file, &start, &mut sheet), Ok(records), "{}", walk.title);
+    (start, sheet)
+}
+
+fn judge(walk: &Walk, records: usize) -> Timed {
+    let (start, sheet) = solved(walk, records);
+    let file = &walk.file[..];
+    assert_eq!(pizwoter::judge(file, &start, &sheet), Ok(Verdict::Accepted(Mark::Clean)));
+    assert_eq!(plain::judge(file, &start, &sheet), [0]);
+    side_by_side(|| pizwoter::judge(file, &start, &sheet).is_ok(), || plain::judge(file, &start, &sheet)[0])
+}
+
+fn solve(walk: &Walk, records: usize) -> Timed {
+    let (start, mut ours) = solved(walk, records);
+    let file = &walk.file[..];
+    let mut theirs = vec![0; ours.len()];
+    assert_eq!(plain::solve(file, &start, &mut theirs), [0, records as u32]);
+    assert_eq!(ours, theirs);
+    side_by_side(|| pizwoter::solve(file, &start, &mut ours).is_ok(), || plain::solve(file, &start, &mut theirs)[0])
+}

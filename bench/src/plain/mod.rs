@@ -1,0 +1,13 @@
+//! The engine's operations as a plain optimised Rust program: what a careful programmer would write in an afternoon, without proofs. A program is decoded once a call into
+//! vectors of enums, the arrows of a node are a vector, records are looked up in a `HashSet`. It answers as document 01 says; the benchmark compares each answer with the
+//! engine's before it times the two.
+
+mod file;
+mod graph;
+mod running;
+mod sheets;
+
+pub use file::{validate, Refusal};
+pub use graph::draw;
+pub use running::{run, step};
+pub use sheets::{judge, solve, split};

@@ -1,0 +1,110 @@
+//! A picture of a lesson: its program graph in Graphviz's language, on standard output.
+//!
+//!     picture < INPUT > PICTURE.dot         INPUT is what the sheet program reads: a program and its start list, five fields
+//!
+//! A node shows the abstract memories that the solver's sheet has there, an arrow its number and its action in document 02's notation. Where the sheet's index mark
+//! names a record and an arrow, that arrow is red.
+
+mod notation;
+
+use notation::Notation;
+use pizwoter::{Graph, Mark};
+use std::io::{self, Read};
+use std::process::ExitCode;
+
+/// The most abstract memories that a node shows.
+const SHOWN: usize = 12;
+
+fn main() -> ExitCode {
+    let mut input = Vec::new();
+    if let Err(error) = io::stdin().read_to_end(&mut input) {
+        return fail(&error.to_string());
+    }
+    match picture(&input) {
+        Ok(text) => {
+            print!("{text}");
+            ExitCode::SUCCESS
+        }
+        Err(reason) => fail(&reason),
+    }
+}
+
+fn fail(reason: &str) -> ExitCode {
+    eprintln!("picture: {reason}");
+    ExitCode::FAILURE
+}
+
+fn picture(input: &[u8]) -> Result<String, String> {
+    let parts = pizwoter::input_parts(input).map_err(|refusal| format!("{refusal:?}"))?;
+    let graph = pizwoter::graph(parts.program).map_err(|refusal| format!("{refusal:?}"))?;
+    let notation = Notation::of(parts.program);
+    let width = 2 + notation.names();
+    let mut sheet = vec![0; width * pizwoter::MOST_RECORDS];
+    let records = pizwoter::solve(parts.program, parts.start, &mut sheet).map_err(|unsolved| format!("{unsolved:?}"))?;
+    sheet.truncate(width * records);
+    let mark = pizwoter::index_mark(parts.program, &sheet).map_err(|refusal| format!("{refusal:?}"))?;
+    Ok(drawn(&graph, &notation, &sheet, mark))
+}
+
+fn drawn(graph: &Graph, notation: &Notation, sheet: &[u8], mark: Mark) -> String {
+    let mut text = String::from("digraph lesson {\n  rankdir=LR;\n  node [shape=box, style=rounded, fontname=\"monospace\"];\n  edge [fontname=\"monospace\"];\n");
+    for node in 0..graph.nodes {
+        text += &format!("  n{node} [label=\"{}\"{}];\n", node_label(node, notation, sheet), node_style(node));
+    }
+    for (k, arrow) in graph.arrows.iter().enumerate() {
+        let (note, style) = match mark {
+            Mark::At { record, arrow } if arrow == k => (format!("\\nindex may be below 0 (record {record})"), ", color=red, fontcolor=red"),
+            _ => (String::new(), ""),
+        };
+        text += &format!("  n{} -> n{} [label=\"{k}: {}{note}\"{style}];\n", arrow.from, arrow.to, notation.action(arrow.action));
+    }
+    text + "}\n"
+}
+
+fn node_style(node: usize) -> &'static str {
+    match node {
+        0 => ", penwidth=2",
+        1 => ", peripheries=2",
+        _ => "",
+    }
+}
+
+/// The node's number, and a line for each abstract memory there.
+fn node_label(node: usize, notation: &Notation, sheet: &[u8]) -> String {
+    let records = sheet.chunks(2 + notation.names()).filter(|record| usize::from(u16::from_be_bytes([record[0], record[1]])) == node);
+    let lines: Vec<String> = records.map(|record| notation.signs(&record[2..])).collect();
+    let mut label = node.to_string();
+    for line in lines.iter().take(SHOWN) {
+        label += &format!("\\n{line}");
+    }
+    if lines.len() > SHOWN {
+        label += &format!("\\nand {} more", lines.len() - SHOWN);
+    }
+    label
+}
+
+#[cfg(test)]
+mod tests {
+    use super::*;
+
+    #[test]
+    fn the_factorial_has_its_arrows_and_signs() {
+        let text = picture(include_bytes!("../../../../../crates/sheet/stdin")).unwrap();
+        for line in [
+            "n0 -> n2 [label=\"0: v1:=1\"];",
+            "n2 -> n3 [label=\"1: v0>0\"];",
+            "n3 -> n4 [label=\"2: v1:=(v0*v1)\"];",
+            "n4 -> n2 [label=\"3: v0:=(v0-1)\"];",
+            "n2 -> n1 [label=\"4: !{v0>0}\"];",
+            "n2 [label=\"2\\n+ +\\n- +\\n0 +\"];",
+        ] {
+            assert!(text.contains(line), "{line}\n{text}");
+        }
+    }
+
+    #[test]
+    fn an_index_that_may_be_below_zero_is_red() {
+        let text = picture(include_bytes!("../../../../../crates/sheet_inputs/data/index-record-4.in")).unwrap();
+        assert!(text.contains("n4 -> n1 [label=\"4: v0:=A1[v0]\\nindex may be below 0 (record 4)\", color=red, fontcolor=red];"), "{text}");
+    }
+}
