@@ -148,6 +148,14 @@ pub fn cases(seed: u64, number: u64) -> Vec<Asked> {
     maker.asked
 }
 
+/// The most records that are looked through for one list of step calls, if it has more than four.
+const MOST_LOOKUPS: usize = 1000;
+
+/// The bytes of the file of a number.
+pub fn file_bytes(seed: u64, number: u64) -> Vec<u8> {
+    random_file(&mut random_state(seed, number)).file.bytes
+}
+
 struct Maker<'a> {
     number: u64,
     made: &'a Made,
@@ -203,15 +211,18 @@ impl Maker<'_> {
         let room = needs::sheet_room(r, made, &solved);
         self.ask(Operation::Solve, &made.file, &Ask::Solve(needs::any_start_list(r, made, list), room));
         self.ask(Operation::Split, &made.file, &Ask::Split(needs::places(r, made)));
-        self.ask_follow(r, list);
+        self.ask_follow(r, list, &solved);
     }
 
     /// The memory is one that the file's script takes, and its record is mostly in the start list.
-    fn ask_follow(&mut self, r: &mut Random, list: &[u8]) {
+    fn ask_follow(&mut self, r: &mut Random, list: &[u8], solved: &[u8]) {
         let made = self.made;
         let lesson = made.file.lesson().unwrap_or(made.source.fit());
         let memory = needs::memory(r, made, lesson);
-        let calls = needs::calls(r, made, &memory);
+        let mut calls = needs::calls(r, made, &memory);
+        // The program looks a configuration up after each call, and in a long sheet that takes long.
+        let records = solved.len() / made.source.fit().width(List::Sheet);
+        calls.truncate((MOST_LOOKUPS / records.max(1)).clamp(4, 20));
         let mut list = list.to_vec();
         if !r.chance(6) {
             list.extend(record_of(lesson, &memory));
@@ -227,5 +238,9 @@ fn listing_answer(text: &str) -> String {
         return format!("refused {}", rest.split(' ').next().unwrap());
     }
     let is_clean = text.ends_with("index clean\n");
-    if is_clean { "listing, index clean".to_string() } else { "listing, index record".to_string() }
+    if is_clean {
+        "listing, index clean".to_string()
+    } else {
+        "listing, index record".to_string()
+    }
 }

@@ -16,7 +16,7 @@ use progress::Progress;
 use std::path::{Path, PathBuf};
 use std::sync::atomic::{AtomicBool, AtomicU64, Ordering};
 use std::sync::mpsc;
-use std::{fs, io, thread};
+use std::{env, fs, io, thread};
 
 /// What is to be run.
 pub struct Plan {
@@ -142,7 +142,7 @@ impl Worker<'_> {
         while !cases.is_empty() && differing.len() < MOST_DIFFERENCES as usize {
             let container: Vec<u8> = cases.iter().flat_map(|case| case.bytes.iter().copied()).collect();
             let printed = self.engine.answer(program, &container, &self.scratch)?;
-            let found = compare(&cases.iter().collect::<Vec<_>>(), &printed);
+            let found = compare(&cases, &printed);
             let left = cases.split_off(found.answered);
             differing.extend(take(cases, found.differences, &printed));
             cases = left;
@@ -190,10 +190,11 @@ fn tell(plan: &Plan, case: &Asked, got: &str, ended: &str) {
     println!("  again: oracle/run {} 1 {number}", plan.seed);
 }
 
-/// What the program was given, what is expected and what was printed, as files. A container or an input can be handed to the program again by itself.
+/// The file, what the program was given, what is expected and what was printed, each as a file. A container or an input can be handed to the program again by itself.
 fn save(plan: &Plan, case: &Asked, got: &str) -> io::Result<()> {
     let folder = plan.differences.join(format!("{}-{}-{:?}", plan.seed, case.number, case.operation));
     fs::create_dir_all(&folder)?;
+    fs::write(folder.join("file"), cases::file_bytes(plan.seed, case.number))?;
     fs::write(folder.join(case.operation.program().container()), &case.bytes)?;
     fs::write(folder.join("expected"), &case.expected)?;
     fs::write(folder.join("got"), got)
@@ -204,7 +205,10 @@ struct Scratch(PathBuf);
 
 impl Scratch {
     fn new() -> io::Result<Scratch> {
-        let folder = std::env::temp_dir().join(format!("oracle-{}", std::process::id()));
+        // In memory, where there is such a folder and nobody asks for another.
+        let memory = Path::new("/dev/shm");
+        let parent = if env::var_os("TMPDIR").is_none() && memory.is_dir() { memory.to_path_buf() } else { env::temp_dir() };
+        let folder = parent.join(format!("oracle-{}", std::process::id()));
         fs::create_dir_all(&folder)?;
         Ok(Scratch(folder))
     }

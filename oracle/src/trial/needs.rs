@@ -43,10 +43,9 @@ pub fn calls(r: &mut Random, made: &Made, memory: &[i32]) -> Vec<u16> {
     let file = if made.file.lesson().is_ok() { &made.file } else { &made.source };
     let length = r.below(MOST_CALLS);
     let mut calls = random_calls(r, file, memory, length);
-    // Where the memory doesn't fit, or nothing more can be taken, all calls are answered alike: a few are enough.
-    if made.file.lesson().is_err() || memory.len() != made.file.fit().cells {
-        calls.truncate(3);
-    }
+    // Where the file is refused or the memory doesn't fit, or once the run is at node 1, all calls are answered alike: a few are enough.
+    let takes = made.file.lesson().is_ok_and(|lesson| lesson.cells == memory.len());
+    calls.truncate(if takes { arrival(file, memory, &calls) + 2 } else { 3 });
     calls
 }
 
@@ -158,7 +157,7 @@ fn any_records(r: &mut Random, lesson: &Lesson) -> Vec<u8> {
 /// Bytes for the arrows: enough, exactly enough, a byte or an arrow short, or any. Question 13.
 pub fn arrow_room(r: &mut Random, made: &Made) -> u16 {
     let need = 7 * made.source.fit().graph.arrows.len();
-    let room = [need, need - 1, need - 7, need + 1, r.below(need), r.below(2000), 1785, 2000][r.below(8)];
+    let room = [need, need, need + 1, 1785, 1785, 2000, need - 1, need - 7, r.below(need), r.below(2001)][r.below(10)];
     room as u16
 }
 
