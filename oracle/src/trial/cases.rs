@@ -184,7 +184,7 @@ impl Maker<'_> {
 
     fn ask_listing(&mut self, input: Vec<u8>) {
         let expected = listing(&input);
-        let answers = vec![listing_answer(&expected)];
+        let answers = listing_answers(&expected);
         let title = String::new();
         self.asked.push(Asked { number: self.number, kind: self.made.kind, operation: Operation::Listing, title, bytes: input, expected, answers });
     }
@@ -232,15 +232,17 @@ impl Maker<'_> {
     }
 }
 
-/// What of a listing is counted: a refusal by its number, or which index line it has.
-fn listing_answer(text: &str) -> String {
+/// What of a listing is counted: a refusal by its number; or which index line it has, and whether it is long.
+fn listing_answers(text: &str) -> Vec<String> {
     if let Some(rest) = text.strip_prefix("refused ") {
-        return format!("refused {}", rest.split(' ').next().unwrap());
+        return vec![format!("refused {}", rest.split(' ').next().unwrap())];
     }
-    let is_clean = text.ends_with("index clean\n");
-    if is_clean {
-        "listing, index clean".to_string()
-    } else {
-        "listing, index record".to_string()
-    }
+    let index = if text.ends_with("index clean\n") { "index clean" } else { "index record" };
+    // The counts and the index line are two more.
+    let length = match text.lines().count() - 2 {
+        0..=99 => "short",
+        100..=999 => "of a hundred records or more",
+        _ => "of a thousand records or more",
+    };
+    vec![format!("listing, {index}"), format!("listing {length}")]
 }

@@ -9,6 +9,7 @@ pub enum Kind {
     SmallNumbers,
     Lesson,
     ArrayLesson,
+    LongSheet,
     Limits,
     EntryDamage,
     ByteDamage,
@@ -21,12 +22,13 @@ pub enum Kind {
     Noise,
 }
 
-/// How many of a thousand files are of each kind. Those at the limits are few: they take long.
-const SHARES: [(Kind, usize); 14] = [
+/// How many of a thousand files are of each kind. Those at the limits and those of long sheets are few: they take long.
+const SHARES: [(Kind, usize); 15] = [
     (Kind::Script, 170),
     (Kind::SmallNumbers, 170),
-    (Kind::Lesson, 170),
+    (Kind::Lesson, 165),
     (Kind::ArrayLesson, 120),
+    (Kind::LongSheet, 5),
     (Kind::Limits, 5),
     (Kind::EntryDamage, 100),
     (Kind::ByteDamage, 85),
@@ -50,6 +52,7 @@ impl Kind {
             Kind::SmallNumbers => "the same with small numbers",
             Kind::Lesson => "lesson of counted loops and ifs",
             Kind::ArrayLesson => "array lesson: sorting, searching, summing",
+            Kind::LongSheet => "assignments of any sign: long sheets",
             Kind::Limits => "at the limits, and one past them",
             Kind::EntryDamage => "entries or names damaged",
             Kind::ByteDamage => "bytes damaged",
@@ -87,7 +90,7 @@ pub struct Made {
 pub fn random_file(r: &mut Random) -> Made {
     let kind = Kind::random(r);
     let base = match kind {
-        Kind::Script | Kind::SmallNumbers | Kind::Lesson | Kind::ArrayLesson => kind,
+        Kind::Script | Kind::SmallNumbers | Kind::Lesson | Kind::ArrayLesson | Kind::LongSheet => kind,
         Kind::Limits => return limits(r),
         _ => [Kind::Script, Kind::SmallNumbers, Kind::Lesson, Kind::ArrayLesson][r.below(4)],
     };
@@ -109,8 +112,26 @@ fn fit_script(r: &mut Random, kind: Kind) -> Script {
                 break script;
             }
         },
+        Kind::LongSheet => many_signs(r),
         _ => random_array_script(r),
     }
+}
+
+/// Assignments that give any sign to one name after another: each makes the records of a node up to three times those of the node before.
+fn many_signs(r: &mut Random) -> Script {
+    let count = 3 + r.below(6);
+    let others = if r.chance(2) { 0 } else { r.below(32 - count) };
+    let mut script = Script::new(&[vec![0; count + others], vec![1 + r.below(9) as u16]].concat());
+    let array = (count + others) as u16;
+    let mut commands = Vec::new();
+    for name in 0..count as u16 {
+        let index = if r.chance(6) { script.variable(name) } else { script.number(r.below(2) as i32) };
+        let (element, other) = (script.element(array, index), script.variable(name));
+        let value = if r.chance(2) { script.operator(3 + r.below(3) as u8, element, other) } else { script.operator(5, other, element) };
+        commands.push(script.assign(name, value));
+    }
+    commands.into_iter().reduce(|before, command| script.then(before, command));
+    script
 }
 
 /// Scripts of any size, most of them small; and mostly of few names, so that their sheets are not too long.
@@ -132,7 +153,8 @@ fn sized(r: &mut Random, maker: fn(&mut Random, usize) -> Script) -> Script {
 /// The largest tables, graphs, memories and lists of names, and those that are one too large.
 fn limits(r: &mut Random) -> Made {
     let more = usize::from(r.chance(3));
-    let script = match r.below(8) {
+    let script = match r.below(10) {
+        8 | 9 => random_script(r, 300),
         0 => exact(&full_names(), 512, 256, 256),
         1 => loops(127 - r.below(2)),
         2 => sequence(128 - r.below(2), r.below(3) as u8),
