@@ -18,14 +18,8 @@ fn value(expression: &str) -> Result<i32, Reason> {
     stepped("x", &format!("x := {expression}"), &[5]).map(|(_, memory)| memory[0])
 }
 
-fn skip_over(names: &[u16]) -> Vec<u8> {
-    let mut s = Script::new(names);
-    s.skip();
-    s.bytes()
-}
-
-fn asked(file: &[u8]) -> String {
-    read(file, 4).map_or_else(refused, |_| "fit".to_string())
+fn asked(script: &Script) -> String {
+    read(&script.bytes(), 4).map_or_else(refused, |_| "fit".to_string())
 }
 
 #[test]

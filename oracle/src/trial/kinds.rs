@@ -154,7 +154,6 @@ fn sized(r: &mut Random, maker: fn(&mut Random, usize) -> Script) -> Script {
 fn limits(r: &mut Random) -> Made {
     let more = usize::from(r.chance(3));
     let script = match r.below(10) {
-        8 | 9 => random_script(r, 300),
         0 => exact(&full_names(), 512, 256, 256),
         1 => loops(127 - r.below(2)),
         2 => sequence(128 - r.below(2), r.below(3) as u8),
@@ -162,7 +161,8 @@ fn limits(r: &mut Random) -> Made {
         4 => exact(&[0, 9], r.below(512), 256 + more, 255),
         5 => exact(&[0, 64], 0, 2, 256 + more * 2),
         6 => many_names(r, 32 + more),
-        _ => many_cells(r, more),
+        7 => many_cells(r, more),
+        _ => random_script(r, 300),
     };
     let bytes = script.bytes();
     // A script that is too large still needs a memory and lists: those of a small one.
