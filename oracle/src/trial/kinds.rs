@@ -49,7 +49,7 @@ impl Kind {
     pub fn name(self) -> &'static str {
         match self {
             Kind::Script => "fit script, entries at random",
-            Kind::SmallNumbers => "the same with small numbers",
+            Kind::SmallNumbers => "fit script of mostly small numbers",
             Kind::Lesson => "lesson of counted loops and ifs",
             Kind::ArrayLesson => "array lesson: sorting, searching, summing",
             Kind::LongSheet => "assignments of any sign: long sheets",
