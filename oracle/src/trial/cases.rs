@@ -229,7 +229,20 @@ impl Maker<'_> {
         }
         let list = needs::any_start_list(r, made, &list);
         self.ask(Operation::Follow, &made.file, &Ask::Follow(list, memory, calls));
+        let asked = self.asked.last().unwrap();
+        assert!(third_term_holds(&asked.expected), "the third term, file {}: {}", self.number, asked.expected);
     }
+}
+
+/// What must hold of any answer to mode 5: where the solver's sheet has the memory's record at node 0 it has every later configuration, and where its mark is clean no call is undefined for 34.
+fn third_term_holds(expected: &str) -> bool {
+    let mut parts = expected.trim_end().split("; ");
+    let is_finished = parts.next().is_some_and(|first| first.contains(": finished with "));
+    if !is_finished || parts.next() != Some("has") {
+        return true;
+    }
+    let is_clean = expected.ends_with("; index clean\n");
+    parts.all(|part| !part.ends_with(" has not") && !(is_clean && part.starts_with("undefined 34")))
 }
 
 /// What of a listing is counted: a refusal by its number; or which index line it has, and whether it is long.
