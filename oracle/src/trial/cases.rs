@@ -242,7 +242,7 @@ fn third_term_holds(expected: &str) -> bool {
         return true;
     }
     let is_clean = expected.ends_with("; index clean\n");
-    parts.all(|part| !part.ends_with(" has not") && !(is_clean && part.starts_with("undefined 34")))
+    !parts.any(|part| part.ends_with(" has not") || is_clean && part.starts_with("undefined 34"))
 }
 
 /// What of a listing is counted: a refusal by its number; or which index line it has, and whether it is long.
