@@ -6,6 +6,7 @@
 use super::runs::outcome;
 use super::{counted, mix, spaced, Case, Told, FILLED};
 use crate::language::*;
+use std::collections::HashSet;
 
 /// The most that the program has room for: bytes of a list or of the solver's buffer, of a chunk, of further numbers, of a file.
 pub const LIST: usize = 140_000;
@@ -207,11 +208,14 @@ pub fn solved(file: &Loaded, initial: &[u8]) -> (Result<(), Refusal>, Vec<u8>) {
     (answer, buffer)
 }
 
+/// The memory has as many cells as the script, where that is fit.
 fn tell_follow(file: &Loaded, initial: &[u8], memory: &[i32], calls: &[u16]) -> Told {
-    let lesson = file.fit();
     let (answer, sheet) = solved(file, initial);
-    let listed = lesson.listed(&sheet);
-    let has = |run: Run, memory: &[i32]| if listed.contains(&at_node(run.node, &record_of(lesson, memory))[..]) { "has" } else { "has not" };
+    let listed: HashSet<&[u8]> = sheet.chunks(width(file)).collect();
+    let has = |run: Run, memory: &[i32]| match file.lesson() {
+        Ok(lesson) if listed.contains(&at_node(run.node, &record_of(lesson, memory))[..]) => "has",
+        _ => "has not",
+    };
     let (mut run, mut memory) = (FRESH, memory.to_vec());
     let mut line = format!("{}; {}; ", told_solving(&answer, sheet.len() / width(file)), has(run, &memory));
     let mut answers = Vec::new();
@@ -220,7 +224,7 @@ fn tell_follow(file: &Loaded, initial: &[u8], memory: &[i32], calls: &[u16]) -> 
         line += &format!("{outcome} {}; ", has(run, &memory));
         answers.push(format!("{} {}", counted(&outcome), has(run, &memory)));
     }
-    let mark = told_mark(lesson.mark(&sheet));
-    answers.push(counted(&mark));
-    Told::plain(line + &mark, answers)
+    let mark = tell_mark(file, &sheet);
+    answers.extend(mark.answers);
+    Told::plain(line + &mark.line, answers)
 }

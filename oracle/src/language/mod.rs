@@ -19,3 +19,6 @@ pub use script::*;
 pub use sheet::*;
 pub use signs::*;
 pub use solver::*;
+
+#[cfg(test)]
+mod tests;

@@ -72,6 +72,13 @@ pub fn tour() -> Script {
     s
 }
 
+/// Skip alone, over some names.
+pub fn skip_over(names: &[u16]) -> Script {
+    let mut s = Script::new(names);
+    s.skip();
+    s
+}
+
 /// Loops in loops, `depth` of them about one skip.
 pub fn loops(depth: usize) -> Script {
     let mut s = Script::new(&[0]);

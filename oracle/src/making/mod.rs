@@ -1,5 +1,6 @@
 //! Makers of scripts, files, memories, step calls and records: by hand, from text, and from a seed.
 
+mod arrays;
 mod damage;
 mod known;
 mod lessons;
@@ -9,6 +10,7 @@ mod scripts;
 mod text;
 mod writing;
 
+pub use arrays::*;
 pub use damage::*;
 pub use known::*;
 pub use lessons::*;

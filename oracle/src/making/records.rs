@@ -55,7 +55,7 @@ pub fn random_following(r: &mut Random, k: usize) -> Following {
 }
 
 /// How many calls bring a run to node 1, if any do: nothing leaves it.
-fn arrival(file: &Loaded, memory: &[i32], calls: &[u16]) -> usize {
+pub fn arrival(file: &Loaded, memory: &[i32], calls: &[u16]) -> usize {
     let (mut run, mut memory) = (FRESH, memory.to_vec());
     for (k, &arrow) in calls.iter().enumerate() {
         if run.node == 1 {

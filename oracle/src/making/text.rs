@@ -10,7 +10,8 @@ struct Parser {
     script: Script,
 }
 
-fn tokens(text: &str) -> Vec<String> {
+/// The words and signs of a text.
+pub fn words(text: &str) -> Vec<String> {
     let chars: Vec<char> = text.chars().collect();
     let mut tokens = Vec::new();
     let mut i = 0;
@@ -205,18 +206,22 @@ impl Parser {
     }
 }
 
-pub fn script_of(names: &str, text: &str) -> Script {
+/// The script of a text, if that is one and fits the tables.
+pub fn read_text(names: &str, text: &str) -> Option<Script> {
     let (mut letters, mut sizes) = (Vec::new(), Vec::new());
     for name in names.split(' ') {
         let (letter, size) = name.split_at(1);
         letters.push(letter.to_string());
         sizes.push(size.parse().unwrap_or(0));
     }
-    let mut parser = Parser { tokens: tokens(text), at: 0, letters, script: Script::new(&sizes) };
-    let whole = parser.command();
-    assert!(whole.is_some() && parser.at == parser.tokens.len(), "{text}");
-    assert!(read(&parser.script.bytes(), 4).is_ok(), "{text}");
-    parser.script
+    let mut parser = Parser { tokens: words(text), at: 0, letters, script: Script::new(&sizes) };
+    parser.command()?;
+    let is_whole = parser.at == parser.tokens.len();
+    (is_whole && read(&parser.script.bytes(), 4).is_ok()).then_some(parser.script)
+}
+
+pub fn script_of(names: &str, text: &str) -> Script {
+    read_text(names, text).unwrap_or_else(|| panic!("{text}"))
 }
 
 pub fn file_of(names: &str, text: &str) -> Vec<u8> {

@@ -9,7 +9,6 @@ pub fn inputs(out: &mut Out) {
     let file = f.bytes();
     let end = file.len();
     let with = |list: &[u8]| [file.clone(), field(5, list)].concat();
-    let known = |out: &mut Out, title: &str, file: &[u8], expected: &str| out.known(title, file, &Mode::Input, expected);
     known(out, "empty", &[], "refused 1 at 0");
     known(out, "factorial, 4 2", &with(&[4, 2]), "fit");
     known(out, "factorial, no record", &with(&[]), "fit");
@@ -38,6 +37,16 @@ pub fn inputs(out: &mut Out) {
     known(out, "factorial, length 65535", &bytes, &format!("refused 3 at {end}"));
     bytes[end + 2] = 254;
     known(out, "factorial, length 65534", &bytes, &format!("refused 3 at {end}"));
+    inputs_by_names(out);
+    inputs_refused(out);
+}
+
+fn known(out: &mut Out, title: &str, file: &[u8], expected: &str) {
+    out.known(title, file, &Mode::Input, expected);
+}
+
+/// Whole records of one name to 32, and lists that are not.
+fn inputs_by_names(out: &mut Out) {
     for count in [1usize, 2, 3, 7, 32] {
         let mut s = Script::new(&vec![0; count]);
         s.skip();
@@ -61,7 +70,14 @@ pub fn inputs(out: &mut Out) {
             }
         }
     }
-    // Refusals of the script itself come in their order: 1 to 5 of all fields, then the entries.
+}
+
+/// Refusals of the script itself come in their order: 1 to 5 of all fields, then the entries.
+fn inputs_refused(out: &mut Out) {
+    let f = factorial();
+    let file = f.bytes();
+    let end = file.len();
+    let with = |list: &[u8]| [file.clone(), field(5, list)].concat();
     let mut s = f.clone();
     s.names[0] = 65;
     let bad = s.bytes();

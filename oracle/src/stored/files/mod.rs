@@ -1,7 +1,9 @@
 //! The cases of `program_files`.
 
+mod entries;
 mod graphs;
 mod inputs;
+mod limits;
 mod random;
 mod refusals;
 
@@ -13,13 +15,16 @@ use crate::making::*;
 use std::io;
 use std::path::Path;
 
+/// The tables in words.
+const TABLES: [&str; 3] = ["arithmetic", "boolean", "command"];
+
 pub fn store(folder: &Path) -> io::Result<()> {
     let mut out = Out::new();
     graphs::graphs(&mut out);
-    graphs::limits(&mut out);
+    limits::limits(&mut out);
     refusals::heads(&mut out);
     refusals::entries(&mut out);
-    refusals::rest(&mut out);
+    entries::rest(&mut out);
     graphs::rooms(&mut out);
     inputs::inputs(&mut out);
     random::neighbours(&mut out);

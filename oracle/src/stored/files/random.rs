@@ -30,11 +30,19 @@ pub fn neighbours(out: &mut Out) {
 }
 
 pub fn random(out: &mut Out) {
-    let mut r = Random(20_260_101_004);
+    let r = &mut Random(20_260_101_004);
+    fit(out, r);
+    entry_damage(out, r);
+    guarded_last(out, r);
+    byte_damage(out, r);
+    random_inputs(out, r);
+}
+
+fn fit(out: &mut Out, r: &mut Random) {
     out.group("random");
     for k in 0..240 {
         let size = [4, 10, 20, 30, 50, 80][k % 6];
-        let s = random_script(&mut r, if k < 234 { size } else { 300 });
+        let s = random_script(r, if k < 234 { size } else { 300 });
         let mode = if k < 12 { Mode::Edges } else { Mode::Sum(1785) };
         let bytes = s.bytes();
         out.put(&k.to_string(), &bytes, &mode);
@@ -42,26 +50,32 @@ pub fn random(out: &mut Out) {
             out.put(&format!("{k}, read"), &bytes, &Mode::Readings);
         }
     }
+}
+
+fn entry_damage(out: &mut Out, r: &mut Random) {
     out.group("entry damage");
     for k in 0..360 {
-        let mut s = random_script(&mut r, [3, 8, 16, 32][k % 4]);
+        let mut s = random_script(r, [3, 8, 16, 32][k % 4]);
         for _ in 0..1 + k % 3 {
-            damage_script(&mut r, &mut s);
+            damage_script(r, &mut s);
         }
         out.put(&k.to_string(), &s.bytes(), &Mode::Sum(1785));
     }
     out.group("other reference");
     for k in 0..120 {
-        let mut s = random_script(&mut r, [8, 16, 32][k % 3]);
+        let mut s = random_script(r, [8, 16, 32][k % 3]);
         for _ in 0..1 + k % 2 {
-            refer_elsewhere(&mut r, &mut s);
+            refer_elsewhere(r, &mut s);
         }
         out.put(&k.to_string(), &s.bytes(), &Mode::Sum(1785));
     }
-    // A script under one guard more, or two in a choice: well formed, but for its last entry.
+}
+
+/// A script under one guard more, or two in a choice: well formed, but for its last entry.
+fn guarded_last(out: &mut Out, r: &mut Random) {
     out.group("guarded last");
     for k in 0..40 {
-        let mut s = random_script(&mut r, [4, 8, 16, 32][k % 4]);
+        let mut s = random_script(r, [4, 8, 16, 32][k % 4]);
         let b = s.truth();
         let c = s.tables[2].len() as u16 - 1;
         let g = s.guard(b, c);
@@ -71,11 +85,14 @@ pub fn random(out: &mut Out) {
         }
         out.known(&k.to_string(), &s.bytes(), &Mode::Edges, &format!("refused 11 at {}", s.place(2, s.tables[2].len() - 1)));
     }
+}
+
+fn byte_damage(out: &mut Out, r: &mut Random) {
     out.group("byte damage");
     for k in 0..300 {
-        let mut bytes = random_script(&mut r, [3, 8, 16, 32][k % 4]).bytes();
+        let mut bytes = random_script(r, [3, 8, 16, 32][k % 4]).bytes();
         for _ in 0..1 + k % 3 {
-            damage_bytes(&mut r, &mut bytes);
+            damage_bytes(r, &mut bytes);
         }
         out.put(&k.to_string(), &bytes, &Mode::Sum(1785));
     }
@@ -91,17 +108,20 @@ pub fn random(out: &mut Out) {
         }
         out.put(&k.to_string(), &bytes, &Mode::Sum(1785));
     }
+}
+
+fn random_inputs(out: &mut Out, r: &mut Random) {
     out.group("random input");
     for k in 0..150 {
-        let mut s = random_script(&mut r, [3, 8, 16][k % 3]);
+        let mut s = random_script(r, [3, 8, 16][k % 3]);
         if k % 5 == 1 {
-            damage_script(&mut r, &mut s);
+            damage_script(r, &mut s);
         }
         let count = r.below(6) * s.names.len();
         let list: Vec<u8> = (0..count).map(|_| 1 + r.below(7) as u8).collect();
         let mut bytes = [s.bytes(), field(5, &list)].concat();
         if k % 5 > 1 {
-            damage_bytes(&mut r, &mut bytes);
+            damage_bytes(r, &mut bytes);
         }
         out.put(&k.to_string(), &bytes, &Mode::Input);
     }

@@ -1,5 +1,6 @@
 //! The cases of `semantics_runs`.
 
+mod budgets;
 mod random;
 mod reasons;
 mod refusals;
@@ -29,8 +30,10 @@ pub fn store(folder: &Path) -> io::Result<()> {
     refusals::refusals(&mut out);
     refusals::memories(&mut out);
     refusals::nodes(&mut out);
+    refusals::arrows(&mut out);
+    refusals::firsts(&mut out);
     refusals::counted(&mut out);
-    refusals::budgets(&mut out);
+    budgets::budgets(&mut out);
     random::limits(&mut out);
     random::random(&mut out);
     out.write(folder, "runs.bin")

@@ -1,4 +1,4 @@
-//! Refusals, counts and budgets.
+//! Refusals, and counts.
 
 use super::*;
 
@@ -71,11 +71,15 @@ pub fn memories(out: &mut Out) {
     }
 }
 
-/// Questions 14 and 15, and which of two comes first.
+/// Step calls from a run at a node, with 7 arrows taken.
+fn from(node: u16, calls: &[u16]) -> Ask {
+    Ask::Calls(Run { node, count: 7 }, calls.to_vec())
+}
+
+/// Question 14.
 pub fn nodes(out: &mut Out) {
     let file = factorial().bytes();
     let memory = [3, 5];
-    let from = |node: u16, calls: &[u16]| Ask::Calls(Run { node, count: 7 }, calls.to_vec());
     out.group("node");
     for node in [5, 6, 255, 256, 32768, 65535] {
         for edge in [0, 4, 5, 65535] {
@@ -92,6 +96,11 @@ pub fn nodes(out: &mut Out) {
     for (node, expected) in [(128, "refused 15 at 0"), (129, "refused 14 at 0")] {
         out.known(&format!("{node} of 129"), &longest, &on(&[9], &from(node, &[128])), &format!("{expected}; node {node} count 7 memory 9"));
     }
+}
+
+/// Question 15.
+pub fn arrows(out: &mut Out) {
+    let (file, memory) = (factorial().bytes(), [3, 5]);
     out.group("arrow");
     let leaves = [0, 2, 3, 4, 2];
     for node in [0, 2, 3, 4] {
@@ -108,6 +117,11 @@ pub fn nodes(out: &mut Out) {
     let most = loops(127).bytes();
     out.known("254 of 255", &most, &on(&[9], &from(0, &[254])), "undefined 31; node 0 count 7 memory 9");
     out.known("255 of 255", &most, &on(&[9], &from(0, &[255])), "refused 15 at 0; node 0 count 7 memory 9");
+}
+
+/// Which of several questions comes first.
+pub fn firsts(out: &mut Out) {
+    let file = factorial().bytes();
     out.group("first");
     let damaged = |file: &[u8]| [file, &[0]].concat();
     let end = file.len();
@@ -155,92 +169,4 @@ pub fn counted(out: &mut Out) {
     out.known("512 calls", &file, &on(&[0], &steps(&calls)), &format!("{}node 0 count 512 memory 256", "taken; ".repeat(CALLS)));
     let last = Ask::Calls(Run { node: 0, count: 65530 }, calls[..12].to_vec());
     out.known("past 65535", &file, &on(&[0], &last), &format!("{}node 0 count 65535 memory 6", "taken; ".repeat(12)));
-}
-
-pub fn budgets(out: &mut Out) {
-    out.group("budget");
-    let known = |out: &mut Out, names: &str, text: &str, memory: &[i32], cases: &[(u16, &str)]| {
-        let file = file_of(names, text);
-        for &(budget, expected) in cases {
-            out.known(&format!("{budget}, {text},{}", spaced(memory)), &file, &on(memory, &Ask::Budget(budget)), expected);
-        }
-    };
-    let arrived = "answer 0; node 1 count 11 memory 0 6";
-    known(
-        out,
-        "x y",
-        "y := 1; do x > 0 -> y := x * y; x := x - 1 od",
-        &[3, 0],
-        &[
-            (0, "answer 1; node 0 count 0 memory 3 0"),
-            (1, "answer 1; node 2 count 1 memory 3 1"),
-            (2, "answer 1; node 3 count 2 memory 3 1"),
-            (9, "answer 1; node 4 count 9 memory 1 6"),
-            (10, "answer 1; node 2 count 10 memory 0 6"),
-            (11, arrived),
-            (12, arrived),
-            (65535, arrived),
-        ],
-    );
-    // 13 factorial is out of range, 12 factorial is not: the run stops at the product.
-    known(
-        out,
-        "x y",
-        "y := 1; do x > 0 -> y := x * y; x := x - 1 od",
-        &[12, 0],
-        &[(37, "answer 1; node 2 count 37 memory 0 479001600"), (38, "answer 0; node 1 count 38 memory 0 479001600")],
-    );
-    known(out, "x y", "y := 1; do x > 0 -> y := x * y; x := x - 1 od", &[13, 0], &[(65535, "answer 2; node 3 count 32 memory 3 1037836800")]);
-    known(
-        out,
-        "x",
-        "skip",
-        &[4],
-        &[(0, "answer 1; node 0 count 0 memory 4"), (1, "answer 0; node 1 count 1 memory 4"), (2, "answer 0; node 1 count 1 memory 4")],
-    );
-    // 0 before 1, and 1 before 2.
-    known(out, "x", "x := 1; x := 2", &[4], &[(1, "answer 1; node 2 count 1 memory 1"), (2, "answer 0; node 1 count 2 memory 2")]);
-    let stuck = "answer 2; node 0 count 0 memory 0";
-    known(out, "x", "if x > 0 -> skip fi", &[0], &[(0, "answer 1; node 0 count 0 memory 0"), (1, stuck), (65535, stuck)]);
-    known(
-        out,
-        "x",
-        "x := 1; x := 1 / 0",
-        &[4],
-        &[(0, "answer 1; node 0 count 0 memory 4"), (1, "answer 1; node 2 count 1 memory 1"), (2, "answer 2; node 2 count 1 memory 1")],
-    );
-    // Two steps a round and one for the exit: 32,767 rounds are 65,535 steps.
-    let down = "do x > 0 -> x := x - 1 od";
-    known(
-        out,
-        "x",
-        down,
-        &[32767],
-        &[
-            (65535, "answer 0; node 1 count 65535 memory 0"),
-            (65534, "answer 1; node 0 count 65534 memory 0"),
-            (65533, "answer 1; node 2 count 65533 memory 1"),
-            (0, "answer 1; node 0 count 0 memory 32767"),
-        ],
-    );
-    known(out, "x", down, &[32768], &[(65535, "answer 1; node 2 count 65535 memory 1")]);
-    known(out, "x", down, &[32766], &[(65535, "answer 0; node 1 count 65533 memory 0")]);
-    known(
-        out,
-        "x",
-        "do true -> skip od",
-        &[5],
-        &[(65535, "answer 1; node 2 count 65535 memory 5"), (65534, "answer 1; node 0 count 65534 memory 5"), (256, "answer 1; node 0 count 256 memory 5")],
-    );
-    known(
-        out,
-        "x A64",
-        "do true -> A[x] := A[x] + 1; x := x + 1; if x = 64 -> x := 0 [] !x = 64 -> skip fi od",
-        &[0; 65],
-        &[(65535, "answer 1; node 0 count 65535 memory")],
-    );
-    // The divisor is zero in the end: after 65,533 steps, or where the budget is used up.
-    let stuck = "do x >= 0 -> x := (x - 1) / (x / x) od";
-    known(out, "x", stuck, &[32766], &[(65535, "answer 2; node 2 count 65533 memory 0"), (65533, "answer 1; node 2 count 65533 memory 0")]);
-    known(out, "x", stuck, &[32767], &[(65535, "answer 1; node 2 count 65535 memory 0")]);
 }

@@ -15,6 +15,20 @@ pub fn worked(out: &mut Out) {
     assigns(out, "z x i A4", "z := x + A[i]", &[0, 12, 2, 2, 3, 7, 5], Ok(19));
     tests(out, "j A3", "(j > 0) and (A[j - 1] > A[j])", &[0, 2, 3, 7], Err(34));
     tests(out, "j A3", "(j > 0) && (A[j - 1] > A[j])", &[0, 2, 3, 7], Ok(false));
+    factorial_steps(out);
+    let file = file_of("x", "if x > 0 -> skip fi");
+    out.known("if x > 0 -> skip fi, budget 1", &file, &on(&[0], &Ask::Budget(1)), "answer 2; node 0 count 0 memory 0");
+    ends(out);
+    // The near misses: a loop is left where all guards are false, and ∧ hides nothing.
+    let both = "do x > 0 -> skip [] y > 0 -> skip od";
+    one_step(out, "x y", both, &[1, 0], 4, Err(31));
+    one_step(out, "x y", both, &[0, 1], 4, Err(31));
+    one_step(out, "x y", both, &[0, 0], 4, Ok((1, &[0, 0])));
+    tests(out, "x A1", "x > 0 and A[x - 1] > 0", &[0, 5], Err(34));
+}
+
+/// The factorial lesson's run from x 3, y 0, as a whole and step by step.
+fn factorial_steps(out: &mut Out) {
     let file = factorial().bytes();
     assert_eq!(file, file_of("x y", "y := 1; do x > 0 -> y := x * y; x := x - 1 od"));
     out.known("factorial", &file, &on(&[3, 0], &Ask::Budget(11)), "answer 0; node 1 count 11 memory 0 6");
@@ -39,13 +53,11 @@ pub fn worked(out: &mut Out) {
         let expected = format!("{taken}node {node} count {count} memory{}", spaced(&memory));
         out.known(&format!("factorial, {count} steps"), &file, &on(&[3, 0], &steps(&calls)), &expected);
     }
-    let file = file_of("x", "if x > 0 -> skip fi");
-    out.known("if x > 0 -> skip fi, budget 1", &file, &on(&[0], &Ask::Budget(1)), "answer 2; node 0 count 0 memory 0");
-    let skip = |names: &[u16]| {
-        let mut s = Script::new(names);
-        s.skip();
-        s.bytes()
-    };
+}
+
+/// Names, sizes and cells at their ends.
+fn ends(out: &mut Out) {
+    let skip = |names: &[u16]| skip_over(names).bytes();
     for ask in [Ask::Budget(1), steps(&[0])] {
         let is_run = matches!(ask, Ask::Budget(_));
         let yes = if is_run { "answer 0; node 1 count 1 memory" } else { "taken; node 1 count 1 memory" };
@@ -56,107 +68,103 @@ pub fn worked(out: &mut Out) {
         out.known("512 cells", &skip(&[64; 8]), &on(&[7; 512], &ask), yes);
         out.known("513 cells", &skip(&[64, 64, 64, 64, 64, 64, 64, 64, 0]), &on(&[7; 513], &ask), "refused 6 at 19; node 0 count 0 memory");
     }
-    // The near misses: a loop is left where all guards are false, and ∧ hides nothing.
-    let both = "do x > 0 -> skip [] y > 0 -> skip od";
-    one_step(out, "x y", both, &[1, 0], 4, Err(31));
-    one_step(out, "x y", both, &[0, 1], 4, Err(31));
-    one_step(out, "x y", both, &[0, 0], 4, Ok((1, &[0, 0])));
-    tests(out, "x A1", "x > 0 and A[x - 1] > 0", &[0, 5], Err(34));
 }
+
+/// Operators with their two sides, and their values.
+const VALUES: &[(&str, i32, i32, Result<i32, Reason>)] = &[
+    ("+", 2, 3, Ok(5)),
+    ("+", MAX, 0, Ok(MAX)),
+    ("+", MAX - 1, 1, Ok(MAX)),
+    ("+", MAX, 1, Err(36)),
+    ("+", 1, MAX, Err(36)),
+    ("+", MAX, MAX, Err(36)),
+    ("+", MIN + 1, -1, Ok(MIN)),
+    ("+", MIN, -1, Err(36)),
+    ("+", MIN, MIN, Err(36)),
+    ("+", MIN, MAX, Ok(-1)),
+    ("-", 2, 3, Ok(-1)),
+    ("-", 3, 2, Ok(1)),
+    ("-", MIN + 1, 1, Ok(MIN)),
+    ("-", MIN, 1, Err(36)),
+    ("-", MAX - 1, -1, Ok(MAX)),
+    ("-", MAX, -1, Err(36)),
+    ("-", 0, MIN, Err(36)),
+    ("-", -1, MIN, Ok(MAX)),
+    ("-", MIN, MIN, Ok(0)),
+    ("-", MAX, MIN, Err(36)),
+    ("*", 6, -7, Ok(-42)),
+    ("*", 46340, 46340, Ok(2147395600)),
+    ("*", 46341, 46341, Err(36)),
+    ("*", 65536, 32767, Ok(2147418112)),
+    ("*", 65536, 32768, Err(36)),
+    ("*", -65536, 32768, Ok(MIN)),
+    ("*", 65536, -32769, Err(36)),
+    ("*", 65536, 65536, Err(36)),
+    ("*", MIN, 1, Ok(MIN)),
+    ("*", MIN, -1, Err(36)),
+    ("*", MIN, MIN, Err(36)),
+    ("*", MAX, -1, Ok(-MAX)),
+    ("*", MIN, 0, Ok(0)),
+    ("/", -7, 2, Ok(-3)),
+    ("/", 7, -2, Ok(-3)),
+    ("/", -7, -2, Ok(3)),
+    ("/", 7, 2, Ok(3)),
+    ("/", 1, 2, Ok(0)),
+    ("/", -1, 2, Ok(0)),
+    ("/", MIN, -1, Err(36)),
+    ("/", MIN, 1, Ok(MIN)),
+    ("/", MIN, 2, Ok(-1073741824)),
+    ("/", MIN + 1, -1, Ok(MAX)),
+    ("/", MAX, -1, Ok(-MAX)),
+    ("/", MIN, MIN, Ok(1)),
+    ("/", MAX, MIN, Ok(0)),
+    ("/", 1, 0, Err(32)),
+    ("/", 0, 0, Err(32)),
+    ("/", MIN, 0, Err(32)),
+    ("/", 0, -5, Ok(0)),
+    ("^", 0, 0, Ok(1)),
+    ("^", 5, 0, Ok(1)),
+    ("^", MIN, 0, Ok(1)),
+    ("^", MIN, 1, Ok(MIN)),
+    ("^", MAX, 1, Ok(MAX)),
+    ("^", MAX, 2, Err(36)),
+    ("^", MIN, 2, Err(36)),
+    ("^", 0, 1, Ok(0)),
+    ("^", 0, MAX, Ok(0)),
+    ("^", 1, MAX, Ok(1)),
+    ("^", -1, MAX, Ok(-1)),
+    ("^", -1, MAX - 1, Ok(1)),
+    ("^", 2, 30, Ok(1073741824)),
+    ("^", 2, 31, Err(36)),
+    ("^", 2, 32, Err(36)),
+    ("^", 2, 63, Err(36)),
+    ("^", 2, 64, Err(36)),
+    ("^", 2, MAX, Err(36)),
+    ("^", -2, 31, Ok(MIN)),
+    ("^", -2, 30, Ok(1073741824)),
+    ("^", -2, 32, Err(36)),
+    ("^", -2, 33, Err(36)),
+    ("^", -2, 64, Err(36)),
+    ("^", 3, 19, Ok(1162261467)),
+    ("^", 3, 20, Err(36)),
+    ("^", -3, 19, Ok(-1162261467)),
+    ("^", -3, 21, Err(36)),
+    ("^", 46340, 2, Ok(2147395600)),
+    ("^", -46341, 2, Err(36)),
+    ("^", 1290, 3, Ok(2146689000)),
+    ("^", -1291, 3, Err(36)),
+    // 65536 to the power 4 is 0 in 64 bits.
+    ("^", 65536, 4, Err(36)),
+    ("^", 10, -1, Err(33)),
+    ("^", 1, -1, Err(33)),
+    ("^", 0, -1, Err(33)),
+    ("^", MAX, MIN, Err(33)),
+];
 
 /// Operators at their boundaries: of two variables, and of two numbers written in the script.
 pub fn values(out: &mut Out) {
     out.group("value");
-    let table: &[(&str, i32, i32, Result<i32, Reason>)] = &[
-        ("+", 2, 3, Ok(5)),
-        ("+", MAX, 0, Ok(MAX)),
-        ("+", MAX - 1, 1, Ok(MAX)),
-        ("+", MAX, 1, Err(36)),
-        ("+", 1, MAX, Err(36)),
-        ("+", MAX, MAX, Err(36)),
-        ("+", MIN + 1, -1, Ok(MIN)),
-        ("+", MIN, -1, Err(36)),
-        ("+", MIN, MIN, Err(36)),
-        ("+", MIN, MAX, Ok(-1)),
-        ("-", 2, 3, Ok(-1)),
-        ("-", 3, 2, Ok(1)),
-        ("-", MIN + 1, 1, Ok(MIN)),
-        ("-", MIN, 1, Err(36)),
-        ("-", MAX - 1, -1, Ok(MAX)),
-        ("-", MAX, -1, Err(36)),
-        ("-", 0, MIN, Err(36)),
-        ("-", -1, MIN, Ok(MAX)),
-        ("-", MIN, MIN, Ok(0)),
-        ("-", MAX, MIN, Err(36)),
-        ("*", 6, -7, Ok(-42)),
-        ("*", 46340, 46340, Ok(2147395600)),
-        ("*", 46341, 46341, Err(36)),
-        ("*", 65536, 32767, Ok(2147418112)),
-        ("*", 65536, 32768, Err(36)),
-        ("*", -65536, 32768, Ok(MIN)),
-        ("*", 65536, -32769, Err(36)),
-        ("*", 65536, 65536, Err(36)),
-        ("*", MIN, 1, Ok(MIN)),
-        ("*", MIN, -1, Err(36)),
-        ("*", MIN, MIN, Err(36)),
-        ("*", MAX, -1, Ok(-MAX)),
-        ("*", MIN, 0, Ok(0)),
-        ("/", -7, 2, Ok(-3)),
-        ("/", 7, -2, Ok(-3)),
-        ("/", -7, -2, Ok(3)),
-        ("/", 7, 2, Ok(3)),
-        ("/", 1, 2, Ok(0)),
-        ("/", -1, 2, Ok(0)),
-        ("/", MIN, -1, Err(36)),
-        ("/", MIN, 1, Ok(MIN)),
-        ("/", MIN, 2, Ok(-1073741824)),
-        ("/", MIN + 1, -1, Ok(MAX)),
-        ("/", MAX, -1, Ok(-MAX)),
-        ("/", MIN, MIN, Ok(1)),
-        ("/", MAX, MIN, Ok(0)),
-        ("/", 1, 0, Err(32)),
-        ("/", 0, 0, Err(32)),
-        ("/", MIN, 0, Err(32)),
-        ("/", 0, -5, Ok(0)),
-        ("^", 0, 0, Ok(1)),
-        ("^", 5, 0, Ok(1)),
-        ("^", MIN, 0, Ok(1)),
-        ("^", MIN, 1, Ok(MIN)),
-        ("^", MAX, 1, Ok(MAX)),
-        ("^", MAX, 2, Err(36)),
-        ("^", MIN, 2, Err(36)),
-        ("^", 0, 1, Ok(0)),
-        ("^", 0, MAX, Ok(0)),
-        ("^", 1, MAX, Ok(1)),
-        ("^", -1, MAX, Ok(-1)),
-        ("^", -1, MAX - 1, Ok(1)),
-        ("^", 2, 30, Ok(1073741824)),
-        ("^", 2, 31, Err(36)),
-        ("^", 2, 32, Err(36)),
-        ("^", 2, 63, Err(36)),
-        ("^", 2, 64, Err(36)),
-        ("^", 2, MAX, Err(36)),
-        ("^", -2, 31, Ok(MIN)),
-        ("^", -2, 30, Ok(1073741824)),
-        ("^", -2, 32, Err(36)),
-        ("^", -2, 33, Err(36)),
-        ("^", -2, 64, Err(36)),
-        ("^", 3, 19, Ok(1162261467)),
-        ("^", 3, 20, Err(36)),
-        ("^", -3, 19, Ok(-1162261467)),
-        ("^", -3, 21, Err(36)),
-        ("^", 46340, 2, Ok(2147395600)),
-        ("^", -46341, 2, Err(36)),
-        ("^", 1290, 3, Ok(2146689000)),
-        ("^", -1291, 3, Err(36)),
-        // 65536 to the power 4 is 0 in 64 bits.
-        ("^", 65536, 4, Err(36)),
-        ("^", 10, -1, Err(33)),
-        ("^", 1, -1, Err(33)),
-        ("^", 0, -1, Err(33)),
-        ("^", MAX, MIN, Err(33)),
-    ];
-    for &(operator, left, right, expected) in table {
+    for &(operator, left, right, expected) in VALUES {
         assigns(out, "x y z", &format!("x := y {operator} z"), &[9, left, right], expected);
         assigns(out, "x", &format!("x := {left} {operator} {right}"), &[9], expected);
     }

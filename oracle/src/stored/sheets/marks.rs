@@ -2,70 +2,74 @@
 
 use super::*;
 
+/// The first arrow of the first record.
+const FIRST: Mark = Some((0, 0));
+
+/// Names, script, sheet and its mark.
+const MARKS: &[(&str, &str, &str, Mark)] = &[
+    ("x A4", "x := A[x]", "0 1 7", FIRST),
+    ("x A4", "x := A[x]", "0 2 7", CLEAN),
+    ("x A4", "x := A[x]", "0 4 7", CLEAN),
+    ("x A4", "x := A[-1]", "0 4 4", FIRST),
+    ("x A4", "x := A[0]", "0 1 1", CLEAN),
+    ("x A4", "x := A[2147483647]", "0 1 1", CLEAN),
+    ("x A4", "x := A[x - 1]", "0 4 7", FIRST),
+    ("x A4", "x := A[x + 1]", "0 2 7", CLEAN),
+    ("x A4", "x := A[x * x]", "0 1 7", CLEAN),
+    ("x A4", "x := A[x / 2]", "0 1 7", FIRST),
+    ("x A4", "x := 1 + (2 - (3 * A[x]))", "0 1 7", FIRST),
+    ("x A4", "x := A[x] / 0", "0 1 7", FIRST),
+    // A node's records alone, and those of its arrows alone; nothing leaves node 1.
+    ("x A4", "x := A[x]", "1 1 7; 1 1 1", CLEAN),
+    ("x A4", "x := A[x]; skip", "2 1 7", CLEAN),
+    ("x A4", "x := A[x]; skip", "2 1 7; 0 4 7; 0 1 7; 0 1 7", Some((2, 0))),
+    ("x A4", "skip; x := A[x]", "0 1 7; 2 4 7; 2 1 7", Some((2, 1))),
+    // An index in an index, from within and from without.
+    ("x A4 B4", "x := A[B[x]]", "0 1 4 4", FIRST),
+    ("x A4 B4", "x := A[B[x]]", "0 4 4 5", FIRST),
+    ("x A4 B4", "x := A[B[x]]", "0 4 5 4", CLEAN),
+    ("x A4 B4", "x := A[B[x] * 0]", "0 1 4 4", FIRST),
+    ("x A4 B4", "x := A[B[0] * B[0]]", "0 1 4 5", FIRST),
+    ("x A4 B4", "x := A[B[0] * B[0]]", "0 1 4 1", CLEAN),
+    // Stores: the index, the value, an index in either, and no value.
+    ("x A4 B4", "A[x] := 1", "0 1 7 7", FIRST),
+    ("x A4 B4", "A[x] := 1", "0 2 7 7", CLEAN),
+    ("x A4 B4", "A[0] := B[x]", "0 1 7 7", FIRST),
+    ("x A4 B4", "A[0] := B[x]", "0 4 7 7", CLEAN),
+    ("x A4 B4", "A[B[x]] := 1", "0 1 7 4", FIRST),
+    ("x A4 B4", "A[B[x]] := 1", "0 4 7 1", FIRST),
+    ("x A4 B4", "A[B[x]] := 1", "0 4 1 4", CLEAN),
+    ("x A4 B4", "A[0] := 1 / 0 + B[x]", "0 1 7 7", FIRST),
+    ("x A4 B4", "A[0] := x", "0 1 1 1", CLEAN),
+    // Guards: every side of every condition, whether it matters or not.
+    ("x A4", "if A[x] > 0 -> skip fi", "0 1 7", FIRST),
+    ("x A4", "if 0 > A[x] -> skip fi", "0 1 7", FIRST),
+    ("x A4", "if !A[x] = 0 -> skip fi", "0 1 7", FIRST),
+    ("x A4", "if true and A[x] = 0 -> skip fi", "0 1 7", FIRST),
+    ("x A4", "if A[x] = 0 and true -> skip fi", "0 1 7", FIRST),
+    ("x A4", "if x >= 0 && A[x] > 0 -> skip fi", "0 1 7", FIRST),
+    ("x A4", "if A[x] > 0 && x >= 0 -> skip fi", "0 1 7", FIRST),
+    ("x A4", "if x > 0 && A[x - 1] > A[x] -> skip fi", "0 2 7", FIRST),
+    ("x A4", "if x > 0 && A[x - 1] > A[x] -> skip fi", "2 2 7; 2 4 1", CLEAN),
+    // The lowest record, then its lowest arrow.
+    ("x y A4", "if A[x] > 0 -> skip [] A[y] > 0 -> skip fi", "0 1 1 7", FIRST),
+    ("x y A4", "if A[x] > 0 -> skip [] A[y] > 0 -> skip fi", "0 1 4 7", FIRST),
+    ("x y A4", "if A[x] > 0 -> skip [] A[y] > 0 -> skip fi", "0 4 1 7", Some((0, 2))),
+    ("x y A4", "if A[x] > 0 -> skip [] A[y] > 0 -> skip fi", "0 4 4 7; 0 4 1 7; 0 1 1 7", Some((1, 2))),
+    ("x y A4", "if A[x] > 0 -> skip [] A[y] > 0 -> skip fi", "2 1 1 7; 3 1 1 7; 0 4 2 7", CLEAN),
+    ("x y A4", "if true -> x := A[x] [] true -> y := A[y] fi", "3 1 4 7; 2 4 1 7; 3 4 1 7; 2 1 4 7", Some((2, 3))),
+    ("x y A4", "if true -> x := A[x] [] true -> y := A[y] fi", "2 4 1 7; 2 1 4 7", Some((1, 1))),
+    // Loops: a guard's arrow comes before the exit.
+    ("x y A4", "do A[x] > 0 -> skip [] A[y] > 0 -> skip od", "0 4 1 7", Some((0, 2))),
+    ("x y A4", "do x > 0 -> skip [] y > 0 -> skip [] A[x + y] > 0 -> skip od", "0 4 1 7", Some((0, 4))),
+    ("x y A4", "do x > 0 -> do A[y] > 0 -> skip od od", "0 1 1 7; 2 4 1 7", Some((1, 1))),
+    ("x y A4", "do x > 0 -> do A[y] > 0 -> skip od od", "0 1 1 7; 2 4 4 7; 3 4 1 7", CLEAN),
+];
+
 /// Index marks, of sheets that need not be accepted.
 pub fn indices(out: &mut Out) {
     out.group("index");
-    let first = Some((0, 0));
-    let cases: &[(&str, &str, &str, Mark)] = &[
-        ("x A4", "x := A[x]", "0 1 7", first),
-        ("x A4", "x := A[x]", "0 2 7", CLEAN),
-        ("x A4", "x := A[x]", "0 4 7", CLEAN),
-        ("x A4", "x := A[-1]", "0 4 4", first),
-        ("x A4", "x := A[0]", "0 1 1", CLEAN),
-        ("x A4", "x := A[2147483647]", "0 1 1", CLEAN),
-        ("x A4", "x := A[x - 1]", "0 4 7", first),
-        ("x A4", "x := A[x + 1]", "0 2 7", CLEAN),
-        ("x A4", "x := A[x * x]", "0 1 7", CLEAN),
-        ("x A4", "x := A[x / 2]", "0 1 7", first),
-        ("x A4", "x := 1 + (2 - (3 * A[x]))", "0 1 7", first),
-        ("x A4", "x := A[x] / 0", "0 1 7", first),
-        // A node's records alone, and those of its arrows alone; nothing leaves node 1.
-        ("x A4", "x := A[x]", "1 1 7; 1 1 1", CLEAN),
-        ("x A4", "x := A[x]; skip", "2 1 7", CLEAN),
-        ("x A4", "x := A[x]; skip", "2 1 7; 0 4 7; 0 1 7; 0 1 7", Some((2, 0))),
-        ("x A4", "skip; x := A[x]", "0 1 7; 2 4 7; 2 1 7", Some((2, 1))),
-        // An index in an index, from within and from without.
-        ("x A4 B4", "x := A[B[x]]", "0 1 4 4", first),
-        ("x A4 B4", "x := A[B[x]]", "0 4 4 5", first),
-        ("x A4 B4", "x := A[B[x]]", "0 4 5 4", CLEAN),
-        ("x A4 B4", "x := A[B[x] * 0]", "0 1 4 4", first),
-        ("x A4 B4", "x := A[B[0] * B[0]]", "0 1 4 5", first),
-        ("x A4 B4", "x := A[B[0] * B[0]]", "0 1 4 1", CLEAN),
-        // Stores: the index, the value, an index in either, and no value.
-        ("x A4 B4", "A[x] := 1", "0 1 7 7", first),
-        ("x A4 B4", "A[x] := 1", "0 2 7 7", CLEAN),
-        ("x A4 B4", "A[0] := B[x]", "0 1 7 7", first),
-        ("x A4 B4", "A[0] := B[x]", "0 4 7 7", CLEAN),
-        ("x A4 B4", "A[B[x]] := 1", "0 1 7 4", first),
-        ("x A4 B4", "A[B[x]] := 1", "0 4 7 1", first),
-        ("x A4 B4", "A[B[x]] := 1", "0 4 1 4", CLEAN),
-        ("x A4 B4", "A[0] := 1 / 0 + B[x]", "0 1 7 7", first),
-        ("x A4 B4", "A[0] := x", "0 1 1 1", CLEAN),
-        // Guards: every side of every condition, whether it matters or not.
-        ("x A4", "if A[x] > 0 -> skip fi", "0 1 7", first),
-        ("x A4", "if 0 > A[x] -> skip fi", "0 1 7", first),
-        ("x A4", "if !A[x] = 0 -> skip fi", "0 1 7", first),
-        ("x A4", "if true and A[x] = 0 -> skip fi", "0 1 7", first),
-        ("x A4", "if A[x] = 0 and true -> skip fi", "0 1 7", first),
-        ("x A4", "if x >= 0 && A[x] > 0 -> skip fi", "0 1 7", first),
-        ("x A4", "if A[x] > 0 && x >= 0 -> skip fi", "0 1 7", first),
-        ("x A4", "if x > 0 && A[x - 1] > A[x] -> skip fi", "0 2 7", first),
-        ("x A4", "if x > 0 && A[x - 1] > A[x] -> skip fi", "2 2 7; 2 4 1", CLEAN),
-        // The lowest record, then its lowest arrow.
-        ("x y A4", "if A[x] > 0 -> skip [] A[y] > 0 -> skip fi", "0 1 1 7", first),
-        ("x y A4", "if A[x] > 0 -> skip [] A[y] > 0 -> skip fi", "0 1 4 7", first),
-        ("x y A4", "if A[x] > 0 -> skip [] A[y] > 0 -> skip fi", "0 4 1 7", Some((0, 2))),
-        ("x y A4", "if A[x] > 0 -> skip [] A[y] > 0 -> skip fi", "0 4 4 7; 0 4 1 7; 0 1 1 7", Some((1, 2))),
-        ("x y A4", "if A[x] > 0 -> skip [] A[y] > 0 -> skip fi", "2 1 1 7; 3 1 1 7; 0 4 2 7", CLEAN),
-        ("x y A4", "if true -> x := A[x] [] true -> y := A[y] fi", "3 1 4 7; 2 4 1 7; 3 4 1 7; 2 1 4 7", Some((2, 3))),
-        ("x y A4", "if true -> x := A[x] [] true -> y := A[y] fi", "2 4 1 7; 2 1 4 7", Some((1, 1))),
-        // Loops: a guard's arrow comes before the exit.
-        ("x y A4", "do A[x] > 0 -> skip [] A[y] > 0 -> skip od", "0 4 1 7", Some((0, 2))),
-        ("x y A4", "do x > 0 -> skip [] y > 0 -> skip [] A[x + y] > 0 -> skip od", "0 4 1 7", Some((0, 4))),
-        ("x y A4", "do x > 0 -> do A[y] > 0 -> skip od od", "0 1 1 7; 2 4 1 7", Some((1, 1))),
-        ("x y A4", "do x > 0 -> do A[y] > 0 -> skip od od", "0 1 1 7; 2 4 4 7; 3 4 1 7", CLEAN),
-    ];
-    for &(names, text, sheet, mark) in cases {
+    for &(names, text, sheet, mark) in MARKS {
         let ask = marking(&sheet_of(sheet));
         out.known(&format!("{text}, {sheet}"), &file_of(names, text), &ask, &told_mark(mark));
     }
@@ -113,7 +117,12 @@ pub fn missing(out: &mut Out) {
         &FACTORIAL.split("; ").collect::<Vec<_>>().into_iter().rev().collect::<Vec<_>>().join("; "),
         "accepted index clean; offending",
     );
-    // Which of an arrow's results is missing does not matter, nor where the others are.
+    missing_results(out);
+    missing_of_many(out);
+}
+
+/// Which of an arrow's results is missing does not matter, nor where the others are.
+fn missing_results(out: &mut Out) {
     let three = file_of("x y", "if y > 0 -> x := y - 1 [] y = 0 -> x := 0 [] !y >= 0 -> x := y fi");
     let whole = "0 4 4; 0 4 2; 0 4 1; 2 4 4; 3 4 2; 4 4 1; 1 1 4; 1 2 4; 1 4 4; 1 2 2; 1 1 1";
     let left_out = [
@@ -142,7 +151,11 @@ pub fn missing(out: &mut Out) {
     judges(out, "two records", &two, "2", "0 2; 3 2; 2 2", "42 record 1 arrow 3; offending 0 3 2");
     judges(out, "two records, exchanged", &two, "2", "0 2; 2 2; 3 2", "42 record 1 arrow 1; offending 0 2 2");
     judges(out, "a result at another node", &two, "2", "0 2; 3 2; 2 2; 0 4; 2 1; 1 1", "42 record 2 arrow 1; offending 0 2 2");
-    // 4,096 records in either list.
+}
+
+/// 4,096 records in either list.
+fn missing_of_many(out: &mut Out) {
+    let file = factorial().bytes();
     let many = |record: &str, times: usize, last: &str| Chunks::repeated(&sheet_of(record), times).then(&sheet_of(last));
     let start = |record: &str, times: usize, last: &str| Chunks::repeated(&starts(record), times).then(&starts(last));
     out.known("42 at the last of 4096", &file, &Ask::Judge(start("", 0, ""), many("1 4 4", 4095, "2 4 4")), "42 record 4095 arrow 1; offending 0 2 4 4");

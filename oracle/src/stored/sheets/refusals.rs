@@ -107,17 +107,21 @@ pub fn wrong_bytes(out: &mut Out) {
     // 17 is asked before 41 and 42.
     out.known("before 41", &file, &judging(&starts("4 7 2 2; 0 1 1 1"), &sheet), "refused 17 at 4 of the start list; offending");
     out.known("before 42", &file, &judging(&[], &sheet_of("0 4 7 2 1; 4 4 7 2 1")), "refused 17 at 6 of the sheet; offending");
-    // The last record of 4,096.
+    wrong_at_the_end(out, &file, &sheet);
+}
+
+/// The last of 4,096 records, the last node, the last of 32 names.
+fn wrong_at_the_end(out: &mut Out, file: &[u8], sheet: &[u8]) {
     let last = Chunks::repeated(&starts("4 7 2 1"), 4095).then(&starts("4 7 2 8"));
     out.known(
         "the last of 4096 start records",
-        &file,
+        file,
         &Ask::Solve(last.clone(), 300),
         "refused 17 at 16383 of the start list with 0; refused 17 at 16383 of the start list",
     );
-    out.known("the last of 4096 start records, judged", &file, &Ask::Judge(last, Chunks::of(&sheet)), "refused 17 at 16383 of the start list; offending");
+    out.known("the last of 4096 start records, judged", file, &Ask::Judge(last, Chunks::of(sheet)), "refused 17 at 16383 of the start list; offending");
     let last = Chunks::repeated(&sheet_of("1 4 7 2 1"), 4095).then(&sheet_of("4 4 7 2 1"));
-    out.known("the last of 4096 records", &file, &Ask::Judge(Chunks(Vec::new()), last), "refused 17 at 24570 of the sheet; offending");
+    out.known("the last of 4096 records", file, &Ask::Judge(Chunks(Vec::new()), last), "refused 17 at 24570 of the sheet; offending");
     // 129 nodes, and the start and the end alone.
     for (title, file, nodes) in [("129 nodes", sequence(128, 0).bytes(), 129), ("2 nodes", file_of("x", "skip"), 2)] {
         for node in [nodes - 1, nodes, nodes + 1] {
@@ -128,7 +132,8 @@ pub fn wrong_bytes(out: &mut Out) {
     // 32 names: each byte in turn.
     let wide = file_of(&WIDE_NAMES.join(" "), "skip");
     for k in 0..32 {
-        let list = changed(&[PLUS; 64], 32 + k, 7);
+        let mut list = [PLUS; 64];
+        list[32 + k] = 7;
         out.known(
             &format!("32 names, byte {}", 32 + k),
             &wide,

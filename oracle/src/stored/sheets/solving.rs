@@ -25,6 +25,12 @@ pub fn rooms(out: &mut Out) {
         };
         out.known(&format!("factorial, {bytes} bytes"), &file, &solving(&[4, 2], bytes), &expected);
     }
+    little_room(out);
+    room_by_names(out);
+    room_for_many(out);
+}
+
+fn little_room(out: &mut Out) {
     // A record that is listed already needs no room.
     let skip = file_of("x", "skip");
     for (bytes, expected) in [(5, "refused 18 at 0 with 1; 0 0 4; 42 record 0 arrow 0"), (6, "finished with 2; 0 0 4; 0 1 4; accepted index clean")] {
@@ -39,7 +45,10 @@ pub fn rooms(out: &mut Out) {
         out.known(&format!("no start record, {bytes} bytes"), &skip, &solving(&[], bytes), "finished with 0; accepted index clean");
     }
     out.known("no room for the second start record", &skip, &solving(&[4, 2], 3), "refused 18 at 0 with 1; 0 0 4; 41 record 1");
-    // One name to 32: exactly enough, a byte short, a record short.
+}
+
+/// One name to 32: exactly enough, a byte short, a record short.
+fn room_by_names(out: &mut Out) {
     for count in [1, 2, 5, 30, 32] {
         let names = WIDE_NAMES[..count].join(" ");
         let file = file_of(&names, "a := a - 1");
@@ -52,7 +61,10 @@ pub fn rooms(out: &mut Out) {
             assert!(told.starts_with(&answer), "{told}");
         }
     }
-    // More than 4,096 records are to be listed, or would have room.
+}
+
+/// More than 4,096 records are to be listed, or would have room.
+fn room_for_many(out: &mut Out) {
     let (file, start) = fan(8);
     let width = 11;
     for bytes in [65536, LIST, 4096 * width, 4096 * width - 1, 4096 * width + 1, 4097 * width, 1000 * width] {

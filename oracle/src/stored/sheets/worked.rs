@@ -39,11 +39,7 @@ pub fn worked(out: &mut Out) {
     solves(out, "A3", "A[0] := -1", "7", "0 7; 1 7; 1 5; 1 3", CLEAN);
     // Plus divided by plus as plus only: 1 / 2 is 0.
     solves(out, "x y", "x := x / y", "4 4", "0 4 4; 1 2 4; 1 4 4", CLEAN);
-    let skip = |names: &[u16]| {
-        let mut s = Script::new(names);
-        s.skip();
-        s.bytes()
-    };
+    let skip = |names: &[u16]| skip_over(names).bytes();
     let many = |names: &[u16]| [at_node(0, &vec![2; names.len()]), at_node(1, &vec![2; names.len()])].concat();
     for (title, names) in [("32 names", vec![0; 32]), ("size 64", vec![64]), ("512 cells", vec![64; 8])] {
         finishes(out, title, &skip(&names), &vec![2; names.len()], &many(&names), CLEAN);
