@@ -1,17 +1,17 @@
 -- Every answer of the engine has a number, where it is a refusal, and a place that 32 bits hold.
 use mathlib.Core.Path.{_≡_, refl, sym, _∙_, ap}
-use mathlib.Core.Bool.{Bool, true, false, cond, _&&_}
+use mathlib.Core.Bool.{Bool, true, false, cond}
 use mathlib.Core.List.{List}
 use Prim.Native.Nat.{ℕ, zero, suc, _+_, _*_, _/_, _%_, _≤_, _<_}
 use native.Mathlib.Nat.{mul-suc, mul-div-le, mul-le-mul, mul-le-mul-left, div-add-mod'}
 use native.Mathlib.Omega.{arith}
 use lib.Dec.{eqb, leb}
 use lib.IntN.{ℤ}
-use lib.ListN.{length, getD}
+use lib.ListN.{length}
 use borrow.Author.Tests.{leb-true, eqb-true}
-use Rattle.program.specs.Asking.{ask, askPlain, thenAsk, inTurn}
+use Rattle.program.specs.Asking.{inTurn}
 use Rattle.program.specs.Drawing.{drawValidity, drawnBy, drawn}
-use Rattle.program.specs.File.{sizes, nameCount}
+use Rattle.program.specs.File.{sizes}
 use Rattle.program.specs.Graph.{Graph, graph}
 use Rattle.program.specs.Questions.{validity, inputValidity}
 use Rattle.program.specs.declared.Drawn.{Drawn}
@@ -29,9 +29,9 @@ use Rattle.semantics.specs.declared.Effect.{Effect}
 use Rattle.semantics.specs.declared.Effect.the-variants.{Undefined as Fails, Unchanged, Stored}
 use Rattle.semantics.specs.declared.Ended.{Ended}
 use Rattle.semantics.specs.declared.Ending.{Ending}
-use Rattle.semantics.specs.declared.Ending.the-variants.{Arrived, Spent, Stuck, Refused as Halts}
+use Rattle.semantics.specs.declared.Ending.the-variants.{Arrived, Spent, Refused as Halts}
 use Rattle.semantics.specs.declared.Outcome.{Outcome}
-use Rattle.semantics.specs.declared.Outcome.the-variants.{Taken, Undefined as Stays, Refused as Refuses}
+use Rattle.semantics.specs.declared.Outcome.the-variants.{Refused as Refuses}
 use Rattle.semantics.specs.declared.Stepped.{Stepped}
 use Rattle.analysis.specs.Records.{initialWidth, recordWidth, recordCount, wholeRecords, initialWhole, bothWhole, memoryFormed, initialFormed, solutionFormed, wrongByte}
 use Rattle.analysis.specs.Solver.{Found, finishedOr, solvedWith, initialValidity, solved}
@@ -39,17 +39,17 @@ use Rattle.analysis.specs.Splitter.{splitBy, split}
 use Rattle.analysis.specs.Verdict.{unlessRefused as unlessDeclined, unlessMalformed, verdictBy, judged, verdict, solutionValidity, markingBy, marking}
 use Rattle.analysis.specs.declared.Mark.{Mark}
 use Rattle.analysis.specs.declared.Marking.{Marking}
-use Rattle.analysis.specs.declared.Marking.the-variants.{Refused as MarkRefused, Malformed as MarkMalformed, Marked}
+use Rattle.analysis.specs.declared.Marking.the-variants.{Refused as MarkRefused, Malformed as MarkMalformed}
 use Rattle.analysis.specs.declared.Records.{Records}
 use Rattle.analysis.specs.declared.Records.the-variants.{Initial, Solution}
 use Rattle.analysis.specs.declared.Solved.{Solved}
 use Rattle.analysis.specs.declared.Solving.{Solving}
-use Rattle.analysis.specs.declared.Solving.the-variants.{Finished, Full, Refused as SolveRefused, Malformed as SolveMalformed}
+use Rattle.analysis.specs.declared.Solving.the-variants.{Refused as SolveRefused, Malformed as SolveMalformed}
 use Rattle.analysis.specs.declared.Split.{Split}
 use Rattle.analysis.specs.declared.Spot.{Spot}
 use Rattle.analysis.specs.declared.Spot.the-variants.{At as Here, Nowhere}
 use Rattle.analysis.specs.declared.Verdict.{Verdict}
-use Rattle.analysis.specs.declared.Verdict.the-variants.{Refused as Declines, Malformed, InitialMissing, ResultMissing, Accepted}
+use Rattle.analysis.specs.declared.Verdict.the-variants.{Refused as Declines, Malformed}
 use Rattle.analysis.specs.declared.WrongByte.{WrongByte}
 use Rattle.desk.specs.Reply.{Narrow}
 

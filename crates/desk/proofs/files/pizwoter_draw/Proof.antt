@@ -4,7 +4,7 @@ use mathlib.Core.Path.{ap, _∙_}
 use Rattle.program.specs.Drawing.{drawnNumbers}
 use Rattle.desk.specs.Rows.{drew}
 use Rattle.desk.proofs.Places.{drawn-narrow}
-use Rattle.desk.proofs.Replies.{short-told, short-kept, roomy-told, roomy-kept}
+use Rattle.desk.proofs.Replies.{short-told, short-kept, roomy-kept, told-as}
 use Rattle.desk.proofs.files.pizwoter_draw.Statement.{statement}
 use Rattle.desk.proofs.files.pizwoter_draw.Tie as tie
 
@@ -20,7 +20,7 @@ returns-2 c =
     let made = c .before .before .before .before in
     let drawn = made .before .before .before in
     let roomy = drawn .before .before .if1 .left in
-    (roomy-told _ roomy (made .of-drawn .ensures ∙ ap drawnNumbers (drawn .draw .ensures .0 .0)) (c .before .before .put .ensures), drawn .draw .ensures .0 .1 ∙ roomy-kept _ roomy _ _)
+    (told-as _ (made .of-drawn .ensures ∙ ap drawnNumbers (drawn .draw .ensures .0 .0)) (c .before .before .put .ensures), drawn .draw .ensures .0 .1 ∙ roomy-kept _ roomy _ _)
 
 pub pizwoter-draw-spec : {M : Type 1} → statement M
 pizwoter-draw-spec = tie.close (tie.spec returns (λ c κs. search needs) of-drawn-requires (λ c κs. search needs) (λ c. search needs) (λ c. search needs) returns-2)

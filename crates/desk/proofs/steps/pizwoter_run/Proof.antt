@@ -4,7 +4,7 @@ use mathlib.Core.Path.{ap, _∙_}
 use Rattle.semantics.specs.Budget.{endedNumbers}
 use Rattle.desk.specs.Rows.{ran}
 use Rattle.desk.proofs.Places.{ended-narrow}
-use Rattle.desk.proofs.Replies.{short-told, short-kept, roomy-told, roomy-kept}
+use Rattle.desk.proofs.Replies.{short-told, short-kept, roomy-kept, told-as}
 use Rattle.desk.proofs.steps.pizwoter_run.Statement.{statement}
 use Rattle.desk.proofs.steps.pizwoter_run.Tie as tie
 
@@ -20,7 +20,7 @@ returns-2 c =
     let made = c .before .before .before .before in
     let run = made .before .before in
     let roomy = run .before .before .if1 .left in
-    (roomy-told _ roomy (made .of-ended .ensures ∙ ap endedNumbers (run .run .ensures .0 .0)) (c .before .before .put .ensures), run .run .ensures .0 .1 ∙ roomy-kept _ roomy _ _)
+    (told-as _ (made .of-ended .ensures ∙ ap endedNumbers (run .run .ensures .0 .0)) (c .before .before .put .ensures), run .run .ensures .0 .1 ∙ roomy-kept _ roomy _ _)
 
 pub pizwoter-run-spec : {M : Type 1} → statement M
 pizwoter-run-spec = tie.close (tie.spec returns (λ c κs. search needs) of-ended-requires (λ c κs. search needs) (λ c. search needs) (λ c. search needs) returns-2)

@@ -4,7 +4,7 @@ use mathlib.Core.Path.{ap, _∙_}
 use Rattle.semantics.specs.Step.{steppedNumbers}
 use Rattle.desk.specs.Rows.{stepped}
 use Rattle.desk.proofs.Places.{stepped-narrow}
-use Rattle.desk.proofs.Replies.{short-told, short-kept, roomy-told, roomy-kept}
+use Rattle.desk.proofs.Replies.{short-told, short-kept, roomy-kept, told-as}
 use Rattle.desk.proofs.steps.pizwoter_step.Statement.{statement}
 use Rattle.desk.proofs.steps.pizwoter_step.Tie as tie
 
@@ -20,7 +20,7 @@ returns-2 c =
     let made = c .before .before .before .before in
     let taken = made .before .before in
     let roomy = taken .before .before .if1 .left in
-    (roomy-told _ roomy (made .of-stepped .ensures ∙ ap steppedNumbers (taken .step .ensures .0 .0)) (c .before .before .put .ensures), taken .step .ensures .0 .1 ∙ roomy-kept _ roomy _ _)
+    (told-as _ (made .of-stepped .ensures ∙ ap steppedNumbers (taken .step .ensures .0 .0)) (c .before .before .put .ensures), taken .step .ensures .0 .1 ∙ roomy-kept _ roomy _ _)
 
 pub pizwoter-step-spec : {M : Type 1} → statement M
 pizwoter-step-spec = tie.close (tie.spec returns (λ c κs. search needs) of-stepped-requires (λ c κs. search needs) (λ c. search needs) (λ c. search needs) returns-2)

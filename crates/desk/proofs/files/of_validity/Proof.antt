@@ -1,9 +1,9 @@
--- `rows::of_validity`: by the answer's cases.
+-- `files::of_validity`: by the answer's cases.
 use borrow.Author.Needs.{needs}
 use Rattle.program.specs.Asking.{validityNumbers}
 use Rattle.desk.specs.Reply.{rowNumbers}
-use Rattle.desk.proofs.rows.of_validity.Statement.{statement}
-use Rattle.desk.proofs.rows.of_validity.Tie as tie
+use Rattle.desk.proofs.files.of_validity.Statement.{statement}
+use Rattle.desk.proofs.files.of_validity.Tie as tie
 
 cast-t5 : tie.Need-cast-t5
 cast-t5 c = record { fits = c .before .before .before .before .before .pre _ (c .before .before .before .v .given .1) }

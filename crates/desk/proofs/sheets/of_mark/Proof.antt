@@ -1,9 +1,9 @@
--- `rows::of_mark`: by the mark's cases.
+-- `sheets::of_mark`: by the mark's cases.
 use borrow.Author.Needs.{needs}
 use Rattle.analysis.specs.Verdict.{markNumbers}
 use Rattle.desk.specs.Reply.{rowNumbers}
-use Rattle.desk.proofs.rows.of_mark.Statement.{statement}
-use Rattle.desk.proofs.rows.of_mark.Tie as tie
+use Rattle.desk.proofs.sheets.of_mark.Statement.{statement}
+use Rattle.desk.proofs.sheets.of_mark.Tie as tie
 
 returns : tie.Need-returns
 unfolding rowNumbers markNumbers

@@ -1,8 +1,8 @@
--- `rows::reason_number`.
+-- `steps::reason_number`.
 use borrow.Author.Needs.{needs}
 use Rattle.signs.specs.Number.{reasonNumber}
-use Rattle.desk.proofs.rows.reason_number.Statement.{statement}
-use Rattle.desk.proofs.rows.reason_number.Tie as tie
+use Rattle.desk.proofs.steps.reason_number.Statement.{statement}
+use Rattle.desk.proofs.steps.reason_number.Tie as tie
 
 returns : tie.Need-returns
 unfolding reasonNumber

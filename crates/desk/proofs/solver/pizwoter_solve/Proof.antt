@@ -4,9 +4,9 @@ use mathlib.Core.Path.{ap, _∙_}
 use Rattle.analysis.specs.Solver.{solvedNumbers}
 use Rattle.desk.specs.Rows.{solved}
 use Rattle.desk.proofs.Places.{solved-narrow}
-use Rattle.desk.proofs.Replies.{short-told, short-kept, roomy-told, roomy-kept}
-use Rattle.desk.proofs.sheets.pizwoter_solve.Statement.{statement}
-use Rattle.desk.proofs.sheets.pizwoter_solve.Tie as tie
+use Rattle.desk.proofs.Replies.{short-told, short-kept, roomy-kept, told-as}
+use Rattle.desk.proofs.solver.pizwoter_solve.Statement.{statement}
+use Rattle.desk.proofs.solver.pizwoter_solve.Tie as tie
 
 returns : tie.Need-returns
 returns c = (short-told _ (c .if1 .taken) _, short-kept _ (c .if1 .taken) _ _)
@@ -20,7 +20,7 @@ returns-2 c =
     let made = c .before .before .before .before in
     let found = made .before .before .before in
     let roomy = found .before .before .if1 .left in
-    (roomy-told _ roomy (made .of-solved .ensures ∙ ap solvedNumbers (found .solve .ensures .0 .0)) (c .before .before .put .ensures), found .solve .ensures .0 .1 ∙ roomy-kept _ roomy _ _)
+    (told-as _ (made .of-solved .ensures ∙ ap solvedNumbers (found .solve .ensures .0 .0)) (c .before .before .put .ensures), found .solve .ensures .0 .1 ∙ roomy-kept _ roomy _ _)
 
 pub pizwoter-solve-spec : {M : Type 1} → statement M
 pizwoter-solve-spec = tie.close (tie.spec returns (λ c κs. search needs) of-solved-requires (λ c κs. search needs) (λ c. search needs) (λ c. search needs) returns-2)

@@ -1,9 +1,9 @@
--- `rows::of_wrong_byte`: by the list's number.
+-- `sheets::of_wrong_byte`: by the list's number.
 use borrow.Author.Needs.{needs}
 use Rattle.analysis.specs.Records.{wrongByteNumbers}
 use Rattle.desk.specs.Reply.{rowNumbers}
-use Rattle.desk.proofs.rows.of_wrong_byte.Statement.{statement}
-use Rattle.desk.proofs.rows.of_wrong_byte.Tie as tie
+use Rattle.desk.proofs.sheets.of_wrong_byte.Statement.{statement}
+use Rattle.desk.proofs.sheets.of_wrong_byte.Tie as tie
 
 returns : tie.Need-returns
 unfolding rowNumbers wrongByteNumbers

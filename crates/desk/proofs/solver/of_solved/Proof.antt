@@ -1,10 +1,10 @@
--- `rows::of_solved`: by the answer's cases.
+-- `solver::of_solved`: by the answer's cases.
 use borrow.Author.Needs.{needs}
 use Rattle.analysis.specs.Records.{wrongByteNumbers}
 use Rattle.analysis.specs.Solver.{solvingNumbers, solvedNumbers}
 use Rattle.desk.specs.Reply.{rowNumbers}
-use Rattle.desk.proofs.rows.of_solved.Statement.{statement}
-use Rattle.desk.proofs.rows.of_solved.Tie as tie
+use Rattle.desk.proofs.solver.of_solved.Statement.{statement}
+use Rattle.desk.proofs.solver.of_solved.Tie as tie
 
 cast-t9 : tie.Need-cast-t9
 cast-t9 c = record { fits = c .before .before .before .before .before .before .pre .0 _ (c .before .before .before .solving .given .1) }

@@ -1,9 +1,9 @@
--- `rows::of_marking`: by the answer's cases.
+-- `sheets::of_marking`: by the answer's cases.
 use borrow.Author.Needs.{needs}
 use Rattle.analysis.specs.Verdict.{markingNumbers}
 use Rattle.desk.specs.Reply.{rowNumbers}
-use Rattle.desk.proofs.rows.of_marking.Statement.{statement}
-use Rattle.desk.proofs.rows.of_marking.Tie as tie
+use Rattle.desk.proofs.sheets.of_marking.Statement.{statement}
+use Rattle.desk.proofs.sheets.of_marking.Tie as tie
 
 cast-t7 : tie.Need-cast-t7
 cast-t7 c = record { fits = c .before .before .before .before .before .pre .0 _ (c .before .before .before .m .given .1) }

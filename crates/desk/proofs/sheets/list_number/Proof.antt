@@ -1,8 +1,8 @@
--- `rows::list_number`.
+-- `sheets::list_number`.
 use borrow.Author.Needs.{needs}
 use Rattle.analysis.specs.Records.{listNumber}
-use Rattle.desk.proofs.rows.list_number.Statement.{statement}
-use Rattle.desk.proofs.rows.list_number.Tie as tie
+use Rattle.desk.proofs.sheets.list_number.Statement.{statement}
+use Rattle.desk.proofs.sheets.list_number.Tie as tie
 
 returns : tie.Need-returns
 unfolding listNumber

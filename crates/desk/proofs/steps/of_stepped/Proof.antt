@@ -1,10 +1,10 @@
--- `rows::of_stepped`: by the outcome's cases.
+-- `steps::of_stepped`: by the outcome's cases.
 use borrow.Author.Needs.{needs}
 use Rattle.semantics.specs.Expression.{faultNumber}
 use Rattle.semantics.specs.Step.{outcomeNumbers, steppedNumbers}
 use Rattle.desk.specs.Reply.{rowNumbers}
-use Rattle.desk.proofs.rows.of_stepped.Statement.{statement}
-use Rattle.desk.proofs.rows.of_stepped.Tie as tie
+use Rattle.desk.proofs.steps.of_stepped.Statement.{statement}
+use Rattle.desk.proofs.steps.of_stepped.Tie as tie
 
 cast-t11 : tie.Need-cast-t11
 cast-t11 c = record { fits = c .before .before .before .before .before .before .before .pre _ (c .before .before .before .outcome2 .given .1) }

@@ -1,9 +1,9 @@
--- `rows::of_verdict`: by the verdict's cases.
+-- `sheets::of_verdict`: by the verdict's cases.
 use borrow.Author.Needs.{needs}
 use Rattle.analysis.specs.Verdict.{verdictNumbers}
 use Rattle.desk.specs.Reply.{rowNumbers}
-use Rattle.desk.proofs.rows.of_verdict.Statement.{statement}
-use Rattle.desk.proofs.rows.of_verdict.Tie as tie
+use Rattle.desk.proofs.sheets.of_verdict.Statement.{statement}
+use Rattle.desk.proofs.sheets.of_verdict.Tie as tie
 
 cast-t10 : tie.Need-cast-t10
 cast-t10 c = record { fits = c .before .before .before .before .before .pre .0 _ (c .before .before .before .v .given .1) }

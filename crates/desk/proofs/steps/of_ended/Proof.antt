@@ -1,9 +1,9 @@
--- `rows::of_ended`: by the ending's cases.
+-- `steps::of_ended`: by the ending's cases.
 use borrow.Author.Needs.{needs}
 use Rattle.semantics.specs.Budget.{endingNumbers, endedNumbers}
 use Rattle.desk.specs.Reply.{rowNumbers}
-use Rattle.desk.proofs.rows.of_ended.Statement.{statement}
-use Rattle.desk.proofs.rows.of_ended.Tie as tie
+use Rattle.desk.proofs.steps.of_ended.Statement.{statement}
+use Rattle.desk.proofs.steps.of_ended.Tie as tie
 
 cast-t8 : tie.Need-cast-t8
 cast-t8 c = record { fits = c .before .before .before .before .before .before .before .pre _ (c .before .before .before .ending .given .1) }
