@@ -17,6 +17,7 @@ use Rattle.analysis.specs.declared.Verdict.{Verdict}
 use Rattle.analysis.specs.declared.Verdict.the-variants.{Refused, Malformed, InitialMissing, ResultMissing, Accepted}
 use Rattle.desk.specs.Accepting.{markTold, ThirdTermTold}
 use Rattle.desk.specs.Reply.{replyRoom, unlessShort, replied, told}
+use Rattle.desk.proofs.Never.{never}
 use Rattle.desk.proofs.Places.{VerdictTold, verdict-told}
 
 -- the first of a row, and its rest
@@ -49,7 +50,7 @@ written row reply = take-at row _ _ refl
 
 nothing-third : (s initial solution : List ℕ) → ThirdTermTold s initial solution []
 unfolding ThirdTermTold
-nothing-third s initial solution rest e = absurd (let z : _≡_ {A = ℕ} 0 1 = cc in omega arith)
+nothing-third s initial solution rest e = never (cc)
 
 -- of what a call wrote: the row, or nothing where the reply is too short
 pub written-third : (s initial solution reply : List ℕ) {v : Verdict} {numbers after : List ℕ} {n : ℕ}
