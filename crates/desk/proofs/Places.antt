@@ -1,17 +1,17 @@
 -- Every answer of the engine has a number, where it is a refusal, and a place that 32 bits hold.
 use mathlib.Core.Path.{_≡_, refl, sym, _∙_, ap}
-use mathlib.Core.Bool.{Bool, true, false, cond, _&&_}
+use mathlib.Core.Bool.{Bool, true, false, cond}
 use mathlib.Core.List.{List}
 use Prim.Native.Nat.{ℕ, zero, suc, _+_, _*_, _/_, _%_, _≤_, _<_}
 use native.Mathlib.Nat.{mul-suc, mul-div-le, mul-le-mul, mul-le-mul-left, div-add-mod'}
 use native.Mathlib.Omega.{arith}
 use lib.Dec.{eqb, leb}
 use lib.IntN.{ℤ}
-use lib.ListN.{length, getD}
+use lib.ListN.{length}
 use borrow.Author.Tests.{leb-true, eqb-true}
-use Rattle.program.specs.Asking.{ask, askPlain, thenAsk, inTurn}
+use Rattle.program.specs.Asking.{inTurn}
 use Rattle.program.specs.Drawing.{drawValidity, drawnBy, drawn}
-use Rattle.program.specs.File.{sizes, nameCount}
+use Rattle.program.specs.File.{sizes}
 use Rattle.program.specs.Graph.{Graph, graph}
 use Rattle.program.specs.Questions.{validity, inputValidity}
 use Rattle.program.specs.declared.Drawn.{Drawn}
@@ -29,9 +29,9 @@ use Rattle.semantics.specs.declared.Effect.{Effect}
 use Rattle.semantics.specs.declared.Effect.the-variants.{Undefined as Fails, Unchanged, Stored}
 use Rattle.semantics.specs.declared.Ended.{Ended}
 use Rattle.semantics.specs.declared.Ending.{Ending}
-use Rattle.semantics.specs.declared.Ending.the-variants.{Arrived, Spent, Stuck, Refused as Halts}
+use Rattle.semantics.specs.declared.Ending.the-variants.{Arrived, Spent, Refused as Halts}
 use Rattle.semantics.specs.declared.Outcome.{Outcome}
-use Rattle.semantics.specs.declared.Outcome.the-variants.{Taken, Undefined as Stays, Refused as Refuses}
+use Rattle.semantics.specs.declared.Outcome.the-variants.{Refused as Refuses}
 use Rattle.semantics.specs.declared.Stepped.{Stepped}
 use Rattle.analysis.specs.Records.{initialWidth, recordWidth, recordCount, wholeRecords, initialWhole, bothWhole, memoryFormed, initialFormed, solutionFormed, wrongByte}
 use Rattle.analysis.specs.Solver.{Found, finishedOr, solvedWith, initialValidity, solved}
@@ -39,19 +39,20 @@ use Rattle.analysis.specs.Splitter.{splitBy, split}
 use Rattle.analysis.specs.Verdict.{unlessRefused as unlessDeclined, unlessMalformed, verdictBy, judged, verdict, solutionValidity, markingBy, marking}
 use Rattle.analysis.specs.declared.Mark.{Mark}
 use Rattle.analysis.specs.declared.Marking.{Marking}
-use Rattle.analysis.specs.declared.Marking.the-variants.{Refused as MarkRefused, Malformed as MarkMalformed, Marked}
+use Rattle.analysis.specs.declared.Marking.the-variants.{Refused as MarkRefused, Malformed as MarkMalformed}
 use Rattle.analysis.specs.declared.Records.{Records}
 use Rattle.analysis.specs.declared.Records.the-variants.{Initial, Solution}
 use Rattle.analysis.specs.declared.Solved.{Solved}
 use Rattle.analysis.specs.declared.Solving.{Solving}
-use Rattle.analysis.specs.declared.Solving.the-variants.{Finished, Full, Refused as SolveRefused, Malformed as SolveMalformed}
+use Rattle.analysis.specs.declared.Solving.the-variants.{Refused as SolveRefused, Malformed as SolveMalformed}
 use Rattle.analysis.specs.declared.Split.{Split}
 use Rattle.analysis.specs.declared.Spot.{Spot}
 use Rattle.analysis.specs.declared.Spot.the-variants.{At as Here, Nowhere}
 use Rattle.analysis.specs.declared.Verdict.{Verdict}
-use Rattle.analysis.specs.declared.Verdict.the-variants.{Refused as Declines, Malformed, InitialMissing, ResultMissing, Accepted}
+use Rattle.analysis.specs.declared.Verdict.the-variants.{Refused as Declines, Malformed}
 use Rattle.analysis.specs.declared.WrongByte.{WrongByte}
 use Rattle.desk.specs.Reply.{Narrow}
+use Rattle.desk.proofs.Never.{never}
 
 -- ---- Drawing and splitting
 
@@ -83,9 +84,9 @@ outcome-unless (Refused y) o p q = λ x e. let same : y ≡ x = cc in p x (ap Re
 
 effect-outcome : (x : Effect) → OutcomeTold (outcomeBy x)
 unfolding outcomeBy
-effect-outcome (Fails f) x e = absurd (let z : _≡_ {A = ℕ} 0 1 = cc in omega arith)
-effect-outcome Unchanged x e = absurd (let z : _≡_ {A = ℕ} 0 1 = cc in omega arith)
-effect-outcome (Stored c z) x e = absurd (let z : _≡_ {A = ℕ} 0 1 = cc in omega arith)
+effect-outcome (Fails f) x e = never (cc)
+effect-outcome Unchanged x e = never (cc)
+effect-outcome (Stored c z) x e = never (cc)
 
 step-placed : (ns : List ℕ) (g : Graph) (node : ℕ) (m : List ℤ) (e : ℕ) → Placed 7244 (stepValidity ns g node m e)
 unfolding stepValidity memoryValidity inTurn
@@ -101,17 +102,17 @@ abbrev EndingTold : Ending → Type 0
 EndingTold e = (x : Refusal) → e ≡ Halts x → Told 7244 x
 
 arrived-or : (b : Bool) (c : Configuration) (r : Result) → EndingTold (r .ending) → EndingTold (cond b (ends Arrived c) r .ending)
-arrived-or true c r p = λ x e. absurd (let z : _≡_ {A = ℕ} 0 1 = cc in omega arith)
+arrived-or true c r p = λ x e. never (cc)
 arrived-or false c r p = p
 
 goes-told : (further : ℕ → Result) (c : Configuration) (f : First) → ((e : ℕ) → EndingTold (further e .ending)) → EndingTold (goesOn further c f .ending)
 unfolding goesOn
 goes-told further c (At e) p = p e
-goes-told further c Nothing p = λ x e. absurd (let z : _≡_ {A = ℕ} 0 1 = cc in omega arith)
+goes-told further c Nothing p = λ x e. never (cc)
 
 run-told : (budget : ℕ) (ns : List ℕ) (g : Graph) (c : Configuration) → EndingTold (runFrom budget ns g c .ending)
 unfolding runFrom
-run-told zero ns g c = arrived-or (eqb (c .run .node) 1) c (ends Spent c) (λ x e. absurd (let z : _≡_ {A = ℕ} 0 1 = cc in omega arith))
+run-told zero ns g c = arrived-or (eqb (c .run .node) 1) c (ends Spent c) (λ x e. never (cc))
 run-told (suc budget) ns g c =
     let on : ℕ → Result = λ e. runFrom budget ns g (along ns g c e) in
     let lowest = lowestDefined ns g (c .run .node) (c .memory) in
@@ -176,7 +177,7 @@ verdict-unless Fit d p q = q refl
 verdict-unless (Refused y) d p q =
     record {
       refused = λ x e. let same : y ≡ x = cc in p x (ap Refused same);
-      wrong = λ w e. absurd (let z : _≡_ {A = ℕ} 0 1 = cc in omega arith);
+      wrong = λ w e. never (cc);
     }
 
 verdict-formed : (list : Records) (v : Validity) (d : Verdict) → Placed 139264 v → VerdictTold d → VerdictTold (unlessMalformed list v d)
@@ -184,15 +185,15 @@ unfolding unlessMalformed wrongByte
 verdict-formed list Fit d p q = q
 verdict-formed list (Refused y) d p q =
     record {
-      refused = λ x e. absurd (let z : _≡_ {A = ℕ} 0 1 = cc in omega arith);
+      refused = λ x e. never (cc);
       wrong = λ w e. let same : wrongByte list y ≡ w = cc in rw (← same) (p y refl .near);
     }
 
 verdict-found : (f : First) (spot : Spot) (mark : Mark) → VerdictTold (verdictBy f spot mark)
 unfolding verdictBy
-verdict-found (At k) spot mark = record { refused = λ x e. absurd (let z : _≡_ {A = ℕ} 0 1 = cc in omega arith); wrong = λ w e. absurd (let z : _≡_ {A = ℕ} 0 1 = cc in omega arith) }
-verdict-found Nothing (Here k e) mark = record { refused = λ x e. absurd (let z : _≡_ {A = ℕ} 0 1 = cc in omega arith); wrong = λ w e. absurd (let z : _≡_ {A = ℕ} 0 1 = cc in omega arith) }
-verdict-found Nothing Nowhere mark = record { refused = λ x e. absurd (let z : _≡_ {A = ℕ} 0 1 = cc in omega arith); wrong = λ w e. absurd (let z : _≡_ {A = ℕ} 0 1 = cc in omega arith) }
+verdict-found (At k) spot mark = record { refused = λ x e. never (cc); wrong = λ w e. never (cc) }
+verdict-found Nothing (Here k e) mark = record { refused = λ x e. never (cc); wrong = λ w e. never (cc) }
+verdict-found Nothing Nowhere mark = record { refused = λ x e. never (cc); wrong = λ w e. never (cc) }
 
 both-short : (ns initial solution : List ℕ) → length ns ≤ 32 → bothWhole ns initial solution ≡ Fit → (length initial ≤ 139264) × (length solution ≤ 139264)
 unfolding bothWhole initialWidth recordWidth
@@ -222,16 +223,16 @@ pub record MarkingTold (m : Marking) : Type 0 where
 
 marking-by : (v f : Validity) (mark : Mark) → Placed 7244 v → (v ≡ Fit → Placed 139264 f) → MarkingTold (markingBy v f mark)
 unfolding markingBy wrongByte
-marking-by Fit Fit mark p q = record { refused = λ x e. absurd (let z : _≡_ {A = ℕ} 0 1 = cc in omega arith); wrong = λ w e. absurd (let z : _≡_ {A = ℕ} 0 1 = cc in omega arith) }
+marking-by Fit Fit mark p q = record { refused = λ x e. never (cc); wrong = λ w e. never (cc) }
 marking-by Fit (Refused y) mark p q =
     record {
-      refused = λ x e. absurd (let z : _≡_ {A = ℕ} 0 1 = cc in omega arith);
+      refused = λ x e. never (cc);
       wrong = λ w e. let same : wrongByte Solution y ≡ w = cc in rw (← same) (q refl y refl .near);
     }
 marking-by (Refused y) f mark p q =
     record {
       refused = λ x e. let same : y ≡ x = cc in p x (ap Refused same);
-      wrong = λ w e. absurd (let z : _≡_ {A = ℕ} 0 1 = cc in omega arith);
+      wrong = λ w e. never (cc);
     }
 
 pub marking-told : (s solution : List ℕ) → MarkingTold (marking s solution)
@@ -250,21 +251,21 @@ pub record SolvingTold (r : Solving) : Type 0 where
 
 finished-told : (b : Bool) → SolvingTold (finishedOr b)
 unfolding finishedOr
-finished-told true = record { refused = λ x e. absurd (let z : _≡_ {A = ℕ} 0 1 = cc in omega arith); wrong = λ w e. absurd (let z : _≡_ {A = ℕ} 0 1 = cc in omega arith) }
-finished-told false = record { refused = λ x e. absurd (let z : _≡_ {A = ℕ} 0 1 = cc in omega arith); wrong = λ w e. absurd (let z : _≡_ {A = ℕ} 0 1 = cc in omega arith) }
+finished-told true = record { refused = λ x e. never (cc); wrong = λ w e. never (cc) }
+finished-told false = record { refused = λ x e. never (cc); wrong = λ w e. never (cc) }
 
 solved-with : (v f : Validity) (found : Found) → Placed 7244 v → (v ≡ Fit → Placed 139264 f) → SolvingTold (solvedWith v f found .solving)
 unfolding solvedWith wrongByte
 solved-with Fit Fit found p q = finished-told (found .full)
 solved-with Fit (Refused y) found p q =
     record {
-      refused = λ x e. absurd (let z : _≡_ {A = ℕ} 0 1 = cc in omega arith);
+      refused = λ x e. never (cc);
       wrong = λ w e. let same : wrongByte Initial y ≡ w = cc in rw (← same) (q refl y refl .near);
     }
 solved-with (Refused y) f found p q =
     record {
       refused = λ x e. let same : y ≡ x = cc in p x (ap Refused same);
-      wrong = λ w e. absurd (let z : _≡_ {A = ℕ} 0 1 = cc in omega arith);
+      wrong = λ w e. never (cc);
     }
 
 pub solved-told : (s initial buffer : List ℕ) → SolvingTold (solved s initial buffer .solving)

@@ -1,5 +1,5 @@
 -- A reply that is too short, and one that has room.
-use mathlib.Core.Path.{_≡_, refl, sym, _∙_}
+use mathlib.Core.Path.{_≡_, refl, _∙_}
 use mathlib.Core.List.{List, [], _∷_}
 use Prim.Native.Nat.{ℕ, _≤_, _<_}
 use native.Mathlib.Omega.{arith}
@@ -24,9 +24,15 @@ module _ (reply : List ℕ) (roomy : replyRoom ≤ length reply) where
   unfolding unlessShort
   roomy-kept after before = rw (le-leb _ _ roomy)
 
-  pub roomy-told : {row numbers after : List ℕ} {n : ℕ} → numbers ≡ row → (n ≡ length numbers) × (after ≡ over numbers reply) → (n ≡ told row reply) × (after ≡ replied row reply)
+  -- the row over its front, where that was written
+  pub roomy-told : (row : List ℕ) {after : List ℕ} → after ≡ over row reply → (length row ≡ told row reply) × (after ≡ replied row reply)
   unfolding told replied
-  roomy-told {row} e p = rw (← e) (p .0 ∙ roomy-kept _ 0, p .1 ∙ roomy-kept _ reply)
+  roomy-told row e = (roomy-kept (length row) 0, e ∙ roomy-kept (over row reply) reply)
+
+-- the same row by another name
+pub told-as : (reply : List ℕ) {row numbers after : List ℕ} {n : ℕ} → numbers ≡ row → (n ≡ told numbers reply) × (after ≡ replied numbers reply)
+    → (n ≡ told row reply) × (after ≡ replied row reply)
+told-as reply e p = rw (← e) p
 
 -- stores from the front, one after another, put a row over the reply
 pub one-over : (reply : List ℕ) → replyRoom ≤ length reply → (a : ℕ) → set reply 0 a ≡ over (a ∷ []) reply

@@ -1,8 +1,10 @@
 -- The row of each call, in document 01's numbers: what it writes at the front of the reply.
 use Prim.Native.Nat.{ℕ, _+_, _*_}
+use mathlib.Core.Bool.{cond}
 use mathlib.Core.List.{List, [], _∷_}
+use lib.Dec.{eqb}
 use lib.IntN.{ℤ}
-use lib.ListN.{length}
+use lib.ListN.{length, getD, take, drop}
 use Rattle.program.specs.Asking.{validityNumbers}
 use Rattle.program.specs.Drawing.{drawn, drawnNumbers}
 use Rattle.program.specs.File.{nameCount}
@@ -66,6 +68,13 @@ offendingBy names (Accepted mark) = 0 ∷ 0 ∷ 0 ∷ []
 
 unfoldable pub offended : List ℕ → List ℕ → List ℕ → List ℕ
 offended s initial solution = offendingBy (nameCount s) (verdict s initial solution)
+
+-- the part of the lists that such a row names: of the start list for 1, of the sheet for 2
+unfoldable pub listNamed : List ℕ → List ℕ → ℕ → List ℕ
+listNamed initial solution n = cond (eqb n 1) initial (cond (eqb n 2) solution [])
+
+unfoldable pub partNamed : List ℕ → List ℕ → List ℕ → List ℕ
+partNamed initial solution row = take (getD row 2 0) (drop (getD row 1 0) (listNamed initial solution (getD row 0 0)))
 
 -- the index mark of a sheet by itself
 unfoldable pub marked : List ℕ → List ℕ → List ℕ

@@ -2,8 +2,8 @@
 
 pub mod files;
 pub(crate) mod reply;
-pub(crate) mod rows;
 pub mod sheets;
+pub mod solver;
 pub mod steps;
 
 // A row of numbers for a reply.

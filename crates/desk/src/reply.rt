@@ -1,17 +1,19 @@
 // Writing a row into the reply that a caller lends.
 
 ghost use mathlib.Core.Path.{_≡_};
-ghost use Prim.Native.Nat.{_≤_};
-ghost use lib.ListN.{length};
-ghost use Rattle.program.specs.Drawing.{over};
 ghost use Rattle.desk.specs.Reply as spec;
 use crate::Row;
 
-// The row at the front of a reply that has room; returns how many numbers that is.
+// The numbers of the longest row: a reply that does not hold so many is too short for any.
+pub(crate) const REPLY: usize = 4;
+
+// The row at the front of a reply, unless that is too short; returns how many numbers were written.
 pub(crate) fn put(row: Row, reply: &mut [u32]) -> u32
-    requires { ⌜ spec.replyRoom ≤ length (now reply) ⌝ }
-    ensures { λ r. ⌜ (r ≡ length (spec.rowNumbers row)) × (now (reply .exit) ≡ over (spec.rowNumbers row) (now (reply .entry))) ⌝ }
+    ensures { λ r. ⌜ (r ≡ spec.told (spec.rowNumbers row) (now (reply .entry))) × (now (reply .exit) ≡ spec.replied (spec.rowNumbers row) (now (reply .entry))) ⌝ }
 {
+    if reply.len() < REPLY {
+        return 0;
+    }
     match row {
         Row::One(a) => {
             reply[0] = a;

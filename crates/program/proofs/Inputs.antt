@@ -9,7 +9,7 @@ use lib.ListN.{length, getD, take, drop, length-drop}
 use lib.Seq.{length-take-le, getD-take}
 use borrow.Author.Tests.{leb-true, eqb-true, eq-eqb}
 use Rattle.program.specs.Asking.{ask, thenAsk, inTurn}
-use Rattle.program.specs.File.{byteAt, wordAt, namesField, tableField, programFields, initialField, headFound, headAt, placeAfter, fieldStart, fieldHead, headSpan, headContent, layoutOf, spanOf, nameCount, nameOffset, sizeAt, sizes, entryCount, tableStart, entryOffset, entryAt, entry}
+use Rattle.program.specs.File.{byteAt, wordAt, namesField, tableField, programFields, initialField, headFound, headAt, afterHead, placeAfter, fieldStart, fieldHead, headSpan, headContent, layoutOf, spanOf, nameCount, nameOffset, sizeAt, sizes, entryCount, tableStart, entryOffset, entryAt, entry}
 use Rattle.program.specs.Questions.{wholeEntries, headValidity, headsValidity, endValidity, contentValidity, validity, inputValidity, programPart, initialPart}
 use Rattle.program.specs.declared.Field.{Field}
 use Rattle.program.specs.declared.Layout.{Layout}
@@ -18,7 +18,7 @@ use Rattle.program.specs.declared.Table.{Table}
 use Rattle.program.specs.declared.Table.the-variants.{Arithmetic, Boolean, Commands}
 use Rattle.program.specs.declared.Validity.the-variants.{Fit}
 use Rattle.program.proofs.Agreeing.{Agree, same-names, same-sizes, same-content}
-use Rattle.program.proofs.Asking.{turn-fit}
+use Rattle.program.proofs.Asking.{ask-fit, turn-fit}
 use Rattle.program.proofs.Fit.{counts-allowed}
 use Rattle.program.proofs.Heads.{Whole, whole, ends-earlier, field-fit, next-start, ends-before, end-inside, field-span}
 use Rattle.program.proofs.Reading.{head-there}
@@ -153,7 +153,7 @@ module _ (s : List ℕ) (fit : inputValidity s ≡ Fit) where
   pub initial-records : length (initialPart s) ≡ length (initialPart s) / nameCount (programPart s) * nameCount (programPart s)
   initial-records = omega (arith, div-add-mod' (length (initialPart s)) (nameCount (programPart s)), initial-whole)
 
-  -- the parts of the input, one after the other with a head of three bytes between them
+  -- the parts of the input, one after the other with a head of three bytes between them, and nothing else
   pub program-there : take (length (programPart s)) s ≡ programPart s
   unfolding programPart
   program-there = rw (part-length s heads)
@@ -161,3 +161,10 @@ module _ (s : List ℕ) (fit : inputValidity s ≡ Fit) where
   pub initial-there : take (length (initialPart s)) (drop (length (programPart s) + 3) s) ≡ initialPart s
   unfolding initialPart fieldHead headContent headFound
   initial-there = rw (initial-length, part-length s heads, initial-field .found)
+
+  pub parts-fill : length (programPart s) + 3 + length (initialPart s) ≡ length s
+  unfolding inputValidity endValidity placeAfter afterHead headFound
+  parts-fill =
+      let end : fieldStart s 5 ≡ length s = eqb-true _ _ (ask-fit _ 5 _ (turn-fit _ 2 fit)) in
+      let next : fieldStart s 5 ≡ fieldStart s 4 + 3 + wordAt s (fieldStart s 4 + 1) = rw (initial-field .found) in
+      omega (arith, part-length s heads, initial-length)

@@ -408,12 +408,15 @@ module _ (s : List ℕ) (fit : inputValidity s ≡ Fit) where
   pub initial-few : length (initialPart s) / nameCount (programPart s) ≤ 512
   initial-few = Inputs.initial-few s fit
 
-  -- the parts of the input, one after the other with a head of three bytes between them
+  -- the parts of the input, one after the other with a head of three bytes between them, and nothing else
   pub program-there : take (length (programPart s)) s ≡ programPart s
   program-there = Inputs.program-there s fit
 
   pub initial-there : take (length (initialPart s)) (drop (length (programPart s) + 3) s) ≡ initialPart s
   initial-there = Inputs.initial-there s fit
+
+  pub parts-fill : length (programPart s) + 3 + length (initialPart s) ≡ length s
+  parts-fill = Inputs.parts-fill s fit
 
 -- ---- The edges of a node
 

@@ -1,6 +1,6 @@
 -- `files::parts_row`: by the answer's cases. The parts of a fit input are short.
 use borrow.Author.Needs.{needs}
-use mathlib.Core.Path.{ap, sym, _∙_}
+use mathlib.Core.Path.{sym, _∙_}
 use native.Mathlib.Omega.{arith}
 use Rattle.desk.specs.Reply.{rowNumbers}
 use Rattle.desk.specs.Rows.{partsBy, parts}
