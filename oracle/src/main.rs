@@ -6,13 +6,7 @@
 //! The repository is the folder that the environment variable REPOSITORY names, or the current one. The engine's programs are those of its target/bin, or of
 //! the folder that ENGINE names.
 
-mod answers;
-mod language;
-mod making;
-mod stored;
-mod tally;
-mod trial;
-
+use oracle::{stored, trial};
 use std::env;
 use std::path::{Path, PathBuf};
 use std::process::ExitCode;

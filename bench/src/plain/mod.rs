@@ -7,7 +7,7 @@ mod graph;
 mod running;
 mod sheets;
 
-pub use file::{validate, Refusal};
+pub use file::validate;
 pub use graph::draw;
 pub use running::{run, step};
 pub use sheets::{judge, solve, split};

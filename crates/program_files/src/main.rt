@@ -74,21 +74,6 @@ fn answer_edges(s: &[u8]) {
     print_edges(&edges, d.edges);
 }
 
-// A checksum's next state.
-fn mix(sum: u64, x: u64) -> u64 {
-    (sum % 65521 * 31 + x % 65536) % 65521
-}
-
-fn mix_bytes(bytes: &[u8]) -> u64 {
-    let mut sum: u64 = 1;
-    let mut i: usize = 0;
-    while i < bytes.len() {
-        sum = mix(sum, wide(bytes[i]));
-        i += 1;
-    }
-    sum
-}
-
 fn draw_front(s: &[u8], buffer: &mut [u8], room: usize) -> Drawn {
     if room <= buffer.len() {
         drawing::draw(s, &mut buffer[..room])
@@ -103,7 +88,7 @@ fn answer_sum(s: &[u8], room: usize) {
     let d = draw_front(s, &mut buffer, room);
     print_drawn(d);
     printing::text(b" sum ");
-    printing::number(mix_bytes(&buffer));
+    printing::number(cases::mix_bytes(&buffer));
     printing::text(b"\n");
 }
 
@@ -118,10 +103,10 @@ fn answer_input(s: &[u8]) {
 }
 
 fn mix_entry(sum: u64, e: Entry) -> u64 {
-    let kind = mix(sum, wide(e.kind));
-    let p = mix(kind, wide_word(e.p));
-    let q = mix(p, wide_word(e.q));
-    mix(q, wide_word(e.r))
+    let kind = cases::mix(sum, wide(e.kind));
+    let p = cases::mix(kind, wide_word(e.p));
+    let q = cases::mix(p, wide_word(e.q));
+    cases::mix(q, wide_word(e.r))
 }
 
 fn mix_table(sum: u64, s: &[u8], table: Table) -> u64 {
@@ -140,8 +125,8 @@ fn mix_names(s: &[u8]) -> u64 {
     let mut mixed: u64 = 1;
     let mut i: u16 = 0;
     while i < count {
-        mixed = mix(mixed, wide_word(file::size_at(s, i)));
-        mixed = mix(mixed, file::first_cell(s, i) as u64);
+        mixed = cases::mix(mixed, wide_word(file::size_at(s, i)));
+        mixed = cases::mix(mixed, file::first_cell(s, i) as u64);
         i += 1;
     }
     mixed
@@ -178,7 +163,7 @@ fn answer_readings(s: &[u8]) {
 fn print_part(bytes: &[u8]) {
     printing::place(bytes.len());
     printing::text(b" sum ");
-    printing::number(mix_bytes(bytes));
+    printing::number(cases::mix_bytes(bytes));
 }
 
 fn print_parts(s: &[u8]) {

@@ -2,7 +2,7 @@
 //!
 //! A record of `files.bin`: mode (1 byte), room (2), length of the title (1), length of the file (2), title, file.
 
-use super::{counted, Case, Told, FILLED};
+use super::{checksum, counted, mix, Case, Told, FILLED};
 use crate::language::*;
 
 #[derive(Clone, Copy)]
@@ -70,15 +70,6 @@ impl Mode {
         };
         fine.to_string()
     }
-}
-
-/// A checksum's next state, of numbers of 16 bits.
-fn mix(sum: u64, x: u64) -> u64 {
-    (sum % 65521 * 31 + x % 65536) % 65521
-}
-
-fn checksum(bytes: &[u8]) -> u64 {
-    bytes.iter().fold(1, |sum, &x| mix(sum, u64::from(x)))
 }
 
 fn counts(graph: &Graph) -> String {

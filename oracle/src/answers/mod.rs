@@ -47,3 +47,7 @@ const FILLED: u8 = 170;
 fn mix(sum: u64, x: u64) -> u64 {
     (sum % 4294967311 * 1000003 + x % 4294967296) % 4294967311
 }
+
+fn checksum(bytes: &[u8]) -> u64 {
+    bytes.iter().fold(1, |sum, &x| mix(sum, u64::from(x)))
+}

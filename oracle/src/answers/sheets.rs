@@ -4,7 +4,7 @@
 //! chunks the start list has and how many the sheet has (1 each); then title, chunks of the start list, chunks of the sheet, further numbers, file.
 
 use super::runs::outcome;
-use super::{counted, mix, spaced, Case, Told, FILLED};
+use super::{checksum, counted, spaced, Case, Told, FILLED};
 use crate::language::*;
 use std::collections::HashSet;
 
@@ -150,10 +150,6 @@ pub fn shown(sheet: &[u8], width: usize) -> String {
         return String::new();
     }
     sheet.chunks(width).map(|record| format!(";{}", spaced(record))).collect()
-}
-
-fn checksum(bytes: &[u8]) -> u64 {
-    bytes.iter().fold(1, |sum, &x| mix(sum, u64::from(x)))
 }
 
 /// How wide a sheet's record is. Those of a file that is refused have no width, but none is written then.
