@@ -6,3 +6,5 @@ pub mod Parts
 pub mod Acceptance
 pub mod Offending
 pub mod Laws
+pub mod Open
+pub mod Examples
