@@ -6,8 +6,8 @@
  * is proved: each function's contract is an equation for its return value and for every buffer (crates/desk/src).
  *
  * A slice is a pointer and a number of elements. The pointer must not be NULL, also where the number is 0, and must be aligned
- * for its element. A slice that is written (a pointer without const) must not overlap another slice of the same call. A call takes up
- * to about 250 KB of stack.
+ * for its element. A slice that is written (a pointer without const) must not overlap another slice of the same call. On the largest
+ * programs a call takes some 130 KB of stack (measured, not proved): a thread that makes it should have 256 KB.
  *
  * THE REPLY. Every call writes its answer as a row of numbers at the front of `reply`, leaves the rest of `reply` alone, and
  * returns how many numbers the row has, 1 to 4. A reply of fewer than PIZWOTER_REPLY (4) numbers is too short: the call then returns 0

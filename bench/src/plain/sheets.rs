@@ -224,7 +224,7 @@ impl Analysis {
 }
 
 fn is_whole(list: &[u8], width: usize) -> bool {
-    list.len() % width == 0 && list.len() / width <= 4096
+    list.len().is_multiple_of(width) && list.len() / width <= 4096
 }
 
 /// The verdict in document 01's numbers, as the engine's row has them.

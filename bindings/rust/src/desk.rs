@@ -9,15 +9,60 @@ extern "C" {
     fn pizwoter_input_parts(input: *const u8, input_length: usize, reply: *mut u32, reply_length: usize) -> u32;
     fn pizwoter_draw(program: *const u8, program_length: usize, buffer: *mut u8, buffer_length: usize, reply: *mut u32, reply_length: usize) -> u32;
     #[rustfmt::skip]
-    fn pizwoter_step(program: *const u8, program_length: usize, node: u16, count: u16, arrow: u16, memory: *mut i32, memory_length: usize, reply: *mut u32, reply_length: usize) -> u32;
-    fn pizwoter_run(program: *const u8, program_length: usize, budget: u16, memory: *mut i32, memory_length: usize, reply: *mut u32, reply_length: usize) -> u32;
+    fn pizwoter_step(
+        program: *const u8,
+        program_length: usize,
+        node: u16,
+        count: u16,
+        arrow: u16,
+        memory: *mut i32,
+        memory_length: usize,
+        reply: *mut u32,
+        reply_length: usize,
+    ) -> u32;
+    fn pizwoter_run(
+        program: *const u8,
+        program_length: usize,
+        budget: u16,
+        memory: *mut i32,
+        memory_length: usize,
+        reply: *mut u32,
+        reply_length: usize,
+    ) -> u32;
     #[rustfmt::skip]
-    fn pizwoter_judge(program: *const u8, program_length: usize, start: *const u8, start_length: usize, sheet: *const u8, sheet_length: usize, reply: *mut u32, reply_length: usize) -> u32;
+    fn pizwoter_judge(
+        program: *const u8,
+        program_length: usize,
+        start: *const u8,
+        start_length: usize,
+        sheet: *const u8,
+        sheet_length: usize,
+        reply: *mut u32,
+        reply_length: usize,
+    ) -> u32;
     #[rustfmt::skip]
-    fn pizwoter_offending(program: *const u8, program_length: usize, start: *const u8, start_length: usize, sheet: *const u8, sheet_length: usize, reply: *mut u32, reply_length: usize) -> u32;
+    fn pizwoter_offending(
+        program: *const u8,
+        program_length: usize,
+        start: *const u8,
+        start_length: usize,
+        sheet: *const u8,
+        sheet_length: usize,
+        reply: *mut u32,
+        reply_length: usize,
+    ) -> u32;
     fn pizwoter_index_mark(program: *const u8, program_length: usize, sheet: *const u8, sheet_length: usize, reply: *mut u32, reply_length: usize) -> u32;
     #[rustfmt::skip]
-    fn pizwoter_solve(program: *const u8, program_length: usize, start: *const u8, start_length: usize, buffer: *mut u8, buffer_length: usize, reply: *mut u32, reply_length: usize) -> u32;
+    fn pizwoter_solve(
+        program: *const u8,
+        program_length: usize,
+        start: *const u8,
+        start_length: usize,
+        buffer: *mut u8,
+        buffer_length: usize,
+        reply: *mut u32,
+        reply_length: usize,
+    ) -> u32;
     fn pizwoter_split(program: *const u8, program_length: usize, place: u32, reply: *mut u32, reply_length: usize) -> u32;
 }
 
@@ -81,7 +126,9 @@ pub fn index_mark(program: &[u8], sheet: &[u8]) -> Row {
 }
 
 pub fn solve(program: &[u8], start: &[u8], buffer: &mut [u8]) -> Row {
-    replied(|reply, room| unsafe { pizwoter_solve(program.as_ptr(), program.len(), start.as_ptr(), start.len(), buffer.as_mut_ptr(), buffer.len(), reply, room) })
+    replied(|reply, room| unsafe {
+        pizwoter_solve(program.as_ptr(), program.len(), start.as_ptr(), start.len(), buffer.as_mut_ptr(), buffer.len(), reply, room)
+    })
 }
 
 pub fn split(program: &[u8], place: u32) -> Row {

@@ -133,9 +133,14 @@ pub enum Mark {
 #[derive(Clone, Copy, Debug, PartialEq, Eq)]
 pub enum Verdict {
     /// 41: that record of the start list is missing at node 0.
-    StartMissing { record: usize },
+    StartMissing {
+        record: usize,
+    },
     /// 42: a result of that arrow from that record of the sheet is missing at the arrow's target.
-    ResultMissing { record: usize, arrow: usize },
+    ResultMissing {
+        record: usize,
+        arrow: usize,
+    },
     Accepted(Mark),
 }
 
@@ -144,7 +149,9 @@ pub enum Verdict {
 pub enum Unsolved {
     Refused(Refusal),
     /// 18: there was no room for the next record. The buffer holds so many leading ones.
-    NoRoom { records: usize },
+    NoRoom {
+        records: usize,
+    },
 }
 
 /// The two parts of the sheet program's input.

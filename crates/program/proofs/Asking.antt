@@ -61,6 +61,10 @@ unfolding isRefused
 not-refused Fit r i f = refl
 not-refused (Refused x) r i f = absurd (false≢true (sym f ∙ i))
 
+pub stopped {ℓ} : {A : Type ℓ} {a v : Validity} {r : Bool} → v ≡ a → r ≡ isRefused v → r ≡ true → a ≡ Fit → A
+unfolding isRefused
+stopped e i t fit = absurd (false≢true (sym (i ∙ ap isRefused (e ∙ fit)) ∙ t))
+
 -- the same in two steps: a question that was answered yes, and one more that is asked after it
 pub answered : {a v : Validity} {r : Bool} → v ≡ a → r ≡ isRefused v → r ≡ false → a ≡ Fit
 answered {v = v} {r = r} e i f = sym e ∙ not-refused v r i f

@@ -8,15 +8,16 @@ use native.Mathlib.Decide.{ℕ-discrete}
 use native.Mathlib.Omega.{arith}
 use borrow.Author.Tests.{eq-eqb, ne-eqb}
 use lib.Dec.{eqb}
-use lib.ListN.{length, getD, set, length-set}
+use lib.ListN.{length, getD, set, length-set, replicate}
 use lib.Seq.{getD-set-same, getD-set-other}
 use Rattle.program.specs.Asking.{ask}
 use Rattle.program.specs.Counting.{capacity, slot, Counted, UsesIn}
-use Rattle.program.specs.File.{tableField, entryOffset}
-use Rattle.program.specs.Questions.{sameTable, toBeUsed, uses, useValidity}
+use Rattle.program.specs.File.{tableField, entryOffset, entryCount}
+use Rattle.program.specs.Questions.{sameTable, toBeUsed, uses, tableUses, useValidity}
 use Rattle.program.specs.declared.Table.{Table}
 use Rattle.program.specs.declared.Table.the-variants.{Arithmetic, Boolean, Commands}
 use Rattle.program.specs.declared.Validity.{Validity}
+use Rattle.program.proofs.Lists.{getD-same}
 
 -- nothing counted
 pub counted-none : (a : List ℕ) (f : Table → ℕ → ℕ) → ((u : Table) (n : ℕ) → n < capacity u → f u n ≡ 0) → Counted a a f
@@ -28,6 +29,19 @@ counted-then a b c f g p q =
     record {
       same-length = q .same-length ∙ p .same-length;
       counts = λ u n h few. omega (arith, p .counts u n h few, q .counts u n h (omega (arith, p .counts u n h few)));
+    }
+
+-- the operands of the three tables counted one after the other, from nothing
+pub counted-all : (s a b c : List ℕ) →
+    Counted (replicate 1024 0) a (λ u n. tableUses s u n Arithmetic (entryCount s Arithmetic)) →
+    Counted a b (λ u n. tableUses s u n Boolean (entryCount s Boolean)) →
+    Counted b c (λ u n. tableUses s u n Commands (entryCount s Commands)) → UsesIn s c
+unfolding uses
+counted-all s a b c p q r =
+    let counted = counted-then _ _ _ _ _ (counted-then _ _ _ _ _ p q) r in
+    record {
+      room = counted .same-length;
+      each = λ u n h. omega (arith, counted .counts u n h (omega (arith, getD-same {A = ℕ} 1024 0 (slot u n))), getD-same {A = ℕ} 1024 0 (slot u n));
     }
 
 -- two entries have one slot only where they are the same

@@ -4,6 +4,7 @@ ghost use mathlib.Core.Path.{_≡_};
 ghost use Prim.Native.Nat.{_<_};
 ghost use lib.ListN.{length, take, drop};
 ghost use mathlib.Core.Bool.{_&&_, cond};
+ghost use mathlib.Core.List.{[], _∷_};
 ghost use lib.Dec.{leb};
 ghost use Rattle.program.specs.Questions as spec;
 ghost use Rattle.program.specs.Asking;
@@ -277,10 +278,12 @@ fn check_entry(s: &[u8], l: Layout, table: Table, start: usize, n: u16) -> Valid
     }
 }
 
-// Questions 7 to 9 of a table's entries.
-fn check_table(s: &[u8], l: Layout, table: Table) -> Validity
-    requires { ⌜ File.LaidOut (now s) l ⌝ }
-    ensures { λ r. ⌜ r ≡ spec.tableValidity (now (s .entry)) table ⌝ }
+// Questions 7 to 9 of a table's entries. Where they are answered yes, the operands of all are counted, for question 10: one pass serves both.
+fn check_table(s: &[u8], l: Layout, table: Table, uses: &mut [u8]) -> Validity
+    requires { ⌜ File.LaidOut (now s) l × (length (now uses) ≡ 1024) ⌝ }
+    ensures { λ r. ⌜ (r ≡ spec.tableValidity (now (s .entry)) table) × (length (now (uses .exit)) ≡ 1024)
+        × (spec.tableValidity (now (s .entry)) table ≡ Validity.Fit
+        → Counting.Counted (now (uses .entry)) (now (uses .exit)) (λ u n. spec.tableUses (now (s .entry)) u n table (File.entryCount (now (s .entry)) table))) ⌝ }
 {
     let span = file::span_of(l, table);
     let start = span.start;
@@ -291,6 +294,7 @@ fn check_table(s: &[u8], l: Layout, table: Table) -> Validity
         if refused(v) {
             return v;
         }
+        uses::count_entry(s, table, start, n, uses);
         n += 1;
     }
     Validity::Fit
@@ -343,24 +347,49 @@ fn check_last(s: &[u8], l: Layout) -> Validity
 }
 
 // Questions 10 and 11.
-fn check_all_uses(s: &[u8], l: Layout) -> Validity
-    requires { ⌜ File.LaidOut (now s) l ⌝ }
+fn check_all_uses(s: &[u8], l: Layout, counts: &[u8]) -> Validity
+    requires { ⌜ File.LaidOut (now s) l × Counting.UsesIn (now s) (now counts) ⌝ }
     ensures { λ r. ⌜ r ≡ spec.usesValidity (now (s .entry)) ⌝ }
 {
-    let counts = uses::count_all(s);
-    let arithmetic = check_uses(s, l, Table::Arithmetic, &counts);
+    let arithmetic = check_uses(s, l, Table::Arithmetic, counts);
     if refused(arithmetic) {
         return arithmetic;
     }
-    let boolean = check_uses(s, l, Table::Boolean, &counts);
+    let boolean = check_uses(s, l, Table::Boolean, counts);
     if refused(boolean) {
         return boolean;
     }
-    let commands = check_uses(s, l, Table::Commands, &counts);
+    let commands = check_uses(s, l, Table::Commands, counts);
     if refused(commands) {
         return commands;
     }
     check_last(s, l)
+}
+
+// Questions 7 to 11.
+fn check_entries(s: &[u8], l: Layout) -> Validity
+    requires { ⌜ File.LaidOut (now s) l ⌝ }
+    ensures { λ r. ⌜ r ≡ Asking.inTurn
+        (spec.tableValidity (now (s .entry)) Table.Arithmetic
+        ∷ spec.tableValidity (now (s .entry)) Table.Boolean
+        ∷ spec.tableValidity (now (s .entry)) Table.Commands
+        ∷ spec.usesValidity (now (s .entry))
+        ∷ []) ⌝ }
+{
+    let mut uses = [0u8; 1024];
+    let arithmetic = check_table(s, l, Table::Arithmetic, &mut uses);
+    if refused(arithmetic) {
+        return arithmetic;
+    }
+    let boolean = check_table(s, l, Table::Boolean, &mut uses);
+    if refused(boolean) {
+        return boolean;
+    }
+    let commands = check_table(s, l, Table::Commands, &mut uses);
+    if refused(commands) {
+        return commands;
+    }
+    check_all_uses(s, l, &uses)
 }
 
 // Questions 6 to 11, where questions 1 to 4 are answered yes.
@@ -374,19 +403,7 @@ fn check_content(s: &[u8]) -> Validity
     if refused(names) {
         return names;
     }
-    let arithmetic = check_table(s, l, Table::Arithmetic);
-    if refused(arithmetic) {
-        return arithmetic;
-    }
-    let boolean = check_table(s, l, Table::Boolean);
-    if refused(boolean) {
-        return boolean;
-    }
-    let commands = check_table(s, l, Table::Commands);
-    if refused(commands) {
-        return commands;
-    }
-    check_all_uses(s, l)
+    check_entries(s, l)
 }
 
 // Question 5, after `k` fields.

@@ -4,8 +4,8 @@ mod cases;
 mod compare;
 mod count;
 mod engine;
-mod kinds;
-mod needs;
+pub mod kinds;
+pub mod needs;
 mod progress;
 
 use cases::{Asked, Operation, Program, CONTAINED};

@@ -1,4 +1,4 @@
-// Question 10: how often each entry is used, counted in one pass over the tables.
+// Question 10: how often each entry is used.
 
 ghost use mathlib.Core.Path.{_≡_};
 ghost use Prim.Native.Nat.{_<_, _≤_, _+_, min};
@@ -7,7 +7,6 @@ ghost use Rattle.program.specs.Counting as spec;
 ghost use Rattle.program.specs.File;
 ghost use Rattle.program.specs.Questions;
 use crate::Entry;
-use crate::Layout;
 use crate::Role;
 use crate::Roles;
 use crate::Shape;
@@ -89,7 +88,7 @@ fn count_operands(uses: &mut [u8], roles: Roles, e: Entry)
 }
 
 // Counts the operands of entry `m` of the table that starts at `start`.
-fn count_entry(s: &[u8], table: Table, start: usize, m: u16, uses: &mut [u8])
+pub(super) fn count_entry(s: &[u8], table: Table, start: usize, m: u16, uses: &mut [u8])
     requires { ⌜ (start ≡ File.tableStart (now s) table) × (start ≤ length (now s)) × (length (now uses) ≡ 1024) ⌝ }
     ensures { λ _. ⌜ spec.Counted (now (uses .entry)) (now (uses .exit)) (λ u n. Questions.entryUses (now (s .entry)) u n table m) ⌝ }
 {
@@ -98,32 +97,4 @@ fn count_entry(s: &[u8], table: Table, start: usize, m: u16, uses: &mut [u8])
         Shape::Unknown => {}
         Shape::Known(roles) => count_operands(uses, roles, e),
     }
-}
-
-// Counts the operands of a table's entries.
-fn count_table(s: &[u8], l: Layout, table: Table, uses: &mut [u8])
-    requires { ⌜ (l ≡ File.layoutOf (now s)) × (length (now uses) ≡ 1024) ⌝ }
-    ensures { λ _. ⌜ spec.Counted (now (uses .entry)) (now (uses .exit))
-        (λ u n. Questions.tableUses (now (s .entry)) u n table (File.entryCount (now (s .entry)) table)) ⌝ }
-{
-    let span = file::span_of(l, table);
-    let start = span.start;
-    let count = span.count;
-    let mut m: u16 = 0;
-    while m < count {
-        count_entry(s, table, start, m, uses);
-        m += 1;
-    }
-}
-
-// Counts the operands of all entries.
-pub(super) fn count_all(s: &[u8]) -> [u8; 1024]
-    ensures { λ r. ⌜ spec.UsesIn (now (s .entry)) r ⌝ }
-{
-    let l = file::layout(s);
-    let mut uses = [0u8; 1024];
-    count_table(s, l, Table::Arithmetic, &mut uses);
-    count_table(s, l, Table::Boolean, &mut uses);
-    count_table(s, l, Table::Commands, &mut uses);
-    uses
 }

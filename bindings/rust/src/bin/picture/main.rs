@@ -47,7 +47,8 @@ fn picture(input: &[u8]) -> Result<String, String> {
 }
 
 fn drawn(graph: &Graph, notation: &Notation, sheet: &[u8], mark: Mark) -> String {
-    let mut text = String::from("digraph lesson {\n  rankdir=LR;\n  node [shape=box, style=rounded, fontname=\"monospace\"];\n  edge [fontname=\"monospace\"];\n");
+    let mut text =
+        String::from("digraph lesson {\n  rankdir=LR;\n  node [shape=box, style=rounded, fontname=\"monospace\"];\n  edge [fontname=\"monospace\"];\n");
     for node in 0..graph.nodes {
         text += &format!("  n{node} [label=\"{}\"{}];\n", node_label(node, notation, sheet), node_style(node));
     }

@@ -1,6 +1,5 @@
 -- `program::file::entry_at` meets its contract.
 use borrow.Author.Needs.{needs}
-use native.Mathlib.Omega.{arith}
 use Rattle.program.specs.File.{entryAt, byteAt}
 use Rattle.program.proofs.Reading.{entry-past}
 use Rattle.program.proofs.file.entry_at.Statement.{statement}

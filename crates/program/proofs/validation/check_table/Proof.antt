@@ -1,46 +1,66 @@
 -- `program::validation::check_table` meets its contract.
 use borrow.Author.Needs.{needs}
-use Prim.Native.Nat.{_≤_, _-_}
-use mathlib.Core.Path.{sym, refl, ap, _∙_, _≡_}
+use Prim.Native.Nat.{ℕ, _<_, _≤_, _-_}
+use mathlib.Core.Path.{sym, refl, ap, _∙_, _≡_, subst}
 use native.Mathlib.Numerals.{add-one}
 use native.Mathlib.Omega.{arith}
 use Rattle.program.specs.FirstSuch.{firstOf}
 use Rattle.program.specs.Asking.{askEach}
-use Rattle.program.specs.Questions.{tableValidity, entryValidity}
+use Rattle.program.specs.Counting.{Counted}
+use Rattle.program.specs.File.{entryCount}
+use Rattle.program.specs.Questions.{tableValidity, entryValidity, tableUses}
 use Rattle.program.specs.declared.Span.{Span}
 use Rattle.program.specs.declared.Validity.the-variants.{Fit}
-use Rattle.program.proofs.Asking.{each-stops, each-goes-on}
-use Rattle.program.proofs.Reading.{laid-count, laid-start}
+use Rattle.program.proofs.Asking.{each-stops, each-goes-on, stopped}
+use Rattle.program.proofs.Counting.{counted-none, counted-then}
+use Rattle.program.proofs.Reading.{laid-count, laid-start, table-inside}
 use Rattle.program.proofs.validation.check_table.Statement.{statement}
 use Rattle.program.proofs.validation.check_table.Tie as tie
 
 abbrev Inv-loop : tie.InvT-loop
-Inv-loop s l table start count n₀ n =
-    (n ≤ count) × (askEach n (entryValidity s table) ≡ Fit)
+Inv-loop s l table uses₀ start count n₀ uses n =
+    (n ≤ count) × (askEach n (entryValidity s table) ≡ Fit) × Counted uses₀ uses (λ u k. tableUses s u k table n)
 
 abbrev μ-loop : tie.MeasureT-loop
-μ-loop s l table start count n₀ n = count - n
+μ-loop s l table uses₀ start count n₀ uses n = count - n
 
 span-of-requires : tie.Need-span-of-requires Inv-loop μ-loop
 span-of-requires c κs = search needs
 
 loop-holds : tie.Need-loop-holds Inv-loop μ-loop
-unfolding askEach firstOf
-loop-holds c = (search needs, refl)
+unfolding askEach firstOf tableUses
+loop-holds c = (search needs, refl, counted-none _ _ (λ u n h. refl))
 
 check-entry-requires : tie.Need-check-entry-requires Inv-loop μ-loop
 check-entry-requires c κs =
-    (c .before .before .before .before .pre, ap (λ (x : Span). x .start) (c .before .before .span-of .ensures) ∙ laid-start _ _ (c .before .before .before .before .pre .same) (c .before .before .before .before .args .table))
+    let s = c .before .before .before .before .before in
+    (s .pre .0, ap (λ (x : Span). x .start) (c .before .before .span-of .ensures) ∙ laid-start _ _ (s .pre .0 .same) (s .args .table))
 
 refused-requires : tie.Need-refused-requires Inv-loop μ-loop
 refused-requires c κs = search needs
+
+same-length : tie.Need-same-length Inv-loop μ-loop
+same-length c = search needs
 
 returns : tie.Need-returns Inv-loop μ-loop
 unfolding tableValidity
 returns c =
     let l = c .before .before .before .before .loop in
-    let count = ap (λ (x : Span). x .count) (c .before .before .before .before .before .span-of .ensures) ∙ laid-count _ _ (c .before .before .before .before .before .before .before .pre .same) (c .before .before .before .before .before .before .before .args .table) in
-    each-stops _ _ (l .n) _ _ (omega arith) (l .inv .1) (c .before .before .check-entry .ensures) (c .before .refused .ensures) (c .if1 .taken)
+    let s = c .before .before .before .before .before .before .before .before in
+    let count : c .before .before .before .before .before .span-of .result .count ≡ entryCount (s .args .s .now) (s .args .table) =
+    ap (λ (x : Span). x .count) (c .before .before .before .before .before .span-of .ensures) ∙ laid-count _ _ (s .pre .0 .same) (s .args .table) in
+    let below : l .n < entryCount (s .args .s .now) (s .args .table) = omega arith in
+    let valid = each-stops _ (entryValidity (s .args .s .now) (s .args .table)) (l .n) _ _ below (l .inv .1) (c .before .before .check-entry .ensures) (c .before .refused .ensures) (c .if1 .taken) in
+    (valid, l .inv .2 .same-length ∙ s .pre .1, stopped valid (c .before .refused .ensures) (c .if1 .taken))
+
+count-entry-requires : tie.Need-count-entry-requires Inv-loop μ-loop
+count-entry-requires c κs =
+    let s = c .before .before .before .before .before .before .before .before .before in
+    let l = s .pre .0 .same in
+    let span = c .before .before .before .before .before .before .span-of .ensures in
+    let count = ap (λ (x : Span). x .count) span ∙ laid-count (s .args .s .now) _ l (s .args .table) in
+    let here = ap (λ (x : Span). x .start) span ∙ laid-start (s .args .s .now) _ l (s .args .table) in
+    (here, omega (arith, table-inside (s .args .s .now) (s .args .table) (omega arith)), c .before .before .before .before .before .loop .inv .2 .same-length ∙ s .pre .1)
 
 add-n : tie.Need-add-n Inv-loop μ-loop
 add-n c = search needs
@@ -49,15 +69,45 @@ loop-less : tie.Need-loop-less Inv-loop μ-loop
 loop-less c = search needs
 
 loop-again : tie.Need-loop-again Inv-loop μ-loop
+unfolding tableUses
 loop-again c =
-    let l = c .before .before .before .before .loop in
-    (search needs, rw add-one (each-goes-on _ (l .n) _ _ (l .inv .1) (c .before .before .check-entry .ensures) (c .before .refused .ensures) (c .if1 .left)))
+    let l = c .before .before .before .before .before .before .before .before .loop in (
+      search needs,
+      rw add-one (each-goes-on _ (l .n) _ _ (l .inv .1) (c .before .before .before .before .before .before .check-entry .ensures) (c .before .before .before .before .before .refused .ensures) (c .before .before .before .before .if1 .left)),
+      simp add-one (counted-then _ _ _ _ _ (l .inv .2) (c .before .before .count-entry .ensures)),
+    )
+
+same-length-2 : tie.Need-same-length-2 Inv-loop μ-loop
+same-length-2 c = search needs
 
 returns-2 : tie.Need-returns-2 Inv-loop μ-loop
 unfolding tableValidity
 returns-2 c =
-    let count = ap (λ (x : Span). x .count) (c .before .before .span-of .ensures) ∙ laid-count _ _ (c .before .before .before .before .pre .same) (c .before .before .before .before .args .table) in
-    sym (ap (λ n. askEach n (entryValidity (c .before .before .before .before .args .s .now) (c .before .before .before .before .args .table))) (omega arith) ∙ c .before .loop .inv .1)
+    let l = c .before .loop in
+    let s = c .before .before .before .before .before in
+    let count = ap (λ (x : Span). x .count) (c .before .before .span-of .ensures) ∙ laid-count _ _ (s .pre .0 .same) (s .args .table) in
+    let all : l .n ≡ entryCount (s .args .s .now) (s .args .table) = omega arith in
+    let valid = ap (λ n. askEach n (entryValidity (s .args .s .now) (s .args .table))) (sym all) ∙ l .inv .1 in (
+      sym valid,
+      l .inv .2 .same-length ∙ s .pre .1,
+      λ fit. subst (λ (k : ℕ). Counted (s .args .uses .now) (l .uses) (λ u n. tableUses (s .args .s .now) u n (s .args .table) k)) all (l .inv .2),
+    )
 
 pub check-table-spec : {M : Type 1} → statement M
-check-table-spec = tie.close (tie.spec Inv-loop μ-loop span-of-requires loop-holds check-entry-requires refused-requires returns add-n loop-less loop-again returns-2)
+check-table-spec =
+    tie.close
+    (tie.spec
+    Inv-loop
+    μ-loop
+    span-of-requires
+    loop-holds
+    check-entry-requires
+    refused-requires
+    same-length
+    returns
+    count-entry-requires
+    add-n
+    loop-less
+    loop-again
+    same-length-2
+    returns-2)
