@@ -57,15 +57,23 @@ fn put_table(s: &[u8], l: Layout, table: Table, out: &mut [u16])
     }
 }
 
-// The entries of the three tables, four numbers for each slot.
+// The entries of the three tables, four numbers for each slot, over whatever was in an array.
+pub fn put_entries(s: &[u8], out: &mut [u16; 4096])
+    ensures { λ _. ⌜ now (out .exit) ≡ spec.decodedEntries (now (s .entry)) ⌝ }
+{
+    *out = [0u16; 4096];
+    let l = file::layout(s);
+    put_table(s, l, Table::Arithmetic, out);
+    put_table(s, l, Table::Boolean, out);
+    put_table(s, l, Table::Commands, out);
+}
+
+// The same as an array.
 pub fn entries(s: &[u8]) -> [u16; 4096]
     ensures { λ r. ⌜ r ≡ spec.decodedEntries (now (s .entry)) ⌝ }
 {
-    let l = file::layout(s);
     let mut out = [0u16; 4096];
-    put_table(s, l, Table::Arithmetic, &mut out);
-    put_table(s, l, Table::Boolean, &mut out);
-    put_table(s, l, Table::Commands, &mut out);
+    put_entries(s, &mut out);
     out
 }
 

@@ -144,11 +144,13 @@ fn run_drawn(program: &[u8], edges: &[u8], count: u16, budget: u16, memory: &mut
     requires { ⌜ Running.Runnable (now program) (now edges) count (now memory) ⌝ }
     ensures { λ r. ⌜ Running.EndsAs (spec.runFrom budget (File.sizes (now (program .entry))) (Graph.graph (now (program .entry))) (Step.begun (now (memory .entry)))) (now (memory .exit)) r ⌝ }
 {
-    let entries = decoding::entries(program);
+    let mut entries = [0u16; 4096];
+    decoding::put_entries(program, &mut entries);
     let sizes = decoding::name_sizes(program);
     let cells = decoding::name_cells(program);
     let links = adjacency::links(edges, count);
-    let mut local = stepping::copied(memory);
+    let mut local = [0i32; 512];
+    stepping::copy_in(memory, &mut local);
     let ended = run_decoded(
         &entries,
         &cells,

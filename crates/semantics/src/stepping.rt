@@ -28,18 +28,17 @@ fn least(a: usize, b: usize) -> usize
     if a < b { a } else { b }
 }
 
-// A memory's first 512 cells, and zeros after the last.
-pub(crate) fn copied(memory: &[i32]) -> [i32; 512]
-    ensures { λ r. ⌜ r ≡ Cells.front 512 (now (memory .entry)) ⌝ }
+// A memory's first 512 cells, and zeros after the last, over whatever was in an array.
+pub(crate) fn copy_in(memory: &[i32], cells: &mut [i32; 512])
+    ensures { λ _. ⌜ now (cells .exit) ≡ Cells.front 512 (now (memory .entry)) ⌝ }
 {
+    *cells = [0i32; 512];
     let end = least(memory.len(), 512);
-    let mut cells = [0i32; 512];
     let mut i: usize = 0;
     while i < end {
         cells[i] = memory[i];
         i += 1;
     }
-    cells
 }
 
 // Whether an edge of a drawn graph exists and leaves a node.
@@ -144,10 +143,12 @@ fn edge_effect(
     requires { ⌜ Stepping.Able (now program) (now edges) nodes count edge (now memory) ⌝ }
     ensures { λ r. ⌜ r ≡ spec.edgeEffect (File.sizes (now (program .entry))) (Graph.graph (now (program .entry))) (now (memory .entry)) edge ⌝ }
 {
-    let entries = decoding::entries(program);
+    let mut entries = [0u16; 4096];
+    decoding::put_entries(program, &mut entries);
     let sizes = decoding::name_sizes(program);
     let cells = decoding::name_cells(program);
-    let local = copied(memory);
+    let mut local = [0i32; 512];
+    copy_in(memory, &mut local);
     let e = drawing::edge_at(edges, edge);
     action::effect(&entries, &cells, &sizes, &local, e.kind, e.entry)
 }

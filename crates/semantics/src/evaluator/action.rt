@@ -142,8 +142,8 @@ fn element_stored(
     ensures { λ r. ⌜ ((k : ℕ) → code.EffectIn (now (sizes .entry)) (now (cells .entry)) (now (memory .entry))
         (perform (syntax.store k x (arithAt (decodedEntry (now (entries .entry))) i) (arithAt (decodedEntry (now (entries .entry))) a))) r) ⌝ }
 {
-    let v = arithmetic::value(entries, cells, sizes, memory, 512, i);
-    let w = arithmetic::value(entries, cells, sizes, memory, 512, a);
+    let v = arithmetic::operand(entries, cells, sizes, memory, 512, i);
+    let w = arithmetic::operand(entries, cells, sizes, memory, 512, a);
     store_to(cells, sizes, x, v, w)
 }
 

@@ -27,8 +27,8 @@ fn comparison(
     ensures { λ r. ⌜ ((k : ℕ) → TruthIn (now (sizes .entry)) (now (cells .entry)) (now (memory .entry))
         (syntax.comparison k o (arithAt (decodedEntry (now (entries .entry))) p) (arithAt (decodedEntry (now (entries .entry))) q)) r) ⌝ }
 {
-    let a = arithmetic::value(entries, cells, sizes, memory, 512, p);
-    let b = arithmetic::value(entries, cells, sizes, memory, 512, q);
+    let a = arithmetic::operand(entries, cells, sizes, memory, 512, p);
+    let b = arithmetic::operand(entries, cells, sizes, memory, 512, q);
     compare(o, a, b)
 }
 

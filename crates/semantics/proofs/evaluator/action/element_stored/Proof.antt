@@ -15,8 +15,8 @@ returns c =
     let v = w .before in
     let s = v .before in
     rw (arith-any (s .args .entries .now) (s .args .i), arith-any (s .args .entries .now) (s .args .a))
-    (λ k. store-effect k (s .args .x) (v .value .ensures) (w .value2 .ensures)
-    (rw (handed (v .value .result) (v .value .ok), handed (w .value2 .result) (w .value2 .ok)) at (c .store-to .ensures)))
+    (λ k. store-effect k (s .args .x) (v .operand .ensures) (w .operand2 .ensures)
+    (rw (handed (v .operand .result) (v .operand .ok), handed (w .operand2 .result) (w .operand2 .ok)) at (c .store-to .ensures)))
 
 pub element-stored-spec : {M : Type 1} → statement M
 element-stored-spec = tie.close (tie.spec (λ c κs. tt) (λ c κs. tt) store-to-requires returns)

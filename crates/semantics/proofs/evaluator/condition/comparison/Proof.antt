@@ -15,8 +15,8 @@ returns c =
     let a = b .before in
     let s = a .before in
     rw (handed (c .compare .result) (c .compare .ok), arith-any (s .args .entries .now) (s .args .p), arith-any (s .args .entries .now) (s .args .q))
-    (λ k. comparison-holds k (s .args .o) (a .value .ensures) (b .value2 .ensures)
-    (rw (handed (a .value .result) (a .value .ok), handed (b .value2 .result) (b .value2 .ok)) at (c .compare .ensures)))
+    (λ k. comparison-holds k (s .args .o) (a .operand .ensures) (b .operand2 .ensures)
+    (rw (handed (a .operand .result) (a .operand .ok), handed (b .operand2 .result) (b .operand2 .ok)) at (c .compare .ensures)))
 
 pub comparison-spec : {M : Type 1} → statement M
 comparison-spec = tie.close (tie.spec (λ c κs. tt) (λ c κs. tt) compare-requires returns)
