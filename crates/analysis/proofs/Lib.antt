@@ -1,6 +1,7 @@
 pub mod Open
 pub mod Tabulated
 pub mod Laid
+pub mod Padding
 pub mod Searching
 pub mod Judged
 pub mod Values

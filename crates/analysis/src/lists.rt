@@ -9,6 +9,7 @@ ghost use Rattle.program.specs.Graph;
 ghost use Rattle.analysis.specs.Abstraction;
 ghost use Rattle.analysis.specs.RecordParts as parts;
 ghost use Rattle.analysis.specs.Records as spec;
+use crate::membership::least;
 use program::Validity;
 use program::file;
 use program::validation;
@@ -97,18 +98,14 @@ pub(crate) fn solution_formed(sizes: &[u16; 32], names: usize, nodes: u16, bytes
     Validity::Fit
 }
 
-// The byte of name `i` from a place on: 0 past the last name.
-fn padded_byte(bytes: &[u8], at: usize, names: usize, i: usize) -> u8
-    requires { ⌜ i < 32 ⌝ }
-    ensures { λ r. ⌜ r ≡ parts.paddedByte (now (bytes .entry)) at names i ⌝ }
+// How many of the bytes of so many names from a place on there are, at most 32.
+fn readable(bytes: &[u8], at: usize, names: usize) -> usize
+    ensures { λ r. ⌜ parts.Readable (now (bytes .entry)) at names r ⌝ }
 {
-    if names <= i {
-        return 0;
-    }
     if bytes.len() <= at {
         return 0;
     }
-    file::byte_at(bytes, at + i)
+    least(least(names, 32), bytes.len() - at)
 }
 
 // The bytes of so many names from a place on, and zeros after them.
@@ -116,9 +113,10 @@ pub(crate) fn memory_at(bytes: &[u8], at: usize, names: usize) -> [u8; 32]
     ensures { λ r. ⌜ r ≡ parts.padded (now (bytes .entry)) at names ⌝ }
 {
     let mut out = [0u8; 32];
+    let end = readable(bytes, at, names);
     let mut i: usize = 0;
-    while i < 32 {
-        out[i] = padded_byte(bytes, at, names, i);
+    while i < end {
+        out[i] = bytes[at + i];
         i += 1;
     }
     out

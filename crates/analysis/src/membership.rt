@@ -49,7 +49,7 @@ pub(crate) fn factors() -> [u16; 34] {
     FACTORS
 }
 
-fn least(a: usize, b: usize) -> usize
+pub(crate) fn least(a: usize, b: usize) -> usize
     ensures { λ r. ⌜ r ≡ min a b ⌝ }
 {
     if a < b { a } else { b }
