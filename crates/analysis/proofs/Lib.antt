@@ -11,6 +11,7 @@ pub mod Stores
 pub mod Effects
 pub mod Accepted
 pub mod Alike
+pub mod Widest
 pub mod Writing
 pub mod Chains
 pub mod Among

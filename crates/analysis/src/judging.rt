@@ -1,7 +1,7 @@
 // A candidate solution judged.
 
 ghost use mathlib.Core.Path.{_≡_};
-ghost use mathlib.Core.Bool.{true, _&&_};
+ghost use mathlib.Core.Bool.{true, false, _&&_};
 ghost use mathlib.Core.List.{List, map};
 ghost use Prim.Native.Nat.{ℕ, _+_, _≤_, _<_};
 ghost use lib.ListN.{set, take};
@@ -353,6 +353,69 @@ fn mark_of(spot: Spot) -> Mark
     }
 }
 
+// Whether an index of an edge may be negative in the widest abstract memory; if none may, none may in any.
+fn ever_negative(
+    entries: &[u16; 4096],
+    grids: &[[[u8; 3]; 3]; 5],
+    edges: &[u8],
+    edge_count: u16,
+) -> bool
+    requires { ⌜ now grids ≡ Grid.grids ⌝ }
+    ensures { λ r. ⌜ (r ≡ false → (e : ℕ) → e < «edge_count» → parts.NeverNegative (now (edges .entry)) (now (entries .entry)) e) ⌝ }
+{
+    let widest = [7u8; 32];
+    let mut e: u16 = 0;
+    while e < edge_count {
+        let drawn = drawing::edge_at(edges, e);
+        if index::may_be_negative(entries, grids, &widest, drawn.kind, drawn.entry) {
+            return true;
+        }
+        e += 1;
+    }
+    false
+}
+
+// The index mark of a solution that is indexed: its records are read only where some index may be negative at all.
+fn mark_indexed(
+    entries: &[u16; 4096],
+    grids: &[[[u8; 3]; 3]; 5],
+    edges: &[u8],
+    links: &[u16; 384],
+    edge_count: u16,
+    factors: &[u16; 34],
+    heads: &[u16; 8192],
+    next: &[u16; 4096],
+    solution: &[u8],
+    names: usize,
+    records: u16,
+) -> Mark
+    requires { ⌜ parts.OrderedTo names records (now solution) (now factors) (now heads) (now next) ⌝ }
+    requires { ⌜ now grids ≡ Grid.grids ⌝ }
+    requires { ⌜ Links.Followable (now edges) «edge_count» (now links) ⌝ }
+    ensures { λ r. ⌜ ((s : List ℕ)
+        → parts.Searched s (now (edges .entry)) (now (entries .entry)) «edge_count» names records (now (solution .entry)) (now (factors .entry)) (now (heads .entry)) (now (next .entry))
+        → r ≡ spec.indexMark (File.sizes s) (Graph.graph s) (now (solution .entry))) ⌝ }
+{
+    if ever_negative(entries, grids, edges, edge_count) {
+        let negative = first_spot(
+            Query::NegativeIndex,
+            entries,
+            grids,
+            edges,
+            links,
+            edge_count,
+            factors,
+            heads,
+            next,
+            solution,
+            names,
+            records,
+        );
+        return mark_of(negative);
+    }
+    Mark::Clean
+}
+
 // 42, or accepted with the index mark, of a solution that is indexed.
 fn results_indexed(
     entries: &[u16; 4096],
@@ -390,23 +453,19 @@ fn results_indexed(
     );
     match spot {
         Spot::At { record, edge } => Verdict::ResultMissing { record, edge },
-        Spot::Nowhere => {
-            let negative = first_spot(
-                Query::NegativeIndex,
-                entries,
-                grids,
-                edges,
-                links,
-                edge_count,
-                factors,
-                heads,
-                next,
-                solution,
-                names,
-                records,
-            );
-            Verdict::Accepted(mark_of(negative))
-        }
+        Spot::Nowhere => Verdict::Accepted(mark_indexed(
+            entries,
+            grids,
+            edges,
+            links,
+            edge_count,
+            factors,
+            heads,
+            next,
+            solution,
+            names,
+            records,
+        )),
     }
 }
 
@@ -487,8 +546,7 @@ fn mark_formed(program: &[u8], edges: &[u8], edge_count: u16, solution: &[u8], n
         width,
         records as usize,
     );
-    let negative = first_spot(
-        Query::NegativeIndex,
+    mark_indexed(
         &entries,
         &grids,
         edges,
@@ -500,8 +558,7 @@ fn mark_formed(program: &[u8], edges: &[u8], edge_count: u16, solution: &[u8], n
         solution,
         names,
         records,
-    );
-    mark_of(negative)
+    )
 }
 
 fn malformed(list: Lists, x: Refusal) -> WrongByte
