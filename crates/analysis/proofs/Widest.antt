@@ -6,7 +6,7 @@ use Prim.Native.Nat.{ℕ, zero, suc, _≤_, _<_}
 use native.Mathlib.Decide.{decLt}
 use native.Mathlib.Omega.{arith}
 use lib.Dec.{T}
-use lib.ListN.{length, getD, replicate, take, drop, length-take, List·getD-eq-default}
+use lib.ListN.{length, getD, replicate, drop, length-take, List·getD-eq-default}
 use Rattle.signs.specs.Lists.{anyOf}
 use Rattle.signs.specs.Sign.{single, has}
 use Rattle.signs.specs.declared.Sign.{Sign}
@@ -14,14 +14,13 @@ use Rattle.signs.specs.declared.Sign.the-variants.{Minus, Zero, Plus}
 use Rattle.signs.proofs.Laws.{has-empty, operate-monotone}
 use Rattle.signs.proofs.Lists.{or-mono}
 use Rattle.signs.proofs.Membership.{Within}
-use Rattle.program.specs.Decoding.{decodedEntry}
 use Rattle.program.specs.Drawing.{edgeRead}
 use Rattle.program.specs.File.{sizes}
-use Rattle.program.specs.Graph.{graph, actionOf}
+use Rattle.program.specs.Graph.{graph}
 use Rattle.program.specs.Syntax.{Arith, number, variable, element, operator, Boolean, truth, comparison, conjunction, shortCircuit, negation}
 use Rattle.program.proofs.Laws.{none-such}
-use Rattle.semantics.specs.Action.{Meaning, nothing, assigns, stores, condition, meaning}
-use Rattle.semantics.specs.Step.{edgeAt, leaves}
+use Rattle.semantics.specs.Action.{Meaning, nothing, assigns, stores, condition}
+use Rattle.semantics.specs.Step.{leaves}
 use Rattle.analysis.specs.Index.{arithIndexes, booleanIndexes, indexSets, anyNegative, mayBeNegative}
 use Rattle.analysis.specs.Judging.{picks, firstPicked, spotOf, Searched, widest, NeverNegative}
 use Rattle.analysis.specs.Records.{recordWidth, recordAt, nodeOf, memoryOf}

@@ -4,7 +4,7 @@ ghost use mathlib.Core.Path.{_≡_};
 ghost use mathlib.Core.Bool.{true, false, _&&_};
 ghost use mathlib.Core.List.{List, map};
 ghost use Prim.Native.Nat.{ℕ, _+_, _≤_, _<_};
-ghost use lib.ListN.{set, take};
+ghost use lib.ListN.{length, set, take};
 ghost use Rattle.signs.specs.Grid;
 ghost use Rattle.program.specs.File;
 ghost use Rattle.program.specs.Graph;
@@ -14,7 +14,6 @@ ghost use Rattle.analysis.specs.Judging as parts;
 ghost use Rattle.analysis.specs.Records;
 ghost use Rattle.analysis.specs.Soundness;
 ghost use Rattle.analysis.specs.Verdict as spec;
-use crate::Changes;
 use crate::Mark;
 use crate::Marking;
 use crate::Records as Lists;
@@ -72,18 +71,17 @@ fn any_missing(
     names: usize,
     rho: &[u8; 32],
     node: u16,
-    changes: Changes,
+    name: u16,
+    count: usize,
+    sets: &[u8; 12],
 ) -> bool
     requires { ⌜ parts.Ordered names (now solution) (now factors) (now heads) (now next) ⌝ }
-    requires { ⌜ changes .count ≤ 12 ⌝ }
-    ensures { λ r. ⌜ ((ns : List ℕ) (count : ℕ) (ρ : List ℕ)
-        → parts.Searchable ns names count (now (solution .entry)) (now (factors .entry)) (now (heads .entry)) (now (next .entry))
+    requires { ⌜ (count ≤ 12) × (count ≤ length (now sets)) ⌝ }
+    ensures { λ r. ⌜ ((ns : List ℕ) (n : ℕ) (ρ : List ℕ)
+        → parts.Searchable ns names n (now (solution .entry)) (now (factors .entry)) (now (heads .entry)) (now (next .entry))
         → parts.ReadInto ρ (now (rho .entry)) names
-        → r ≡ parts.anyMissing ns (now (solution .entry)) node (map (set ρ (changes .name)) (take (changes .count) (changes .sets)))) ⌝ }
+        → r ≡ parts.anyMissing ns (now (solution .entry)) node (map (set ρ name) (take count (now (sets .entry))))) ⌝ }
 {
-    let count = changes.count;
-    let name = changes.name;
-    let sets = changes.sets;
     let mut j: usize = 0;
     while j < count {
         if !listed(
@@ -136,7 +134,9 @@ fn picked(
                 names,
                 rho,
                 drawn.target,
-                found,
+                found.name,
+                found.count,
+                &found.sets,
             )
         }
         Query::NegativeIndex => index::may_be_negative(
@@ -219,7 +219,8 @@ fn spot_at(
 {
     let at = (2 + names) * k as usize;
     let node = file::word_at(solution, at);
-    let rho = lists::memory_at(solution, at + 2, names);
+    let mut rho = [0u8; 32];
+    lists::read_memory(&mut rho, solution, at + 2, names);
     let found = first_picked(
         query,
         entries,
@@ -313,7 +314,8 @@ fn initial_listed(
         → k < Records.recordCount names (now (initial .entry))
         → r ≡ Records.hasAt ns (now (solution .entry)) 0 (Records.recordAt (Records.initialWidth ns) (now (initial .entry)) k)) ⌝ }
 {
-    let rho = lists::memory_at(initial, names * k as usize, names);
+    let mut rho = [0u8; 32];
+    lists::read_memory(&mut rho, initial, names * k as usize, names);
     let first = rho[0];
     listed(factors, heads, next, solution, names, &rho, 0, 0, first)
 }

@@ -3,7 +3,7 @@
 ghost use mathlib.Core.Path.{_≡_};
 ghost use mathlib.Core.List.{List, _++_};
 ghost use Prim.Native.Nat.{ℕ, _<_, _≤_, _+_};
-ghost use lib.ListN.{length, set};
+ghost use lib.ListN.{length, replicate, set};
 ghost use Rattle.program.specs.DrawingParts;
 ghost use Rattle.program.specs.Graph;
 ghost use Rattle.analysis.specs.Abstraction;
@@ -108,18 +108,17 @@ fn readable(bytes: &[u8], at: usize, names: usize) -> usize
     least(least(names, 32), bytes.len() - at)
 }
 
-// The bytes of so many names from a place on, and zeros after them.
-pub(crate) fn memory_at(bytes: &[u8], at: usize, names: usize) -> [u8; 32]
-    ensures { λ r. ⌜ r ≡ parts.padded (now (bytes .entry)) at names ⌝ }
+// The bytes of so many names from a place on, into an array of zeros.
+pub(crate) fn read_memory(out: &mut [u8; 32], bytes: &[u8], at: usize, names: usize)
+    requires { ⌜ now out ≡ replicate 32 0 ⌝ }
+    ensures { λ _. ⌜ now (out .exit) ≡ parts.padded (now (bytes .entry)) at names ⌝ }
 {
-    let mut out = [0u8; 32];
     let end = readable(bytes, at, names);
     let mut i: usize = 0;
     while i < end {
         out[i] = bytes[at + i];
         i += 1;
     }
-    out
 }
 
 // A record's bytes over a buffer from a place on.
