@@ -1,6 +1,7 @@
 // Lists of records: questions 16 and 17, and the reading and writing of a record.
 
 ghost use mathlib.Core.Path.{_≡_};
+ghost use mathlib.Core.Bool.{true};
 ghost use mathlib.Core.List.{List, _++_};
 ghost use Prim.Native.Nat.{ℕ, _<_, _≤_, _+_};
 ghost use lib.ListN.{length, replicate, set};
@@ -22,17 +23,27 @@ pub(crate) fn whole(bytes: &[u8], width: usize) -> bool
     bytes.len() % width == 0 && bytes.len() / width <= 4096
 }
 
-// Whether a byte is right for a name of a size.
+// Whether a byte is right for a name of a size. No branch, so that many are tested at once.
 pub(crate) fn byte_formed(size: u16, b: u8) -> bool
     ensures { λ r. ⌜ r ≡ Abstraction.wellFormed size b ⌝ }
 {
-    if size != 0 {
-        return 1 <= b && b <= 7;
+    let one = (b == 1) | (b == 2) | (b == 4);
+    let some = (1 <= b) & (b <= 7);
+    one | ((size != 0) & some)
+}
+
+// Whether question 17 of the memory at a place is answered yes: most are, and then the first wrong byte need not be looked for.
+fn all_formed(sizes: &[u16; 32], names: usize, bytes: &[u8], at: usize) -> bool
+    requires { ⌜ (names ≤ 32) × (at + names ≤ length (now bytes)) ⌝ }
+    ensures { λ r. ⌜ ((ns : List ℕ) → parts.SizesIn ns (now (sizes .entry)) names → r ≡ true → spec.memoryFormed ns (now (bytes .entry)) at ≡ Validity.Fit) ⌝ }
+{
+    let mut formed = true;
+    let mut i: usize = 0;
+    while i < names {
+        formed = formed & byte_formed(sizes[i], bytes[at + i]);
+        i += 1;
     }
-    if b == 1 {
-        return true;
-    }
-    b == 2 || b == 4
+    formed
 }
 
 // Question 17 of the memory at a place.
@@ -40,6 +51,9 @@ pub(crate) fn memory_formed(sizes: &[u16; 32], names: usize, bytes: &[u8], at: u
     requires { ⌜ (names ≤ 32) × (at + names ≤ length (now bytes)) ⌝ }
     ensures { λ r. ⌜ ((ns : List ℕ) → parts.SizesIn ns (now (sizes .entry)) names → r ≡ spec.memoryFormed ns (now (bytes .entry)) at) ⌝ }
 {
+    if all_formed(sizes, names, bytes, at) {
+        return Validity::Fit;
+    }
     let mut i: usize = 0;
     while i < names {
         let v = validation::ask(byte_formed(sizes[i], bytes[at + i]), 17, at + i);
