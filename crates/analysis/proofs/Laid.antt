@@ -1,6 +1,6 @@
 -- How records lie in their lists.
-use mathlib.Core.Path.{_≡_, ap, sym, _∙_}
-use mathlib.Core.Bool.{true}
+use mathlib.Core.Path.{_≡_, refl, ap, sym, _∙_}
+use mathlib.Core.Bool.{Bool, true, false, cond, not, _&&_, _||_, false≢true}
 use mathlib.Core.List.{List, [], _∷_, _++_, append-assoc, append-nil}
 use Prim.Native.Nat.{ℕ, zero, suc, _+_, _*_, _/_, _≤_, _<_}
 use native.Mathlib.Decide.{ℕ-discrete, decLt}
@@ -8,9 +8,10 @@ use native.Mathlib.Nat.{le-refl, zero-add, add-zero, suc-add, mul-suc, mul-le-mu
 use native.Mathlib.Omega.{arith}
 use lib.ListN.{length, getD, set, take, drop, length-set, length-take, length-drop, drop-of-length-le, List·getD-eq-default}
 use lib.Seq.{paste, length-take-le, take-length, take-take, take-nil, drop-drop, getD-set-same, getD-set-other, getD-take, getD-drop, take-append-add, ext-getD}
-use borrow.Author.Tests.{ltb-true, lt-ltb, le-ltb}
+use borrow.Author.Tests.{ltb-true, lt-ltb, le-ltb, ne-eqb}
+use lib.Dec.{eqb, leb}
 use Rattle.signs.specs.Lists.{tabulate}
-use Rattle.program.specs.Asking.{ask, askEach}
+use Rattle.program.specs.Asking.{ask, askEach, isRefused}
 use Rattle.program.specs.Decoding.{decodedSizes}
 use Rattle.program.specs.Drawing.{over}
 use Rattle.program.specs.DrawingParts.{overAt}
@@ -20,7 +21,8 @@ use Rattle.program.specs.Questions.{validity}
 use Rattle.program.specs.declared.Validity.{Validity}
 use Rattle.program.specs.declared.Validity.the-variants.{Fit}
 use Rattle.program.proofs.Asking.{then-first, then-second}
-use Rattle.program.proofs.Laws.{ask-fit, each-fit, each-same, sizes-length, names-decoded}
+use Rattle.signs.proofs.Lists.{or-false}
+use Rattle.program.proofs.Laws.{ask-fit, each-fit, each-goes-on, each-same, sizes-length, names-decoded}
 use Rattle.program.proofs.Lists.{length-tabulate, getD-tabulate}
 use Rattle.analysis.specs.Abstraction.{wellFormed}
 use Rattle.analysis.specs.Changing.{Alike}
@@ -42,11 +44,45 @@ over-all row buffer e = rw (drop-of-length-le buffer {i = length row} (omega ari
 pub record-inside : (n width k : ℕ) → k < n / width → width * k + width ≤ n
 record-inside n width k h = omega (arith, mul-le-mul-left {m = suc k} width h, mul-suc width k, mul-div-le n width)
 
+or-known : (a b : Bool) → (a ≡ true → b ≡ true) → (a || b) ≡ b
+or-known true b k = sym (k refl)
+or-known false b k = refl
+
 -- question 17 of the byte of name i, by the decoded sizes
 abbrev pub byteAsked : List ℕ → List ℕ → ℕ → ℕ → Validity
 byteAsked szs bytes at i = ask (wellFormed (getD szs i 0) (byteAt bytes (at + i))) 17 (at + i)
 
--- as code asks it: of a memory, of a start list and of a solution
+-- by tests of which none is left out; and with one byte more
+pub formed-by-tests : (size b : ℕ) → ((eqb b 1 || eqb b 2 || eqb b 4) || (not (eqb size 0) && (leb 1 b && leb b 7))) ≡ wellFormed size b
+unfolding wellFormed
+formed-by-tests size b = by (eqb size 0) one-known
+  where
+    one-known : (eqb b 1 || eqb b 2 || eqb b 4) ≡ true → (leb 1 b && leb b 7) ≡ true
+    one-known p =
+        elim (ℕ-discrete b 1) [
+          | yes e ↦ rw e
+          | no n1 ↦
+              elim (ℕ-discrete b 2) [
+                | yes e ↦ rw e
+                | no n2 ↦
+                    elim (ℕ-discrete b 4) [
+                      | yes e ↦ rw e
+                      | no n4 ↦ absurd (false≢true (sym (rw (ne-eqb b 1 n1, ne-eqb b 2 n2, ne-eqb b 4 n4)) ∙ p))
+                    ]
+              ]
+        ]
+
+    by : (z : Bool) → ((eqb b 1 || eqb b 2 || eqb b 4) ≡ true → (leb 1 b && leb b 7) ≡ true)
+        → ((eqb b 1 || eqb b 2 || eqb b 4) || (not z && (leb 1 b && leb b 7))) ≡ cond z (eqb b 1 || eqb b 2 || eqb b 4) (leb 1 b && leb b 7)
+    by true k = or-false (eqb b 1 || eqb b 2 || eqb b 4)
+    by false k = or-known (eqb b 1 || eqb b 2 || eqb b 4) (leb 1 b && leb b 7) k
+
+pub byte-passed : (szs bytes : List ℕ) (at i : ℕ) → askEach i (byteAsked szs bytes at) ≡ Fit → wellFormed (getD szs i 0) (byteAt bytes (at + i)) ≡ true
+    → askEach (suc i) (byteAsked szs bytes at) ≡ Fit
+unfolding ask isRefused
+byte-passed szs bytes at i e p = each-goes-on (byteAsked szs bytes at) i _ _ e refl refl (rw p)
+
+-- of a memory, of a start list and of a solution
 module _ {ns szs : List ℕ} {names : ℕ} (y : SizesIn ns szs names) (bytes : List ℕ) where
   pub memory-asked : (at : ℕ) → askEach names (byteAsked szs bytes at) ≡ memoryFormed ns bytes at
   unfolding memoryFormed

@@ -1,6 +1,7 @@
 pub mod Open
 pub mod Tabulated
 pub mod Laid
+pub mod Padding
 pub mod Searching
 pub mod Judged
 pub mod Values
@@ -10,6 +11,7 @@ pub mod Stores
 pub mod Effects
 pub mod Accepted
 pub mod Alike
+pub mod Widest
 pub mod Writing
 pub mod Chains
 pub mod Among

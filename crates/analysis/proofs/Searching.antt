@@ -91,22 +91,24 @@ module _ (ns solution : List ℕ) (node : ℕ) (ρ : List ℕ) (name : ℕ) (set
 
 -- an edge, as the code reads it and asks for its results or its indexes
 module _ {s edges entries : List ℕ} {edge-count names count : ℕ} {solution fs heads next : List ℕ} (x : Searched s edges entries edge-count names count solution fs heads next)
-    (e : ℕ) (h : e < edge-count) (r : EdgeBytes) (read : r ≡ edgeRead edges e) {ρ rho : List ℕ} (y : ReadInto ρ rho names) where
-  meaning-read : meaning (actionOf (decodedEntry entries) (r .kind) (r .entry)) ≡ meaning (edgeAt (graph s) e .action)
+    (e : ℕ) (h : e < edge-count) (r : EdgeBytes) (read : r ≡ edgeRead edges e) where
+  pub meaning-read : meaning (actionOf (decodedEntry entries) (r .kind) (r .entry)) ≡ meaning (edgeAt (graph s) e .action)
   meaning-read =
       ap meaning
       (ap (λ (l : List ℕ). actionOf (decodedEntry l) (r .kind) (r .entry)) (x .entries-decoded)
       ∙ drawn-action s edges _ edge-count (x .drawn .drawing) e r h read)
 
+module _ {s edges entries : List ℕ} {edge-count names count : ℕ} {solution fs heads next : List ℕ} (x : Searched s edges entries edge-count names count solution fs heads next)
+    (e : ℕ) (h : e < edge-count) (r : EdgeBytes) (read : r ≡ edgeRead edges e) {ρ rho : List ℕ} (y : ReadInto ρ rho names) where
   pub picks-missing : (c : Changes) → ResultsIn rho (meaning (actionOf (decodedEntry entries) (r .kind) (r .entry))) c
       → anyMissing (sizes s) solution (r .target) (map (set ρ (c .name)) (take (c .count) (c .sets))) ≡ picks (sizes s) (graph s) solution MissingResult ρ e
   unfolding picks
   picks-missing c k =
-      rw (← k .gives ρ (y .alike), ← meaning-read, ← drawn-target s edges _ edge-count (x .drawn .drawing) e r h read)
+      rw (← k .gives ρ (y .alike), ← meaning-read x e h r read, ← drawn-target s edges _ edge-count (x .drawn .drawing) e r h read)
 
   pub picks-negative : mayBeNegative rho (meaning (actionOf (decodedEntry entries) (r .kind) (r .entry))) ≡ picks (sizes s) (graph s) solution NegativeIndex ρ e
   unfolding picks
-  picks-negative = ap (mayBeNegative rho) meaning-read ∙ sym (negative-alike ρ rho (y .alike) (meaning (edgeAt (graph s) e .action)))
+  picks-negative = ap (mayBeNegative rho) (meaning-read x e h r read) ∙ sym (negative-alike ρ rho (y .alike) (meaning (edgeAt (graph s) e .action)))
 
 -- an edge that a query does not pick, whatever program these bytes are decoded from and whatever abstract memory was read
 abbrev pub Unpicked : (q : Query) (edges entries : List ℕ) (edge-count names : ℕ) (solution fs heads next rho : List ℕ) (e : ℕ) → Type 0

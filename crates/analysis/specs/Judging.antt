@@ -1,15 +1,16 @@
 -- What the functions that judge a solution promise each other. No public contract cites these.
 use mathlib.Core.Path.{_≡_}
-use mathlib.Core.Bool.{Bool, true, not, _&&_}
+use mathlib.Core.Bool.{Bool, true, false, not, _&&_}
 use mathlib.Core.List.{List}
 use Prim.Native.Nat.{ℕ, _+_, _≤_, _<_}
-use lib.ListN.{length}
+use lib.ListN.{length, replicate}
 use Rattle.signs.specs.Lists.{anyOf}
 use Rattle.program.specs.Asking.{askPlain}
-use Rattle.program.specs.Decoding.{decodedEntries}
+use Rattle.program.specs.Decoding.{decodedEntries, decodedEntry}
+use Rattle.program.specs.Drawing.{edgeRead}
 use Rattle.program.specs.File.{sizes}
 use Rattle.program.specs.FirstSuch.{firstSuch}
-use Rattle.program.specs.Graph.{Graph, graph}
+use Rattle.program.specs.Graph.{Graph, graph, actionOf}
 use Rattle.program.specs.declared.First.{First}
 use Rattle.program.specs.declared.Validity.the-variants.{Fit}
 use Rattle.semantics.specs.Action.{meaning}
@@ -37,6 +38,14 @@ anyMissing ns solution node σs = anyOf (λ σ. not (hasAt ns solution node σ))
 unfoldable pub picks : List ℕ → Graph → List ℕ → Query → List ℕ → ℕ → Bool
 picks ns g solution MissingResult ρ e = anyMissing ns solution (edgeAt g e .target) (results ρ (meaning (edgeAt g e .action)))
 picks ns g solution NegativeIndex ρ e = mayBeNegative ρ (meaning (edgeAt g e .action))
+
+-- every sign for each of 32 names; and that no index of an edge, as its bytes and the decoded entries say, may be negative there
+unfoldable pub widest : List ℕ
+widest = replicate 32 7
+
+unfoldable pub NeverNegative : List ℕ → List ℕ → ℕ → Type 0
+NeverNegative edges entries e =
+    mayBeNegative widest (meaning (actionOf (decodedEntry entries) (edgeRead edges e .kind) (edgeRead edges e .entry))) ≡ false
 
 -- the first edge out of a node that a query picks
 unfoldable pub firstPicked : List ℕ → Graph → List ℕ → Query → ℕ → List ℕ → First

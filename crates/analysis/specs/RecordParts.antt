@@ -1,6 +1,6 @@
 -- What the functions that read and write records promise each other. No public contract cites these.
 use mathlib.Core.Path.{_≡_}
-use Prim.Native.Nat.{ℕ, _+_, _<_}
+use Prim.Native.Nat.{ℕ, _+_, _<_, _≤_}
 use mathlib.Core.Bool.{cond}
 use mathlib.Core.List.{List}
 use lib.Dec.{ltb}
@@ -17,6 +17,13 @@ paddedByte bytes at names i = cond (ltb i names) (byteAt bytes (at + i)) 0
 
 unfoldable pub padded : List ℕ → ℕ → ℕ → List ℕ
 padded bytes at names = tabulate 32 (paddedByte bytes at names)
+
+-- so many of those bytes are there, and zeros from there on
+pub record Readable (bytes : List ℕ) (at names end : ℕ) : Type 0 where
+  pub few : end ≤ 32
+  pub inside : (i : ℕ) → i < end → at + i < length bytes
+  pub read : (i : ℕ) → i < end → paddedByte bytes at names i ≡ getD bytes (at + i) 0
+  pub zeros : (i : ℕ) → end ≤ i → i < 32 → paddedByte bytes at names i ≡ 0
 
 -- so many names of the sizes ns, decoded
 pub record SizesIn (ns szs : List ℕ) (names : ℕ) : Type 0 where

@@ -1,10 +1,10 @@
 // A candidate solution judged.
 
 ghost use mathlib.Core.Path.{_≡_};
-ghost use mathlib.Core.Bool.{true, _&&_};
+ghost use mathlib.Core.Bool.{true, false, _&&_};
 ghost use mathlib.Core.List.{List, map};
 ghost use Prim.Native.Nat.{ℕ, _+_, _≤_, _<_};
-ghost use lib.ListN.{set, take};
+ghost use lib.ListN.{length, set, take};
 ghost use Rattle.signs.specs.Grid;
 ghost use Rattle.program.specs.File;
 ghost use Rattle.program.specs.Graph;
@@ -14,7 +14,6 @@ ghost use Rattle.analysis.specs.Judging as parts;
 ghost use Rattle.analysis.specs.Records;
 ghost use Rattle.analysis.specs.Soundness;
 ghost use Rattle.analysis.specs.Verdict as spec;
-use crate::Changes;
 use crate::Mark;
 use crate::Marking;
 use crate::Records as Lists;
@@ -72,18 +71,17 @@ fn any_missing(
     names: usize,
     rho: &[u8; 32],
     node: u16,
-    changes: Changes,
+    name: u16,
+    count: usize,
+    sets: &[u8; 12],
 ) -> bool
     requires { ⌜ parts.Ordered names (now solution) (now factors) (now heads) (now next) ⌝ }
-    requires { ⌜ changes .count ≤ 12 ⌝ }
-    ensures { λ r. ⌜ ((ns : List ℕ) (count : ℕ) (ρ : List ℕ)
-        → parts.Searchable ns names count (now (solution .entry)) (now (factors .entry)) (now (heads .entry)) (now (next .entry))
+    requires { ⌜ (count ≤ 12) × (count ≤ length (now sets)) ⌝ }
+    ensures { λ r. ⌜ ((ns : List ℕ) (n : ℕ) (ρ : List ℕ)
+        → parts.Searchable ns names n (now (solution .entry)) (now (factors .entry)) (now (heads .entry)) (now (next .entry))
         → parts.ReadInto ρ (now (rho .entry)) names
-        → r ≡ parts.anyMissing ns (now (solution .entry)) node (map (set ρ (changes .name)) (take (changes .count) (changes .sets)))) ⌝ }
+        → r ≡ parts.anyMissing ns (now (solution .entry)) node (map (set ρ name) (take count (now (sets .entry))))) ⌝ }
 {
-    let count = changes.count;
-    let name = changes.name;
-    let sets = changes.sets;
     let mut j: usize = 0;
     while j < count {
         if !listed(
@@ -136,7 +134,9 @@ fn picked(
                 names,
                 rho,
                 drawn.target,
-                found,
+                found.name,
+                found.count,
+                &found.sets,
             )
         }
         Query::NegativeIndex => index::may_be_negative(
@@ -219,7 +219,8 @@ fn spot_at(
 {
     let at = (2 + names) * k as usize;
     let node = file::word_at(solution, at);
-    let rho = lists::memory_at(solution, at + 2, names);
+    let mut rho = [0u8; 32];
+    lists::read_memory(&mut rho, solution, at + 2, names);
     let found = first_picked(
         query,
         entries,
@@ -313,7 +314,8 @@ fn initial_listed(
         → k < Records.recordCount names (now (initial .entry))
         → r ≡ Records.hasAt ns (now (solution .entry)) 0 (Records.recordAt (Records.initialWidth ns) (now (initial .entry)) k)) ⌝ }
 {
-    let rho = lists::memory_at(initial, names * k as usize, names);
+    let mut rho = [0u8; 32];
+    lists::read_memory(&mut rho, initial, names * k as usize, names);
     let first = rho[0];
     listed(factors, heads, next, solution, names, &rho, 0, 0, first)
 }
@@ -353,6 +355,69 @@ fn mark_of(spot: Spot) -> Mark
     }
 }
 
+// Whether an index of an edge may be negative in the widest abstract memory; if none may, none may in any.
+fn ever_negative(
+    entries: &[u16; 4096],
+    grids: &[[[u8; 3]; 3]; 5],
+    edges: &[u8],
+    edge_count: u16,
+) -> bool
+    requires { ⌜ now grids ≡ Grid.grids ⌝ }
+    ensures { λ r. ⌜ (r ≡ false → (e : ℕ) → e < «edge_count» → parts.NeverNegative (now (edges .entry)) (now (entries .entry)) e) ⌝ }
+{
+    let widest = [7u8; 32];
+    let mut e: u16 = 0;
+    while e < edge_count {
+        let drawn = drawing::edge_at(edges, e);
+        if index::may_be_negative(entries, grids, &widest, drawn.kind, drawn.entry) {
+            return true;
+        }
+        e += 1;
+    }
+    false
+}
+
+// The index mark of a solution that is indexed: its records are read only where some index may be negative at all.
+fn mark_indexed(
+    entries: &[u16; 4096],
+    grids: &[[[u8; 3]; 3]; 5],
+    edges: &[u8],
+    links: &[u16; 384],
+    edge_count: u16,
+    factors: &[u16; 34],
+    heads: &[u16; 8192],
+    next: &[u16; 4096],
+    solution: &[u8],
+    names: usize,
+    records: u16,
+) -> Mark
+    requires { ⌜ parts.OrderedTo names records (now solution) (now factors) (now heads) (now next) ⌝ }
+    requires { ⌜ now grids ≡ Grid.grids ⌝ }
+    requires { ⌜ Links.Followable (now edges) «edge_count» (now links) ⌝ }
+    ensures { λ r. ⌜ ((s : List ℕ)
+        → parts.Searched s (now (edges .entry)) (now (entries .entry)) «edge_count» names records (now (solution .entry)) (now (factors .entry)) (now (heads .entry)) (now (next .entry))
+        → r ≡ spec.indexMark (File.sizes s) (Graph.graph s) (now (solution .entry))) ⌝ }
+{
+    if ever_negative(entries, grids, edges, edge_count) {
+        let negative = first_spot(
+            Query::NegativeIndex,
+            entries,
+            grids,
+            edges,
+            links,
+            edge_count,
+            factors,
+            heads,
+            next,
+            solution,
+            names,
+            records,
+        );
+        return mark_of(negative);
+    }
+    Mark::Clean
+}
+
 // 42, or accepted with the index mark, of a solution that is indexed.
 fn results_indexed(
     entries: &[u16; 4096],
@@ -390,23 +455,19 @@ fn results_indexed(
     );
     match spot {
         Spot::At { record, edge } => Verdict::ResultMissing { record, edge },
-        Spot::Nowhere => {
-            let negative = first_spot(
-                Query::NegativeIndex,
-                entries,
-                grids,
-                edges,
-                links,
-                edge_count,
-                factors,
-                heads,
-                next,
-                solution,
-                names,
-                records,
-            );
-            Verdict::Accepted(mark_of(negative))
-        }
+        Spot::Nowhere => Verdict::Accepted(mark_indexed(
+            entries,
+            grids,
+            edges,
+            links,
+            edge_count,
+            factors,
+            heads,
+            next,
+            solution,
+            names,
+            records,
+        )),
     }
 }
 
@@ -487,8 +548,7 @@ fn mark_formed(program: &[u8], edges: &[u8], edge_count: u16, solution: &[u8], n
         width,
         records as usize,
     );
-    let negative = first_spot(
-        Query::NegativeIndex,
+    mark_indexed(
         &entries,
         &grids,
         edges,
@@ -500,8 +560,7 @@ fn mark_formed(program: &[u8], edges: &[u8], edge_count: u16, solution: &[u8], n
         solution,
         names,
         records,
-    );
-    mark_of(negative)
+    )
 }
 
 fn malformed(list: Lists, x: Refusal) -> WrongByte

@@ -1,14 +1,16 @@
 // Lists of records: questions 16 and 17, and the reading and writing of a record.
 
 ghost use mathlib.Core.Path.{_≡_};
+ghost use mathlib.Core.Bool.{true};
 ghost use mathlib.Core.List.{List, _++_};
 ghost use Prim.Native.Nat.{ℕ, _<_, _≤_, _+_};
-ghost use lib.ListN.{length, set};
+ghost use lib.ListN.{length, replicate, set};
 ghost use Rattle.program.specs.DrawingParts;
 ghost use Rattle.program.specs.Graph;
 ghost use Rattle.analysis.specs.Abstraction;
 ghost use Rattle.analysis.specs.RecordParts as parts;
 ghost use Rattle.analysis.specs.Records as spec;
+use crate::membership::least;
 use program::Validity;
 use program::file;
 use program::validation;
@@ -21,17 +23,27 @@ pub(crate) fn whole(bytes: &[u8], width: usize) -> bool
     bytes.len() % width == 0 && bytes.len() / width <= 4096
 }
 
-// Whether a byte is right for a name of a size.
+// Whether a byte is right for a name of a size. No branch, so that many are tested at once.
 pub(crate) fn byte_formed(size: u16, b: u8) -> bool
     ensures { λ r. ⌜ r ≡ Abstraction.wellFormed size b ⌝ }
 {
-    if size != 0 {
-        return 1 <= b && b <= 7;
+    let one = (b == 1) | (b == 2) | (b == 4);
+    let some = (1 <= b) & (b <= 7);
+    one | ((size != 0) & some)
+}
+
+// Whether question 17 of the memory at a place is answered yes: most are, and then the first wrong byte need not be looked for.
+fn all_formed(sizes: &[u16; 32], names: usize, bytes: &[u8], at: usize) -> bool
+    requires { ⌜ (names ≤ 32) × (at + names ≤ length (now bytes)) ⌝ }
+    ensures { λ r. ⌜ ((ns : List ℕ) → parts.SizesIn ns (now (sizes .entry)) names → r ≡ true → spec.memoryFormed ns (now (bytes .entry)) at ≡ Validity.Fit) ⌝ }
+{
+    let mut formed = true;
+    let mut i: usize = 0;
+    while i < names {
+        formed = formed & byte_formed(sizes[i], bytes[at + i]);
+        i += 1;
     }
-    if b == 1 {
-        return true;
-    }
-    b == 2 || b == 4
+    formed
 }
 
 // Question 17 of the memory at a place.
@@ -39,6 +51,9 @@ pub(crate) fn memory_formed(sizes: &[u16; 32], names: usize, bytes: &[u8], at: u
     requires { ⌜ (names ≤ 32) × (at + names ≤ length (now bytes)) ⌝ }
     ensures { λ r. ⌜ ((ns : List ℕ) → parts.SizesIn ns (now (sizes .entry)) names → r ≡ spec.memoryFormed ns (now (bytes .entry)) at) ⌝ }
 {
+    if all_formed(sizes, names, bytes, at) {
+        return Validity::Fit;
+    }
     let mut i: usize = 0;
     while i < names {
         let v = validation::ask(byte_formed(sizes[i], bytes[at + i]), 17, at + i);
@@ -97,31 +112,27 @@ pub(crate) fn solution_formed(sizes: &[u16; 32], names: usize, nodes: u16, bytes
     Validity::Fit
 }
 
-// The byte of name `i` from a place on: 0 past the last name.
-fn padded_byte(bytes: &[u8], at: usize, names: usize, i: usize) -> u8
-    requires { ⌜ i < 32 ⌝ }
-    ensures { λ r. ⌜ r ≡ parts.paddedByte (now (bytes .entry)) at names i ⌝ }
+// How many of the bytes of so many names from a place on there are, at most 32.
+fn readable(bytes: &[u8], at: usize, names: usize) -> usize
+    ensures { λ r. ⌜ parts.Readable (now (bytes .entry)) at names r ⌝ }
 {
-    if names <= i {
-        return 0;
-    }
     if bytes.len() <= at {
         return 0;
     }
-    file::byte_at(bytes, at + i)
+    least(least(names, 32), bytes.len() - at)
 }
 
-// The bytes of so many names from a place on, and zeros after them.
-pub(crate) fn memory_at(bytes: &[u8], at: usize, names: usize) -> [u8; 32]
-    ensures { λ r. ⌜ r ≡ parts.padded (now (bytes .entry)) at names ⌝ }
+// The bytes of so many names from a place on, into an array of zeros.
+pub(crate) fn read_memory(out: &mut [u8; 32], bytes: &[u8], at: usize, names: usize)
+    requires { ⌜ now out ≡ replicate 32 0 ⌝ }
+    ensures { λ _. ⌜ now (out .exit) ≡ parts.padded (now (bytes .entry)) at names ⌝ }
 {
-    let mut out = [0u8; 32];
+    let end = readable(bytes, at, names);
     let mut i: usize = 0;
-    while i < 32 {
-        out[i] = padded_byte(bytes, at, names, i);
+    while i < end {
+        out[i] = bytes[at + i];
         i += 1;
     }
-    out
 }
 
 // A record's bytes over a buffer from a place on.

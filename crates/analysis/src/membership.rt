@@ -49,17 +49,17 @@ pub(crate) fn factors() -> [u16; 34] {
     FACTORS
 }
 
-fn least(a: usize, b: usize) -> usize
+pub(crate) fn least(a: usize, b: usize) -> usize
     ensures { λ r. ⌜ r ≡ min a b ⌝ }
 {
     if a < b { a } else { b }
 }
 
-fn weight(byte: u8, factor: u16) -> usize
+fn weight(byte: u8, factor: u16) -> u32
     ensures { λ r. ⌜ r ≡ byte * factor ⌝ }
     ensures { λ r. ⌜ r ≤ 16711425 ⌝ }
 {
-    byte as usize * factor as usize
+    byte as u32 * factor as u32
 }
 
 // The hash of a record.
@@ -68,13 +68,13 @@ pub(crate) fn hash(factors: &[u16; 34], bytes: &[u8]) -> usize
     ensures { λ r. ⌜ r < 8192 ⌝ }
 {
     let end = least(bytes.len(), 34);
-    let mut sum: usize = 0;
+    let mut sum: u32 = 0;
     let mut i: usize = 0;
     while i < end {
         sum += weight(bytes[i], factors[i]);
         i += 1;
     }
-    sum * 2654435769 / 524288 % 8192
+    sum as usize * 2654435769 / 524288 % 8192
 }
 
 // Whether two records are the same.

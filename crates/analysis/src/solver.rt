@@ -141,7 +141,8 @@ fn offer_initial(
     let mut found = p;
     let mut k: usize = 0;
     while k < count {
-        let rho = lists::memory_at(initial, names * k, names);
+        let mut rho = [0u8; 32];
+        lists::read_memory(&mut rho, initial, names * k, names);
         let row = lists::record_for(0, &rho);
         found = offer(
             factors,
@@ -272,7 +273,8 @@ fn offer_from(
 {
     let at = (2 + names) * k;
     let node = file::word_at(buffer, at);
-    let rho = lists::memory_at(buffer, at + 2, names);
+    let mut rho = [0u8; 32];
+    lists::read_memory(&mut rho, buffer, at + 2, names);
     offer_successors(
         entries,
         grids,

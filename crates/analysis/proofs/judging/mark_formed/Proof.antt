@@ -1,9 +1,7 @@
 -- `judging::mark_formed`: the list is indexed, then searched.
 use borrow.Author.Needs.{needs}
 use native.Mathlib.Omega.{arith}
-use mathlib.Core.Path.{ap, _∙_}
-use Rattle.analysis.specs.Judging.{Searched, picks}
-use Rattle.analysis.specs.Verdict.{markOf, indexMark}
+use Rattle.analysis.specs.Judging.{Searched}
 use Rattle.analysis.proofs.Chains.{indexed-none}
 use Rattle.analysis.proofs.Judged.{few-records, records-inside, followable, searched}
 use Rattle.analysis.proofs.judging.mark_formed.Statement.{statement}
@@ -21,15 +19,14 @@ index-all-requires c κs =
 sought : (c : tie.After-index-all) → Searched (c .before .before .before .before .before .before .before .before .before .before .before .before .args .program .now) (c .before .before .before .before .before .before .before .before .before .before .before .before .args .edges .now) (c .before .before .before .before .before .before .before .before .entries .result) (c .before .before .before .before .before .before .before .before .before .before .before .before .args .edge-count) (c .before .before .before .before .before .before .before .before .before .before .before .before .args .names) (c .before .before .before .before .record-count .result) (c .before .before .before .before .before .before .before .before .before .before .before .before .args .solution .now) (c .before .before .before .before .before .factors .result) (c .index-all .last .1 .0) (c .index-all .last .1 .1 .0)
 sought c = searched (c .before .before .before .before .before .before .before .before .before .before .before .before .pre) _ (c .before .before .before .before .before .before .before .before .entries .ensures) _ (c .before .before .before .before .record-count .ensures) (c .index-all .ensures)
 
-first-spot-requires : tie.Need-first-spot-requires
-first-spot-requires c κs =
+mark-indexed-requires : tie.Need-mark-indexed-requires
+mark-indexed-requires c κs =
     let i = c .before .before .before .before .before .before in
     let s = i .before .before .before .before .before .before .before .before .before .before .before .before in
     (record { few = s .pre .named .few; indexed = i .index-all .ensures }, (i .before .before .before .before .before .before .before .grids .ensures, followable (s .pre .named .drawn) _ (i .before .before .before .before .before .before .links .ensures)))
 
 returns : tie.Need-returns
-unfolding indexMark picks
-returns c = c .mark-of .ensures ∙ ap markOf (c .before .first-spot .ensures _ (sought (c .before .before .before .before .before .before .before .before)))
+returns c = c .mark-indexed .ensures _ (sought (c .before .before .before .before .before .before .before))
 
 pub mark-formed-spec : {M : Type 1} → statement M
 mark-formed-spec =
@@ -43,6 +40,5 @@ mark-formed-spec =
     record-count-requires
     (λ c. search needs)
     index-all-requires
-    first-spot-requires
-    (λ c κs. search needs)
+    mark-indexed-requires
     returns)

@@ -2,17 +2,22 @@
 use borrow.Author.Needs.{needs}
 use Rattle.program.specs.File.{sizes}
 use Rattle.analysis.proofs.Searching.{picks-missing, picks-negative}
-use mathlib.Core.Path.{_∙_}
+use mathlib.Core.Path.{_≡_, _∙_}
+use native.Mathlib.Omega.{arith}
+use lib.ListN.{length}
 use Rattle.analysis.proofs.judging.picked.Statement.{statement}
 use Rattle.analysis.proofs.judging.picked.Tie as tie
 
 any-missing-requires : tie.Need-any-missing-requires
-any-missing-requires c κs = (c .before .before .before .before .before .before .pre .0, c .changes .ensures .few)
+any-missing-requires c κs =
+    let found = c .before .before .changes in
+    let long : length (found .result .sets) ≡ 12 = search needs in
+    (c .before .before .before .before .before .before .before .before .pre .0, (found .ensures .few, omega (arith, long, found .ensures .few)))
 
 returns : tie.Need-returns
 returns c s edge-count count ρ x y h =
-    rw (c .before .before .enum-told .given .1)
-    (c .any-missing .ensures (sizes s) count ρ (x .searchable) y ∙ picks-missing x _ h _ (c .before .before .before .before .edge-at .ensures) y _ (c .before .changes .ensures))
+    rw (c .before .before .before .before .enum-told .given .1)
+    (c .any-missing .ensures (sizes s) count ρ (x .searchable) y ∙ picks-missing x _ h _ (c .before .before .before .before .before .before .edge-at .ensures) y _ (c .before .before .before .changes .ensures))
 
 returns-2 : tie.Need-returns-2
 returns-2 c s edge-count count ρ x y h =

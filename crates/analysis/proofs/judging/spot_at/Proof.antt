@@ -18,27 +18,27 @@ inside c = record-inside _ _ _ _ (c .pre .0 .1) (c .pre .0 .0 .indexed .room)
 mul-at : tie.Need-mul-at
 mul-at c = record { fits = omega (arith, inside (c .before .before)) }
 
-add-memory-at : tie.Need-add-memory-at
-add-memory-at c = record { fits = omega (arith, inside (c .before .before .before)) }
+add-read-memory : tie.Need-add-read-memory
+add-read-memory c = record { fits = omega (arith, inside (c .before .before .before .before)) }
 
 returns : tie.Need-returns
 unfolding spotOf spotAt
 returns c s x =
-    let start = c .before .before .before .before .before .before .before .before .before in
-    let node = c .before .before .before .before .before .before .word-at .ensures in
+    let start = c .before .before .before .before .before .before .before .before .before .before in
+    let node = c .before .before .before .before .before .before .before .word-at .ensures in
     let few = start .pre .0 .0 .few in
     let here = start .pre .0 .1 in
-    let found = c .before .before .before .first-picked .ensures s _ _ x (memory-read x few _ here _ (c .before .before .before .before .before .memory-at .ensures)) (node-low x few _ here _ node) in
+    let found = c .before .before .before .first-picked .ensures s _ _ x (memory-read x few _ here _ (c .before .before .before .before .before .read-memory .ensures)) (node-low x few _ here _ node) in
     rw (node-read x few _ here _ node, sym found ∙ c .before .found .given .1)
 
 returns-2 : tie.Need-returns-2
 unfolding spotOf spotAt
 returns-2 c s x =
-    let start = c .before .before .before .before .before .before .before .before in
-    let node = c .before .before .before .before .before .word-at .ensures in
+    let start = c .before .before .before .before .before .before .before .before .before in
+    let node = c .before .before .before .before .before .before .word-at .ensures in
     let few = start .pre .0 .0 .few in
     let here = start .pre .0 .1 in
-    let found = c .before .before .first-picked .ensures s _ _ x (memory-read x few _ here _ (c .before .before .before .before .memory-at .ensures)) (node-low x few _ here _ node) in
+    let found = c .before .before .first-picked .ensures s _ _ x (memory-read x few _ here _ (c .before .before .before .before .read-memory .ensures)) (node-low x few _ here _ node) in
     rw (node-read x few _ here _ node, sym found ∙ c .enum-told .given .1)
 
 pub spot-at-spec : {M : Type 1} → statement M
@@ -48,7 +48,7 @@ spot-at-spec =
     (λ c. search needs)
     mul-at
     (λ c κs. search needs)
-    add-memory-at
+    add-read-memory
     (λ c κs. search needs)
     (λ c κs. search needs)
     (λ c. search needs)

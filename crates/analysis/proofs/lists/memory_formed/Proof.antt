@@ -20,7 +20,7 @@ abbrev μ-loop : tie.MeasureT-loop
 μ-loop sizes names bytes at i₀ i = names - i
 
 -- the question of the byte of name i
-asked : (c : tie.After-ask Inv-loop μ-loop) → let l = c .before .before .before .before .before in let a = l .before .before .args in c .ask .result ≡ byteAsked (a .sizes .now) (a .bytes .now) (a .at) (l .loop .i)
+asked : (c : tie.After-ask Inv-loop μ-loop) → let l = c .before .before .before .before .before in let a = l .before .before .before .before .args in c .ask .result ≡ byteAsked (a .sizes .now) (a .bytes .now) (a .at) (l .loop .i)
 unfolding byteAt
 asked c = c .ask .ensures ∙ rw (c .before .byte-formed .ensures)
 
@@ -29,19 +29,22 @@ unfolding askEach firstOf
 loop-holds c = (search needs, refl)
 
 returns : tie.Need-returns Inv-loop μ-loop
-returns c ns y =
+returns c ns y = sym (c .before .all-formed .ensures ns y (c .if1 .taken))
+
+returns-2 : tie.Need-returns-2 Inv-loop μ-loop
+returns-2 c ns y =
     let l = c .before .before .before .before .before .before .before .loop in
-    each-stops _ _ (l .i) _ _ (c .before .before .before .before .before .before .loop-test .taken) (l .inv .1) (asked (c .before .before)) (c .before .refused .ensures) (c .if1 .taken) ∙ memory-asked y _ _
+    each-stops _ _ (l .i) _ _ (c .before .before .before .before .before .before .loop-test .taken) (l .inv .1) (asked (c .before .before)) (c .before .refused .ensures) (c .if2 .taken) ∙ memory-asked y _ _
 
 loop-again : tie.Need-loop-again Inv-loop μ-loop
 loop-again c =
     let l = c .before .before .before .before .before .before .before .loop in
-    (search needs, rw add-one (each-goes-on _ (l .i) _ _ (l .inv .1) (asked (c .before .before)) (c .before .refused .ensures) (c .if1 .left)))
+    (search needs, rw add-one (each-goes-on _ (l .i) _ _ (l .inv .1) (asked (c .before .before)) (c .before .refused .ensures) (c .if2 .left)))
 
-returns-2 : tie.Need-returns-2 Inv-loop μ-loop
-returns-2 c ns y =
+returns-3 : tie.Need-returns-3 Inv-loop μ-loop
+returns-3 c ns y =
     let l = c .before .loop in
     rw (← memory-asked y _ _, ← le-antisymm (l .inv .0) (c .loop-test .left)) (sym (l .inv .1))
 
 pub memory-formed-spec : {M : Type 1} → statement M
-memory-formed-spec = tie.close (tie.spec Inv-loop μ-loop loop-holds (λ c. search needs) (λ c. search needs) (λ c. search needs) (λ c. search needs) (λ c κs. search needs) (λ c. search needs) (λ c κs. search needs) (λ c κs. search needs) returns (λ c. search needs) (λ c. search needs) loop-again returns-2)
+memory-formed-spec = tie.close (tie.spec Inv-loop μ-loop (λ c κs. search needs) returns loop-holds (λ c. search needs) (λ c. search needs) (λ c. search needs) (λ c. search needs) (λ c κs. search needs) (λ c. search needs) (λ c κs. search needs) (λ c κs. search needs) returns-2 (λ c. search needs) (λ c. search needs) loop-again returns-3)

@@ -60,5 +60,6 @@ hash-spec =
     add-i
     (λ c. search needs)
     loop-again
+    (λ c. search needs)
     mul-result
     returns)

@@ -19,23 +19,23 @@ add-at c = omega (arith, c .before .before .pre .0 .0 .wide)
 mul-at : tie.Need-mul-at
 mul-at c = omega (arith, inside c)
 
-add-memory-at : tie.Need-add-memory-at
-add-memory-at c = omega (arith, inside (c .before .before .before))
+add-read-memory : tie.Need-add-read-memory
+add-read-memory c = omega (arith, inside (c .before .before .before .before))
 
 offer-successors-requires : tie.Need-offer-successors-requires
-offer-successors-requires c κs = let s = c .before .before .before .before .before .before .before .before .before .before in (s .pre .0 .0, s .pre .1)
+offer-successors-requires c κs = let s = c .before .before .before .before .before .before .before .before .before .before .before in (s .pre .0 .0, s .pre .1)
 
 returns : tie.Need-returns
 returns c =
     let o = c .before .before in
     let m = o .before .before .before .before .before in
-    let w = m .before .before in
+    let w = m .before .before .before in
     let i = w .before .before in
     let s = i .before .before in (
       o .offer-successors .ensures .0,
       λ p x.
           record-offered _ _ _ _ _ (s .args .k) (s .pre .0 .1) _ (w .word-at .ensures)
-          (o .offer-successors .ensures .1 p _ x (memory-reads _ (s .args .k) _ _ (x .names-are) (omega (arith, s .pre .0 .0 .wide)) (inside i) _ (m .memory-at .ensures))),
+          (o .offer-successors .ensures .1 p _ x (memory-reads _ (s .args .k) _ _ (x .names-are) (omega (arith, s .pre .0 .0 .wide)) (inside i) _ (m .read-memory .ensures))),
     )
 
 pub offer-from-spec : {M : Type 1} → statement M
@@ -45,7 +45,7 @@ offer-from-spec =
     add-at
     mul-at
     (λ c κs. search needs)
-    add-memory-at
+    add-read-memory
     (λ c κs. search needs)
     offer-successors-requires
     (λ c. search needs)

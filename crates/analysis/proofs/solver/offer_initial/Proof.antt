@@ -39,14 +39,14 @@ few c =
     let a = c .before .before .before .before .args in
     omega (arith, div-le-self (length (a .initial .now)) (a .names))
 
-mul-memory-at : tie.Need-mul-memory-at Inv-loop μ-loop
-mul-memory-at c = omega (arith, inside c)
+mul-read-memory : tie.Need-mul-read-memory Inv-loop μ-loop
+mul-read-memory c = omega (arith, inside (c .before))
 
 long : (c : tie.After-record-for Inv-loop μ-loop) → length (c .record-for .result) ≡ 34
 long c = search needs
 
-wide : (c : tie.After-offer-arg3 Inv-loop μ-loop) → 2 + c .before .before .before .before .before .before .before .before .before .before .args .names ≤ length (c .before .before .before .record-for .result)
-wide c = omega (arith, long (c .before .before .before), c .before .before .before .before .before .before .before .loop .inv .1 .growing .wide)
+wide : (c : tie.After-offer-arg3 Inv-loop μ-loop) → 2 + c .before .before .before .before .before .before .before .before .before .before .before .args .names ≤ length (c .before .before .before .record-for .result)
+wide c = omega (arith, long (c .before .before .before), c .before .before .before .before .before .before .before .before .loop .inv .1 .growing .wide)
 
 array-share-prefix-row : tie.Need-array-share-prefix-row Inv-loop μ-loop
 array-share-prefix-row c = wide c
@@ -55,23 +55,23 @@ slice-aggregate-offer : tie.Need-slice-aggregate-offer Inv-loop μ-loop
 slice-aggregate-offer c = sym (length-take-le _ _ (wide (c .before)))
 
 offer-requires : tie.Need-offer-requires Inv-loop μ-loop
-offer-requires c κs = (c .before .before .before .before .before .before .before .before .loop .inv .1 .growing, length-take-le _ _ (wide (c .before)))
+offer-requires c κs = (c .before .before .before .before .before .before .before .before .before .loop .inv .1 .growing, length-take-le _ _ (wide (c .before)))
 
 add-k : tie.Need-add-k Inv-loop μ-loop
-add-k c = omega (arith, few (c .before .before .before .before .before .before .before .before .before .before))
+add-k c = omega (arith, few (c .before .before .before .before .before .before .before .before .before .before .before))
 
 loop-again : tie.Need-loop-again Inv-loop μ-loop
 loop-again c =
     let o = c .before .before in
     let r = o .before .before .before .before .before in
-    let t = r .before .before .before in
+    let t = r .before .before .before .before in
     let l = t .before .loop in (
       omega (arith, t .loop-test .taken),
       extended-more _ _ _ (l .inv .1) (o .offer .ensures .0),
       λ ns e. rw add-one
           (tabulated-more _ _ _ (l .k)
           (o .offer .ensures .1 ns 0 _ (omega arith) (width-of ns e)
-          (row-read (start-reads _ (l .k) _ (omega (arith, l .inv .1 .growing .wide)) (inside t) _ (r .before .before .memory-at .ensures)) (l .inv .1 .growing .wide) 0 _ (long r) (r .record-for .ensures)))
+          (row-read (start-reads _ (l .k) _ (omega (arith, l .inv .1 .growing .wide)) (inside t) _ (r .before .before .read-memory .ensures)) (l .inv .1 .growing .wide) 0 _ (long r) (r .record-for .ensures)))
           (l .inv .2 ns e)),
     )
 
@@ -90,7 +90,7 @@ offer-initial-spec =
     (λ c. search needs)
     (λ c. search needs)
     loop-holds
-    mul-memory-at
+    mul-read-memory
     (λ c κs. search needs)
     (λ c κs. search needs)
     array-share-prefix-row
