@@ -49,7 +49,9 @@ pub fn endless() -> Vec<Lesson> {
 pub struct Walk {
     pub title: &'static str,
     pub file: Vec<u8>,
+    /// Names of any sign, and names after them that are plus.
     names: usize,
+    plus: usize,
 }
 
 const LETTERS: &str = "abcdefghijklmnopqrstuvwxyzABCDEF";
@@ -62,13 +64,20 @@ fn walk(title: &'static str, count: usize, factor: &str) -> Walk {
     let letters: Vec<char> = LETTERS.chars().take(count).collect();
     let steps: Vec<String> = (0..15).map(|k| letters[k % count]).map(|x| format!("{x} := {x} * {factor}")).collect();
     let script = script_of(&names(count), &steps.join("; "));
-    Walk { title, file: script.bytes(), names: count }
+    Walk { title, file: script.bytes(), names: count, plus: 0 }
 }
 
-/// Of 8 names with short actions, of 32 names, and of 32 names with actions of 31 entries each, 465 in all.
+/// The same with an element in one step, whose index is a variable: plus in all records, but it might not be.
+fn indexed_walk() -> Walk {
+    let steps: Vec<String> = "abcdef".chars().cycle().take(14).map(|x| format!("{x} := {x} * 1")).collect();
+    let file = file_of("a b c d e f g h A4", &format!("h := A[g]; {}", steps.join("; ")));
+    Walk { title: "9 names, an index", file, names: 6, plus: 3 }
+}
+
+/// Of 8 names with short actions, of 9 with an index, of 32 names, and of 32 names with actions of 31 entries each, 465 in all.
 pub fn walks() -> Vec<Walk> {
     let product = vec!["1"; 15].join(" * ");
-    vec![walk("8 names", 8, "1"), walk("32 names", 32, "1"), walk("32 names, 465 entries", 32, &format!("({product})"))]
+    vec![walk("8 names", 8, "1"), indexed_walk(), walk("32 names", 32, "1"), walk("32 names, 465 entries", 32, &format!("({product})"))]
 }
 
 impl Walk {
@@ -78,7 +87,8 @@ impl Walk {
         let mut seen = std::collections::HashSet::new();
         let mut list = Vec::new();
         while seen.len() < count {
-            let record: Vec<u8> = (0..self.names).map(|_| 1 << random.below(3)).collect();
+            let signs = (0..self.names).map(|_| 1 << random.below(3));
+            let record: Vec<u8> = signs.chain(std::iter::repeat_n(4, self.plus)).collect();
             if seen.insert(record.clone()) {
                 list.extend(record);
             }
@@ -87,6 +97,6 @@ impl Walk {
     }
 
     pub fn width(&self) -> usize {
-        self.names + 2
+        self.names + self.plus + 2
     }
 }
