@@ -265,16 +265,25 @@ fn check_operands(
     ask(all_point(s, l, table, n, roles, e), 9, at)
 }
 
-// Questions 7 to 9 of entry `n` of the table that starts at `start`.
-fn check_entry(s: &[u8], l: Layout, table: Table, start: usize, n: u16) -> Validity
-    requires { ⌜ File.LaidOut (now s) l × (start ≡ File.tableStart (now s) table) ⌝ }
-    ensures { λ r. ⌜ r ≡ spec.entryValidity (now (s .entry)) table n ⌝ }
+// Questions 7 to 9 of entry `n` of the table that starts at `start`. Where they are answered yes, its operands are counted, for question 10.
+fn check_entry(s: &[u8], l: Layout, table: Table, start: usize, n: u16, uses: &mut [u8]) -> Validity
+    requires { ⌜ File.LaidOut (now s) l × (start ≡ File.tableStart (now s) table) × (length (now uses) ≡ 1024) ⌝ }
+    ensures { λ r. ⌜ (r ≡ spec.entryValidity (now (s .entry)) table n) × (length (now (uses .exit)) ≡ 1024)
+        × (spec.entryValidity (now (s .entry)) table n ≡ Validity.Fit
+        → Counting.Counted (now (uses .entry)) (now (uses .exit)) (λ u k. spec.entryUses (now (s .entry)) u k table n)) ⌝ }
 {
     let at = start + 7 * file::long(n);
     let e = file::entry_at(s, at);
     match kinds::shape(table, e.kind) {
         Shape::Unknown => ask(false, 7, at),
-        Shape::Known(roles) => check_operands(s, l, table, n, roles, e, at),
+        Shape::Known(roles) => {
+            let v = check_operands(s, l, table, n, roles, e, at);
+            if refused(v) {
+                return v;
+            }
+            uses::count_operands(uses, roles, e);
+            v
+        }
     }
 }
 
@@ -290,11 +299,10 @@ fn check_table(s: &[u8], l: Layout, table: Table, uses: &mut [u8]) -> Validity
     let count = span.count;
     let mut n: u16 = 0;
     while n < count {
-        let v = check_entry(s, l, table, start, n);
+        let v = check_entry(s, l, table, start, n, uses);
         if refused(v) {
             return v;
         }
-        uses::count_entry(s, table, start, n, uses);
         n += 1;
     }
     Validity::Fit

@@ -1,10 +1,9 @@
 // Question 10: how often each entry is used.
 
 ghost use mathlib.Core.Path.{_≡_};
-ghost use Prim.Native.Nat.{_<_, _≤_, _+_, min};
+ghost use Prim.Native.Nat.{_<_, _+_, min};
 ghost use lib.ListN.{length, getD, set};
 ghost use Rattle.program.specs.Counting as spec;
-ghost use Rattle.program.specs.File;
 ghost use Rattle.program.specs.Questions;
 use crate::Entry;
 use crate::Role;
@@ -75,7 +74,7 @@ fn count_operand(uses: &mut [u8], role: Role, x: u16)
 }
 
 // Counts the operands of an entry.
-fn count_operands(uses: &mut [u8], roles: Roles, e: Entry)
+pub(super) fn count_operands(uses: &mut [u8], roles: Roles, e: Entry)
     requires { ⌜ length (now uses) ≡ 1024 ⌝ }
     ensures { λ _. ⌜ spec.Counted (now (uses .entry)) (now (uses .exit)) (λ u n. Questions.shapeUses u n (Shape.Known roles) e) ⌝ }
 {
@@ -85,16 +84,4 @@ fn count_operands(uses: &mut [u8], roles: Roles, e: Entry)
     count_operand(uses, p, e.p);
     count_operand(uses, q, e.q);
     count_operand(uses, r, e.r);
-}
-
-// Counts the operands of entry `m` of the table that starts at `start`.
-pub(super) fn count_entry(s: &[u8], table: Table, start: usize, m: u16, uses: &mut [u8])
-    requires { ⌜ (start ≡ File.tableStart (now s) table) × (start ≤ length (now s)) × (length (now uses) ≡ 1024) ⌝ }
-    ensures { λ _. ⌜ spec.Counted (now (uses .entry)) (now (uses .exit)) (λ u n. Questions.entryUses (now (s .entry)) u n table m) ⌝ }
-{
-    let e = file::entry_at(s, start + 7 * file::long(m));
-    match kinds::shape(table, e.kind) {
-        Shape::Unknown => {}
-        Shape::Known(roles) => count_operands(uses, roles, e),
-    }
 }

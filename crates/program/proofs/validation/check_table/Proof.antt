@@ -11,9 +11,9 @@ use Rattle.program.specs.File.{entryCount}
 use Rattle.program.specs.Questions.{tableValidity, entryValidity, tableUses}
 use Rattle.program.specs.declared.Span.{Span}
 use Rattle.program.specs.declared.Validity.the-variants.{Fit}
-use Rattle.program.proofs.Asking.{each-stops, each-goes-on, stopped}
+use Rattle.program.proofs.Asking.{each-stops, each-goes-on, answered, stopped}
 use Rattle.program.proofs.Counting.{counted-none, counted-then}
-use Rattle.program.proofs.Reading.{laid-count, laid-start, table-inside}
+use Rattle.program.proofs.Reading.{laid-count, laid-start}
 use Rattle.program.proofs.validation.check_table.Statement.{statement}
 use Rattle.program.proofs.validation.check_table.Tie as tie
 
@@ -33,8 +33,8 @@ loop-holds c = (search needs, refl, counted-none _ _ (λ u n h. refl))
 
 check-entry-requires : tie.Need-check-entry-requires Inv-loop μ-loop
 check-entry-requires c κs =
-    let s = c .before .before .before .before .before in
-    (s .pre .0, ap (λ (x : Span). x .start) (c .before .before .span-of .ensures) ∙ laid-start _ _ (s .pre .0 .same) (s .args .table))
+    let s = c .before .before .before .before .before .before in
+    (s .pre .0, ap (λ (x : Span). x .start) (c .before .before .before .span-of .ensures) ∙ laid-start _ _ (s .pre .0 .same) (s .args .table), c .before .before .loop .inv .2 .same-length ∙ s .pre .1)
 
 refused-requires : tie.Need-refused-requires Inv-loop μ-loop
 refused-requires c κs = search needs
@@ -45,22 +45,13 @@ same-length c = search needs
 returns : tie.Need-returns Inv-loop μ-loop
 unfolding tableValidity
 returns c =
-    let l = c .before .before .before .before .loop in
-    let s = c .before .before .before .before .before .before .before .before in
-    let count : c .before .before .before .before .before .span-of .result .count ≡ entryCount (s .args .s .now) (s .args .table) =
-    ap (λ (x : Span). x .count) (c .before .before .before .before .before .span-of .ensures) ∙ laid-count _ _ (s .pre .0 .same) (s .args .table) in
+    let l = c .before .before .before .before .before .before .before .loop in
+    let s = c .before .before .before .before .before .before .before .before .before .before .before in
+    let count : c .before .before .before .before .before .before .before .before .span-of .result .count ≡ entryCount (s .args .s .now) (s .args .table) =
+    ap (λ (x : Span). x .count) (c .before .before .before .before .before .before .before .before .span-of .ensures) ∙ laid-count _ _ (s .pre .0 .same) (s .args .table) in
     let below : l .n < entryCount (s .args .s .now) (s .args .table) = omega arith in
-    let valid = each-stops _ (entryValidity (s .args .s .now) (s .args .table)) (l .n) _ _ below (l .inv .1) (c .before .before .check-entry .ensures) (c .before .refused .ensures) (c .if1 .taken) in
-    (valid, l .inv .2 .same-length ∙ s .pre .1, stopped valid (c .before .refused .ensures) (c .if1 .taken))
-
-count-entry-requires : tie.Need-count-entry-requires Inv-loop μ-loop
-count-entry-requires c κs =
-    let s = c .before .before .before .before .before .before .before .before .before in
-    let l = s .pre .0 .same in
-    let span = c .before .before .before .before .before .before .span-of .ensures in
-    let count = ap (λ (x : Span). x .count) span ∙ laid-count (s .args .s .now) _ l (s .args .table) in
-    let here = ap (λ (x : Span). x .start) span ∙ laid-start (s .args .s .now) _ l (s .args .table) in
-    (here, omega (arith, table-inside (s .args .s .now) (s .args .table) (omega arith)), c .before .before .before .before .before .loop .inv .2 .same-length ∙ s .pre .1)
+    let valid = each-stops _ (entryValidity (s .args .s .now) (s .args .table)) (l .n) _ _ below (l .inv .1) (c .before .before .before .before .check-entry .ensures .0) (c .before .refused .ensures) (c .if1 .taken) in
+    (valid, c .before .before .before .before .check-entry .ensures .1, stopped valid (c .before .refused .ensures) (c .if1 .taken))
 
 add-n : tie.Need-add-n Inv-loop μ-loop
 add-n c = search needs
@@ -71,10 +62,11 @@ loop-less c = search needs
 loop-again : tie.Need-loop-again Inv-loop μ-loop
 unfolding tableUses
 loop-again c =
-    let l = c .before .before .before .before .before .before .before .before .loop in (
+    let l = c .before .before .before .before .before .before .before .loop in
+    let told = c .before .before .before .before .check-entry .ensures in (
       search needs,
-      rw add-one (each-goes-on _ (l .n) _ _ (l .inv .1) (c .before .before .before .before .before .before .check-entry .ensures) (c .before .before .before .before .before .refused .ensures) (c .before .before .before .before .if1 .left)),
-      simp add-one (counted-then _ _ _ _ _ (l .inv .2) (c .before .before .count-entry .ensures)),
+      rw add-one (each-goes-on _ (l .n) _ _ (l .inv .1) (told .0) (c .before .refused .ensures) (c .if1 .left)),
+      simp add-one (counted-then _ _ _ _ _ (l .inv .2) (told .2 (answered (told .0) (c .before .refused .ensures) (c .if1 .left)))),
     )
 
 same-length-2 : tie.Need-same-length-2 Inv-loop μ-loop
@@ -105,7 +97,6 @@ check-table-spec =
     refused-requires
     same-length
     returns
-    count-entry-requires
     add-n
     loop-less
     loop-again
