@@ -9,6 +9,10 @@
  * for its element. A slice that is written (a pointer without const) must not overlap another slice of the same call. On the largest
  * programs a call takes some 130 KB of stack (measured, not proved): a thread that makes it should have 256 KB.
  *
+ * THE PROGRAM. A program file begins with its names: the byte 1, a length of two bytes (high byte first), and two bytes for each name, 0 for a
+ * variable or the size of an array, 1 to 64. So a program that is fit has length / 2 names, and a memory for it has one cell for a
+ * variable and one for each element of an array, in name order. The rest of the file, its expressions and commands, is the editor's business.
+ *
  * THE REPLY. Every call writes its answer as a row of numbers at the front of `reply`, leaves the rest of `reply` alone, and
  * returns how many numbers the row has, 1 to 4. A reply of fewer than PIZWOTER_REPLY (4) numbers is too short: the call then returns 0
  * and writes nothing, in no buffer whatever.

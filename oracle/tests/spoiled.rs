@@ -1,6 +1,6 @@
 //! The random run itself, tested: on the engine as it is it finds nothing, and on an engine that is spoilt it finds that.
 //!
-//! These tests need the compiled engine, in target/bin or in the folder that ENGINE names. Where there is none they say so and pass: `rt check` builds it.
+//! These tests need the compiled engine, in target/bin or in the folder that ENGINE names. Where there is none they fail and say so: `rt check` builds it.
 
 use std::os::unix::fs::PermissionsExt;
 use std::path::{Path, PathBuf};
@@ -9,14 +9,12 @@ use std::{env, fs};
 
 const PROGRAMS: [&str; 4] = ["program_files", "semantics_runs", "analysis_sheets", "sheet"];
 
-fn engine() -> Option<PathBuf> {
+fn engine() -> PathBuf {
     let repository = Path::new(env!("CARGO_MANIFEST_DIR")).parent().unwrap();
     let folder = env::var_os("ENGINE").map_or_else(|| repository.join("target/bin"), PathBuf::from);
     let is_there = PROGRAMS.iter().all(|name| folder.join(name).is_file());
-    if !is_there {
-        eprintln!("no engine in {}: run `rt check` first", folder.display());
-    }
-    is_there.then(|| fs::canonicalize(folder).unwrap())
+    assert!(is_there, "no engine in {}: run `rt check` first", folder.display());
+    fs::canonicalize(folder).unwrap()
 }
 
 /// A folder of its own for a test, which stands for the repository.
@@ -33,8 +31,8 @@ fn run(engine: &Path, repository: &Path, arguments: &[&str]) -> Output {
 }
 
 /// An engine in which one program is a script; in it, PROGRAM is the program as it was. Hands back what a run of 300 files prints, and its exit status.
-fn spoilt(name: &str, program: &str, script: &str, arguments: &[&str]) -> Option<(String, i32)> {
-    let engine = engine()?;
+fn spoilt(name: &str, program: &str, script: &str, arguments: &[&str]) -> (String, i32) {
+    let engine = engine();
     let folder = scratch(name);
     for other in PROGRAMS {
         std::os::unix::fs::symlink(engine.join(other), folder.join(other)).unwrap();
@@ -53,63 +51,60 @@ fn spoilt(name: &str, program: &str, script: &str, arguments: &[&str]) -> Option
         assert!(!differences.exists());
     }
     fs::remove_dir_all(&folder).unwrap();
-    Some((text, output.status.code().unwrap()))
+    (text, output.status.code().unwrap())
 }
 
 const SOME: [&str; 2] = ["5", "300"];
 
 #[test]
 fn the_engine_as_it_is() {
-    let Some((text, status)) = spoilt("fine", "sheet", "exec PROGRAM", &SOME) else { return };
+    let (text, status) = spoilt("fine", "sheet", "exec PROGRAM", &SOME);
     assert_eq!(status, 0, "{text}");
     assert!(text.ends_with("300 files, 4,200 operations, 0 differences\n"), "{text}");
 }
 
 #[test]
 fn another_answer_of_a_step() {
-    let Some((text, status)) = spoilt("steps", "semantics_runs", "PROGRAM | sed 's/taken/undefined 31/'", &SOME) else { return };
+    let (text, status) = spoilt("steps", "semantics_runs", "PROGRAM | sed 's/taken/undefined 31/'", &SOME);
     assert_eq!(status, 1, "{text}");
     assert!(text.contains("step calls from a fresh run\n") && text.contains("20 differences\n"), "{text}");
 }
 
 #[test]
 fn a_verdict_that_accepts() {
-    let Some((text, status)) = spoilt("verdict", "analysis_sheets", "PROGRAM | sed 's/: 42 record.*offending.*/: accepted index clean; offending/'", &SOME)
-    else {
-        return;
-    };
+    let (text, status) = spoilt("verdict", "analysis_sheets", "PROGRAM | sed 's/: 42 record.*offending.*/: accepted index clean; offending/'", &SOME);
     assert_eq!(status, 1, "{text}");
     assert!(text.contains(": sheet judged\n"), "{text}");
 }
 
 #[test]
 fn one_checksum() {
-    let Some((text, status)) = spoilt("sum", "program_files", "PROGRAM | sed '/^123a: /s/sum ./sum x/'", &SOME) else { return };
+    let (text, status) = spoilt("sum", "program_files", "PROGRAM | sed '/^123a: /s/sum ./sum x/'", &SOME);
     assert_eq!(status, 1, "{text}");
     assert!(text.contains("file 123,") && text.ends_with(" 1 differences\n"), "{text}");
     // The file alone, and the one before it.
-    let (text, status) = spoilt("sum1", "program_files", "PROGRAM | sed '/^123a: /s/sum ./sum x/'", &["5", "1", "123"]).unwrap();
+    let (text, status) = spoilt("sum1", "program_files", "PROGRAM | sed '/^123a: /s/sum ./sum x/'", &["5", "1", "123"]);
     assert!(status == 1 && text.contains("file 123,") && text.ends_with("1 files, 14 operations, 1 differences\n"), "{text}");
-    let (text, status) = spoilt("sum0", "program_files", "PROGRAM | sed '/^123a: /s/sum ./sum x/'", &["5", "1", "122"]).unwrap();
+    let (text, status) = spoilt("sum0", "program_files", "PROGRAM | sed '/^123a: /s/sum ./sum x/'", &["5", "1", "122"]);
     assert_eq!(status, 0, "{text}");
 }
 
 #[test]
 fn a_program_that_is_cut_off() {
-    let Some((text, status)) = spoilt("cut", "program_files", "PROGRAM | head -c 20000", &SOME) else { return };
+    let (text, status) = spoilt("cut", "program_files", "PROGRAM | head -c 20000", &SOME);
     assert_eq!(status, 1, "{text}");
 }
 
 #[test]
 fn a_program_that_is_killed() {
-    let Some((text, status)) = spoilt("killed", "analysis_sheets", "PROGRAM | head -n 40; kill -9 $$", &SOME) else { return };
+    let (text, status) = spoilt("killed", "analysis_sheets", "PROGRAM | head -n 40; kill -9 $$", &SOME);
     assert_eq!(status, 1, "{text}");
     assert!(text.contains("the program ended with signal: 9"), "{text}");
 }
 
 #[test]
 fn a_program_that_prints_all_and_fails() {
-    let Some((text, status)) = spoilt("fails", "semantics_runs", "PROGRAM; exit 3", &SOME) else { return };
+    let (text, status) = spoilt("fails", "semantics_runs", "PROGRAM; exit 3", &SOME);
     assert_eq!(status, 1, "{text}");
     assert!(text.contains("the program ended with exit status: 3"), "{text}");
 }
@@ -121,7 +116,7 @@ fn a_sheet_program_that_is_wrong_killed_or_silent() {
         ("listing-killed", "PROGRAM; kill -9 $$", "sheet program (the program ended with signal: 9"),
         ("listing-none", "exit 0", ": sheet program\n"),
     ] {
-        let Some((text, status)) = spoilt(name, "sheet", script, &SOME) else { return };
+        let (text, status) = spoilt(name, "sheet", script, &SOME);
         assert_eq!(status, 1, "{text}");
         assert!(text.contains(word), "{text}");
     }
