@@ -8,15 +8,10 @@ use native.Mathlib.Omega.{arith}
 use lib.Dec.{eqb, ltb}
 use borrow.Author.Tests.{ltb-true}
 use Rattle.program.specs.File.{layoutOf, spanOf, nameCount, sizeAt, sizes, entryCount, tableStart, entryOffset, entry}
-use Rattle.program.specs.Kind.{shape, tableOf}
+use Rattle.program.specs.Kind.{Role, Unused, Half, Variable, Array, To, Roles, Shape, Unknown, Known, shape, tableOf}
 use Rattle.program.specs.Questions.{nameValidity, named, sameTable, limit, ofSort, points, eachOperand, shapeValidity, entryValidity, tableValidity, entryUses, tableUses, uses, useValidity, usedValidity, lastCommand, lastValidity, usesValidity, contentValidity}
 use Rattle.program.specs.declared.Entry.{Entry}
 use Rattle.program.specs.declared.Layout.{Layout}
-use Rattle.program.specs.declared.Role.{Role}
-use Rattle.program.specs.declared.Role.the-variants.{Unused, Half, Variable, Array, To}
-use Rattle.program.specs.declared.Roles.{Roles}
-use Rattle.program.specs.declared.Shape.{Shape}
-use Rattle.program.specs.declared.Shape.the-variants.{Unknown, Known}
 use Rattle.program.specs.declared.Sort.{Sort}
 use Rattle.program.specs.declared.Sort.the-variants.{Expression, Condition, Command, Guarded}
 use Rattle.program.specs.declared.Table.{Table}

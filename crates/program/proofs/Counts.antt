@@ -8,15 +8,11 @@ use native.Mathlib.Omega.{arith}
 use lib.ListN.{length, length-append}
 use Rattle.program.specs.File.{entryCount, entry}
 use Rattle.program.specs.Graph.{leave, edge, part, graph, edges, edgeCount, nodeCount}
-use Rattle.program.specs.Kind.{kinds, shape, tableOf}
+use Rattle.program.specs.Kind.{Role, Unused, Half, Variable, Array, To, Shape, Unknown, Known, kinds, shape, tableOf}
 use Rattle.program.specs.Questions.{sameTable, limit, refersTo, shapeUses, entryUses, tableUses, uses, lastCommand, validity}
 use Rattle.program.specs.Syntax.{Command, commandSize}
 use Rattle.program.specs.Tree.{commandNode, commandTrees, commandAt, script}
 use Rattle.program.specs.declared.Entry.{Entry}
-use Rattle.program.specs.declared.Role.{Role}
-use Rattle.program.specs.declared.Role.the-variants.{Unused, Half, Variable, Array, To}
-use Rattle.program.specs.declared.Shape.{Shape}
-use Rattle.program.specs.declared.Shape.the-variants.{Unknown, Known}
 use Rattle.program.specs.declared.Sort.the-variants.{Expression, Condition, Command as Commanding, Guarded}
 use Rattle.program.specs.declared.Table.{Table}
 use Rattle.program.specs.declared.Table.the-variants.{Arithmetic, Boolean as Booleans, Commands}

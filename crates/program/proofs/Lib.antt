@@ -12,6 +12,7 @@ pub mod Shapes
 pub mod Counting
 pub mod Fit
 pub mod Operands
+pub mod Checking
 pub mod Trees
 pub mod Forms
 pub mod Filling

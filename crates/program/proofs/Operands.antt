@@ -6,14 +6,10 @@ use Prim.Native.Nat.{ℕ, _<_}
 use lib.Dec.{ltb, eqb}
 use borrow.Author.Tests.{ltb-true}
 use Rattle.program.specs.File.{nameCount, sizeAt, sizes, entryCount, entry}
-use Rattle.program.specs.Kind.{shape, tableOf}
+use Rattle.program.specs.Kind.{Role, Unused, Half, Variable, Array, To, Shape, Unknown, Known, shape, tableOf}
 use Rattle.program.specs.Questions.{named, points, limit, ofSort, eachOperand, shapeValidity, entryValidity, validity}
 use Rattle.program.specs.Sorted.{isVariable, isArray}
 use Rattle.program.specs.declared.Entry.{Entry}
-use Rattle.program.specs.declared.Role.{Role}
-use Rattle.program.specs.declared.Role.the-variants.{Unused, Half, Variable, Array, To}
-use Rattle.program.specs.declared.Shape.{Shape}
-use Rattle.program.specs.declared.Shape.the-variants.{Unknown, Known}
 use Rattle.program.specs.declared.Sort.{Sort}
 use Rattle.program.specs.declared.Table.{Table}
 use Rattle.program.specs.declared.Validity.the-variants.{Fit}

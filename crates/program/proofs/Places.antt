@@ -11,11 +11,10 @@ use borrow.Author.Tests.{leb-true, eqb-true}
 use Rattle.program.specs.Asking.{ask, thenAsk, isRefused, inTurn, askEach}
 use Rattle.program.specs.File.{wordAt, namesField, tableField, programFields, initialField, headFound, headAt, fieldStart, placeAfter, afterHead, fieldHead, nameCount, nameOffset, entryCount, entryOffset}
 use Rattle.program.specs.Questions.{wholeEntries, headValidity, headsValidity, endValidity, nameValidity, shapeValidity, entryValidity, tableValidity, useValidity, toBeUsed, usedValidity, lastCommand, lastValidity, usesValidity, contentValidity, validity, inputValidity}
+use Rattle.program.specs.Kind.{Shape, Unknown, Known}
 use Rattle.program.specs.declared.Field.{Field}
 use Rattle.program.specs.declared.Head.the-variants.{Short, Found}
 use Rattle.program.specs.declared.Refusal.{Refusal}
-use Rattle.program.specs.declared.Shape.{Shape}
-use Rattle.program.specs.declared.Shape.the-variants.{Unknown, Known}
 use Rattle.program.specs.declared.Table.{Table}
 use Rattle.program.specs.declared.Table.the-variants.{Arithmetic, Boolean, Commands}
 use Rattle.program.specs.declared.Validity.{Validity}

@@ -2,14 +2,15 @@
 use mathlib.Core.Path.{_≡_, refl, ap, _∙_}
 use mathlib.Core.Bool.{Bool, true, false, cond}
 use mathlib.Core.List.{List}
-use Prim.Native.Nat.{ℕ, _+_, _*_, _≤_, _<_}
+use Prim.Native.Nat.{ℕ, suc, _+_, _*_, _≤_, _<_}
 use native.Mathlib.Decide.{ℕ-discrete}
 use native.Mathlib.Omega.{arith}
 use borrow.Author.Tests.{leb-true, le-leb, lt-leb, eq-eqb, ne-eqb}
-use lib.Dec.{leb}
+use lib.Dec.{eqb, leb}
 use lib.ListN.{length, List·getD-eq-default}
-use Rattle.program.specs.File.{byteAt, wordAt, namesField, tableTag, tableField, headFound, headAt, fieldStart, fieldHead, headSpan, entryAt, layoutOf, spanOf, nameCount, entryCount, tableStart, entryOffset, entry, cellsOf}
-use Rattle.program.specs.Questions.{headValidity, sameTable, limit}
+use Rattle.program.specs.Asking.{ask}
+use Rattle.program.specs.File.{byteAt, wordAt, namesField, tableField, headFound, headAt, afterHead, placeAfter, fieldStart, fieldHead, headSpan, entryAt, layoutOf, spanOf, nameCount, entryCount, tableStart, entryOffset, entry, cellsOf}
+use Rattle.program.specs.Questions.{headValidity, endValidity, sameTable, limit}
 use Rattle.program.specs.declared.Entry.{Entry}
 use Rattle.program.specs.declared.Field.{Field}
 use Rattle.program.specs.declared.Head.{Head}
@@ -95,18 +96,21 @@ table-width Arithmetic = refl
 table-width Boolean = refl
 table-width Commands = refl
 
-pub table-tag : (t : Table) → tableField t .tag ≡ tableTag t
-unfolding tableField
-table-tag Arithmetic = refl
-table-tag Boolean = refl
-table-tag Commands = refl
-
 pub table-wide : {f : Field} (t : Table) → f ≡ tableField t → 0 < f .width
 table-wide t e = omega (arith, ap (λ (x : Field). x .width) e, table-width t)
 
--- questions 1 to 4 by a field that was made
-pub asked-field : (end : ℕ) (h : Head) {f k : Field} {v : Validity} → v ≡ headValidity end h f → f ≡ k → v ≡ headValidity end h k
-asked-field end h e q = e ∙ ap (headValidity end h) q
+-- questions 1 to 4 by a head that was read and a field that was made
+pub asked-head : (end : ℕ) {h k : Head} {f g : Field} {v : Validity} → v ≡ headValidity end h f → h ≡ k → f ≡ g → v ≡ headValidity end k g
+asked-head end e p q = e ∙ (λ i. headValidity end (p i) (q i))
+
+-- what stands after a field, and question 5 there
+pub next-field : (s : List ℕ) (k : ℕ) {h g : Head} → g ≡ headAt s (afterHead h) → h ≡ fieldHead s k → g ≡ fieldHead s (suc k)
+unfolding fieldHead placeAfter
+next-field s k e f = e ∙ ap (λ (h : Head). headAt s (afterHead h)) f
+
+pub asked-end : (s : List ℕ) (k : ℕ) {h : Head} {at : ℕ} {v : Validity} → v ≡ ask (eqb at (length s)) 5 at → at ≡ afterHead h → h ≡ fieldHead s k → v ≡ endValidity s (suc k)
+unfolding endValidity fieldHead placeAfter
+asked-end s k e f g = e ∙ ap (λ (at : ℕ). ask (eqb at (length s)) 5 at) (f ∙ ap afterHead g)
 
 -- a name whose size is a number of two bytes has fewer cells than there are such numbers
 pub cells-few : (n : ℕ) → n < 65536 → cellsOf n < 65536

@@ -3,9 +3,7 @@ use mathlib.Core.Path.{_≡_, refl, sym}
 use Prim.Native.Nat.{ℕ, zero, suc, _≤_}
 use native.Mathlib.Omega.{arith}
 use lib.ListN.{List·getD-eq-default}
-use Rattle.program.specs.Kind.{with, kinds, shape}
-use Rattle.program.specs.declared.Role.the-variants.{Unused, To}
-use Rattle.program.specs.declared.Shape.the-variants.{Unknown}
+use Rattle.program.specs.Kind.{Unused, To, Unknown, with, kinds, shape}
 use Rattle.program.specs.declared.Sort.the-variants.{Expression, Condition, Guarded}
 use Rattle.program.specs.declared.Table.the-variants.{Arithmetic, Boolean, Commands}
 

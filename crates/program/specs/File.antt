@@ -12,6 +12,7 @@ use Rattle.program.specs.declared.Field.{Field}
 use Rattle.program.specs.declared.FieldHead.{FieldHead}
 use Rattle.program.specs.declared.Head.{Head}
 use Rattle.program.specs.declared.Head.the-variants.{Short, Found}
+use Rattle.program.specs.declared.FieldHeads.{FieldHeads}
 use Rattle.program.specs.declared.Layout.{Layout}
 use Rattle.program.specs.declared.Span.{Span}
 use Rattle.program.specs.declared.Table.{Table}
@@ -101,6 +102,10 @@ layoutOf s =
       boolean = headSpan (fieldHead s 2) (tableField Boolean);
       commands = headSpan (fieldHead s 3) (tableField Commands);
     }
+
+-- the heads that it is worked out from
+unfoldable pub headsOf : List ℕ → FieldHeads
+headsOf s = record { names = fieldHead s 0; arithmetic = fieldHead s 1; boolean = fieldHead s 2; commands = fieldHead s 3 }
 
 -- a table's part of a file
 unfoldable pub spanOf : Layout → Table → Span

@@ -4,14 +4,28 @@ use mathlib.Core.Bool.{Bool, _&&_}
 use mathlib.Core.List.{List, [], _∷_}
 use lib.Dec.{leb}
 use lib.ListN.{getD}
-use Rattle.program.specs.declared.Role.{Role}
-use Rattle.program.specs.declared.Role.the-variants.{Unused, Half, Variable, Array, To}
-use Rattle.program.specs.declared.Shape.{Shape}
-use Rattle.program.specs.declared.Shape.the-variants.{Unknown, Known}
 use Rattle.program.specs.declared.Sort.{Sort}
 use Rattle.program.specs.declared.Sort.the-variants.{Expression, Condition, Command, Guarded}
 use Rattle.program.specs.declared.Table.{Table}
 use Rattle.program.specs.declared.Table.the-variants.{Arithmetic, Boolean, Commands}
+
+-- what an operand is: unused, half of a number, the name of a variable or of an array, or a reference to an entry of a sort
+pub data Role : Type 0 where
+  Unused : Role
+  Half : Role
+  Variable : Role
+  Array : Role
+  To : Sort → Role
+
+pub record Roles : Type 0 where
+  pub p : Role
+  pub q : Role
+  pub r : Role
+
+-- what a kind says of its entry's operands: nothing, where it is unknown
+pub data Shape : Type 0 where
+  Unknown : Shape
+  Known : Roles → Shape
 
 -- the roles of P, Q and R
 abbrev pub with : Role → Role → Role → Shape

@@ -4,6 +4,7 @@ pub mod Asking
 pub mod Kind
 pub mod Questions
 pub mod Counting
+pub mod Checking
 pub mod Syntax
 pub mod Tree
 pub mod Decoding

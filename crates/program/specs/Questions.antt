@@ -6,16 +6,11 @@ use lib.Dec.{eqb, leb, ltb}
 use lib.ListN.{length, take}
 use Rattle.program.specs.Asking.{ask, thenAsk, inTurn, askEach}
 use Rattle.program.specs.File.{tableTag, programFields, initialField, fieldStart, fieldHead, headContent, nameCount, nameOffset, sizeAt, sizes, entryCount, entryOffset, entry, cellCount}
-use Rattle.program.specs.Kind.{shape, tableOf, isCommand, isGuarded}
+use Rattle.program.specs.Kind.{Role, Unused, Half, Variable, Array, To, Roles, Shape, Unknown, Known, shape, tableOf, isCommand, isGuarded}
 use Rattle.program.specs.declared.Entry.{Entry}
 use Rattle.program.specs.declared.Field.{Field}
 use Rattle.program.specs.declared.Head.{Head}
 use Rattle.program.specs.declared.Head.the-variants.{Short, Found}
-use Rattle.program.specs.declared.Role.{Role}
-use Rattle.program.specs.declared.Role.the-variants.{Unused, Half, Variable, Array, To}
-use Rattle.program.specs.declared.Roles.{Roles}
-use Rattle.program.specs.declared.Shape.{Shape}
-use Rattle.program.specs.declared.Shape.the-variants.{Unknown, Known}
 use Rattle.program.specs.declared.Sort.{Sort}
 use Rattle.program.specs.declared.Sort.the-variants.{Expression, Condition, Command, Guarded}
 use Rattle.program.specs.declared.Table.{Table}

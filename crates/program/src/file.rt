@@ -1,11 +1,13 @@
 // Reading a program file. All of it is total: a byte past the end is 0.
 
 ghost use mathlib.Core.Path.{_≡_};
-ghost use Prim.Native.Nat.{_<_, _+_, _*_, min};
+ghost use mathlib.Core.List.{List};
+ghost use Prim.Native.Nat.{ℕ, _<_, _+_, _*_, min};
 ghost use lib.ListN.{length};
 ghost use Rattle.program.specs.File as spec;
 use crate::Entry;
 use crate::Field;
+use crate::FieldHeads;
 use crate::Head;
 use crate::Layout;
 use crate::Span;
@@ -146,16 +148,43 @@ fn head_span(head: Head, field: Field) -> Span
     }
 }
 
+// What stands at the four fields of a program: the reader goes through the file once.
+pub(crate) fn heads(s: &[u8]) -> FieldHeads
+    ensures { λ r. ⌜ r ≡ spec.headsOf (now (s .entry)) ⌝ }
+{
+    let names = reader::field_head(s, 0);
+    let arithmetic = reader::next_head(s, names);
+    let boolean = reader::next_head(s, arithmetic);
+    let commands = reader::next_head(s, boolean);
+    FieldHeads {
+        names,
+        arithmetic,
+        boolean,
+        commands,
+    }
+}
+
+// Where a file with these heads has its names and its tables.
+pub(crate) fn layout_by(h: FieldHeads) -> Layout
+    ensures { λ r. ⌜ ((s : List ℕ) → h ≡ spec.headsOf s → r ≡ spec.layoutOf s) ⌝ }
+{
+    let names = h.names;
+    let arithmetic = h.arithmetic;
+    let boolean = h.boolean;
+    let commands = h.commands;
+    Layout {
+        names: head_span(names, names_field()),
+        arithmetic: head_span(arithmetic, table_field(Table::Arithmetic)),
+        boolean: head_span(boolean, table_field(Table::Boolean)),
+        commands: head_span(commands, table_field(Table::Commands)),
+    }
+}
+
 // Where a file has its names and its tables.
 pub fn layout(s: &[u8]) -> Layout
     ensures { λ r. ⌜ r ≡ spec.layoutOf (now (s .entry)) ⌝ }
 {
-    Layout {
-        names: head_span(reader::field_head(s, 0), names_field()),
-        arithmetic: head_span(reader::field_head(s, 1), table_field(Table::Arithmetic)),
-        boolean: head_span(reader::field_head(s, 2), table_field(Table::Boolean)),
-        commands: head_span(reader::field_head(s, 3), table_field(Table::Commands)),
-    }
+    layout_by(heads(s))
 }
 
 // A table's part of a file.

@@ -48,28 +48,6 @@ pub enum Sort {
     Guarded,
 }
 
-// What an operand is: unused, half of a number, the name of a variable or of an array, or a reference to an entry.
-pub enum Role {
-    Unused,
-    Half,
-    Variable,
-    Array,
-    To(Sort),
-}
-
-// The roles of the three operands of an entry.
-pub struct Roles {
-    pub p: Role,
-    pub q: Role,
-    pub r: Role,
-}
-
-// What a kind number says of its entry's operands.
-pub enum Shape {
-    Unknown,
-    Known(Roles),
-}
-
 // The number of the question whose answer is no, and the byte of the file that it concerns (0 where the question has no place).
 pub struct Refusal {
     pub number: u8,
@@ -153,6 +131,14 @@ pub struct FieldHead {
 pub enum Head {
     Short(usize),
     Found(FieldHead),
+}
+
+// What stands at the four fields of a program.
+pub struct FieldHeads {
+    pub names: Head,
+    pub arithmetic: Head,
+    pub boolean: Head,
+    pub commands: Head,
 }
 
 // The field reader: a file's bytes and a place in them.

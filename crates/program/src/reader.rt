@@ -28,13 +28,20 @@ pub fn head_at(s: &[u8], at: usize) -> Head
 }
 
 // Where the reader goes from a head: to the next field, or nowhere where no head stands.
-fn after(head: Head) -> usize
+pub(crate) fn after(head: Head) -> usize
     ensures { λ r. ⌜ r ≡ spec.afterHead head ⌝ }
 {
     match head {
         Head::Short(at) => at,
         Head::Found(field) => field.next,
     }
+}
+
+// What stands there.
+pub(crate) fn next_head(s: &[u8], head: Head) -> Head
+    ensures { λ r. ⌜ r ≡ spec.headAt (now (s .entry)) (spec.afterHead head) ⌝ }
+{
+    head_at(s, after(head))
 }
 
 // Where `k` fields from `at` on end, or the first place on the way where no head stands.

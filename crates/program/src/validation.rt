@@ -3,26 +3,25 @@
 ghost use mathlib.Core.Path.{_≡_};
 ghost use Prim.Native.Nat.{_<_};
 ghost use lib.ListN.{length, take, drop};
-ghost use mathlib.Core.Bool.{_&&_, cond};
+ghost use mathlib.Core.Bool.{_&&_};
 ghost use mathlib.Core.List.{[], _∷_};
-ghost use lib.Dec.{leb};
+ghost use lib.Dec.{eqb, leb};
 ghost use Rattle.program.specs.Questions as spec;
 ghost use Rattle.program.specs.Asking;
+ghost use Rattle.program.specs.Checking;
 ghost use Rattle.program.specs.Counting;
 ghost use Rattle.program.specs.File;
-use crate::Entry;
 use crate::Field;
 use crate::FieldHead;
+use crate::FieldHeads;
 use crate::Head;
 use crate::Layout;
 use crate::Refusal;
-use crate::Role;
-use crate::Roles;
-use crate::Shape;
-use crate::Sort;
 use crate::Table;
 use crate::Validity;
 
+mod entries;
+mod operands;
 pub(crate) mod uses;
 
 use crate::file;
@@ -86,45 +85,28 @@ fn check_head(end: usize, head: Head, field: Field) -> Validity
     }
 }
 
-// Questions 1 to 4 of the field with `k` fields before it.
-fn check_field(s: &[u8], k: u8, field: Field) -> Validity
-    requires { ⌜ 0 < field .width ⌝ }
-    ensures { λ r. ⌜ r ≡ spec.headValidity (length (now (s .entry))) (File.fieldHead (now (s .entry)) k) field ⌝ }
-{
-    check_head(s.len(), reader::field_head(s, k), field)
-}
-
-// Whether operand `x` is zero where it is unused, and names a name of its sort where it is a name.
-fn named(s: &[u8], names: u16, role: Role, x: u16) -> bool
-    requires { ⌜ names ≡ File.nameCount (now s) ⌝ }
-    ensures { λ r. ⌜ r ≡ spec.named (now (s .entry)) role x ⌝ }
-{
-    match role {
-        Role::Unused => x == 0,
-        Role::Half => true,
-        Role::Variable => x < names && file::size_at(s, x) == 0,
-        Role::Array => x < names && 0 < file::size_at(s, x),
-        Role::To(_) => true,
-    }
-}
-
-// Questions 1 to 4 of the four fields.
-fn check_heads(s: &[u8]) -> Validity
+// Questions 1 to 4 of the four fields, whose heads are at hand.
+fn check_heads(s: &[u8], h: FieldHeads) -> Validity
+    requires { ⌜ h ≡ File.headsOf (now s) ⌝ }
     ensures { λ r. ⌜ r ≡ spec.headsValidity (now (s .entry)) 0 File.programFields ⌝ }
 {
-    let names = check_field(s, 0, file::names_field());
+    let first = h.names;
+    let second = h.arithmetic;
+    let third = h.boolean;
+    let fourth = h.commands;
+    let names = check_head(s.len(), first, file::names_field());
     if refused(names) {
         return names;
     }
-    let arithmetic = check_field(s, 1, file::table_field(Table::Arithmetic));
+    let arithmetic = check_head(s.len(), second, file::table_field(Table::Arithmetic));
     if refused(arithmetic) {
         return arithmetic;
     }
-    let boolean = check_field(s, 2, file::table_field(Table::Boolean));
+    let boolean = check_head(s.len(), third, file::table_field(Table::Boolean));
     if refused(boolean) {
         return boolean;
     }
-    check_field(s, 3, file::table_field(Table::Commands))
+    check_head(s.len(), fourth, file::table_field(Table::Commands))
 }
 
 // Whether a size is 0 to 64 and a cell total at most 512.
@@ -153,153 +135,17 @@ fn check_names(s: &[u8], names: u16) -> Validity
     Validity::Fit
 }
 
-// Whether two tables are the same: they have the same tag.
-fn same_table(t: Table, u: Table) -> bool
-    ensures { λ r. ⌜ r ≡ spec.sameTable t u ⌝ }
-{
-    let first = file::table_field(t);
-    let second = file::table_field(u);
-    first.tag == second.tag
-}
-
-// The references from entry `n` of a table to `target` are below this number.
-fn limit(l: Layout, table: Table, n: u16, target: Table) -> u16
-    ensures { λ r. ⌜ r ≡ cond (spec.sameTable table target) n (File.spanOf l target .count) ⌝ }
-{
-    if same_table(table, target) {
-        return n;
-    }
-    let span = file::span_of(l, target);
-    span.count
-}
-
-// The kind of command entry `n`.
-fn command_kind(s: &[u8], l: Layout, n: u16) -> u8
-    requires { ⌜ File.LaidOut (now s) l ⌝ }
-    ensures { λ r. ⌜ r ≡ File.entry (now (s .entry)) Table.Commands n .kind ⌝ }
-{
-    let span = l.commands;
-    file::byte_at(s, span.start + 7 * file::long(n))
-}
-
-// Whether entry `x` of a sort's table is of that sort.
-fn of_sort(s: &[u8], l: Layout, sort: Sort, x: u16) -> bool
-    requires { ⌜ File.LaidOut (now s) l ⌝ }
-    ensures { λ r. ⌜ r ≡ spec.ofSort (now (s .entry)) sort x ⌝ }
-{
-    match sort {
-        Sort::Expression => true,
-        Sort::Condition => true,
-        Sort::Command => kinds::is_command(command_kind(s, l, x)),
-        Sort::Guarded => kinds::is_guarded(command_kind(s, l, x)),
-    }
-}
-
-// Whether a reference `x` from entry `n` of a table points to an entry of a sort that it may point to.
-fn points_to(s: &[u8], l: Layout, table: Table, n: u16, sort: Sort, x: u16) -> bool
-    requires { ⌜ File.LaidOut (now s) l ⌝ }
-    ensures { λ r. ⌜ r ≡ spec.points (now (s .entry)) table n (Role.To sort) x ⌝ }
-{
-    x < limit(l, table, n, kinds::table_of(sort)) && of_sort(s, l, sort, x)
-}
-
-// Whether operand `x` of entry `n` of a table points as it must, where it is a reference.
-fn points(s: &[u8], l: Layout, table: Table, n: u16, role: Role, x: u16) -> bool
-    requires { ⌜ File.LaidOut (now s) l ⌝ }
-    ensures { λ r. ⌜ r ≡ spec.points (now (s .entry)) table n role x ⌝ }
-{
-    match role {
-        Role::Unused => true,
-        Role::Half => true,
-        Role::Variable => true,
-        Role::Array => true,
-        Role::To(sort) => points_to(s, l, table, n, sort, x),
-    }
-}
-
-// Whether all operands are named as they must be.
-fn all_named(s: &[u8], names: u16, roles: Roles, e: Entry) -> bool
-    requires { ⌜ names ≡ File.nameCount (now s) ⌝ }
-    ensures { λ r. ⌜ r ≡ spec.eachOperand (spec.named (now (s .entry))) roles e ⌝ }
-{
-    let p = roles.p;
-    let q = roles.q;
-    let r = roles.r;
-    if !named(s, names, p, e.p) {
-        return false;
-    }
-    named(s, names, q, e.q) && named(s, names, r, e.r)
-}
-
-// Whether all operands point as they must.
-fn all_point(s: &[u8], l: Layout, table: Table, n: u16, roles: Roles, e: Entry) -> bool
-    requires { ⌜ File.LaidOut (now s) l ⌝ }
-    ensures { λ r. ⌜ r ≡ spec.eachOperand (spec.points (now (s .entry)) table n) roles e ⌝ }
-{
-    let p = roles.p;
-    let q = roles.q;
-    let r = roles.r;
-    if !points(s, l, table, n, p, e.p) {
-        return false;
-    }
-    points(s, l, table, n, q, e.q) && points(s, l, table, n, r, e.r)
-}
-
-// Questions 8 and 9 of the entry `e`, which is entry `n` of a table and stands at `at`.
-fn check_operands(
-    s: &[u8],
-    l: Layout,
-    table: Table,
-    n: u16,
-    roles: Roles,
-    e: Entry,
-    at: usize,
-) -> Validity
-    requires { ⌜ File.LaidOut (now s) l × (e ≡ File.entry (now s) table n) × (at ≡ File.entryOffset (now s) table n) ⌝ }
-    ensures { λ r. ⌜ r ≡ spec.shapeValidity (now (s .entry)) table n (Shape.Known roles) ⌝ }
-{
-    let names = l.names;
-    if !all_named(s, names.count, roles, e) {
-        return ask(false, 8, at);
-    }
-    ask(all_point(s, l, table, n, roles, e), 9, at)
-}
-
-// Questions 7 to 9 of entry `n` of the table that starts at `start`. Where they are answered yes, its operands are counted, for question 10.
-fn check_entry(s: &[u8], l: Layout, table: Table, start: usize, n: u16, uses: &mut [u8]) -> Validity
-    requires { ⌜ File.LaidOut (now s) l × (start ≡ File.tableStart (now s) table) × (length (now uses) ≡ 1024) ⌝ }
-    ensures { λ r. ⌜ (r ≡ spec.entryValidity (now (s .entry)) table n) × (length (now (uses .exit)) ≡ 1024)
-        × (spec.entryValidity (now (s .entry)) table n ≡ Validity.Fit
-        → Counting.Counted (now (uses .entry)) (now (uses .exit)) (λ u k. spec.entryUses (now (s .entry)) u k table n)) ⌝ }
-{
-    let at = start + 7 * file::long(n);
-    let e = file::entry_at(s, at);
-    match kinds::shape(table, e.kind) {
-        Shape::Unknown => ask(false, 7, at),
-        Shape::Known(roles) => {
-            let v = check_operands(s, l, table, n, roles, e, at);
-            if refused(v) {
-                return v;
-            }
-            uses::count_operands(uses, roles, e);
-            v
-        }
-    }
-}
-
 // Questions 7 to 9 of a table's entries. Where they are answered yes, the operands of all are counted, for question 10: one pass serves both.
-fn check_table(s: &[u8], l: Layout, table: Table, uses: &mut [u8]) -> Validity
-    requires { ⌜ File.LaidOut (now s) l × (length (now uses) ≡ 1024) ⌝ }
-    ensures { λ r. ⌜ (r ≡ spec.tableValidity (now (s .entry)) table) × (length (now (uses .exit)) ≡ 1024)
-        × (spec.tableValidity (now (s .entry)) table ≡ Validity.Fit
-        → Counting.Counted (now (uses .entry)) (now (uses .exit)) (λ u n. spec.tableUses (now (s .entry)) u n table (File.entryCount (now (s .entry)) table))) ⌝ }
+fn check_table(s: &[u8], l: Layout, table: Table, uses: &mut [u8; 1024]) -> Validity
+    requires { ⌜ File.LaidOut (now s) l ⌝ }
+    ensures { λ r. ⌜ Checking.TableChecked (now (s .entry)) table (now (uses .entry)) (now (uses .exit)) r ⌝ }
 {
     let span = file::span_of(l, table);
     let start = span.start;
     let count = span.count;
     let mut n: u16 = 0;
     while n < count {
-        let v = check_entry(s, l, table, start, n, uses);
+        let v = entries::check_entry(s, l, table, start, n, uses);
         if refused(v) {
             return v;
         }
@@ -401,11 +247,10 @@ fn check_entries(s: &[u8], l: Layout) -> Validity
 }
 
 // Questions 6 to 11, where questions 1 to 4 are answered yes.
-fn check_content(s: &[u8]) -> Validity
-    requires { ⌜ spec.headsValidity (now s) 0 File.programFields ≡ Validity.Fit ⌝ }
+fn check_content(s: &[u8], l: Layout) -> Validity
+    requires { ⌜ (spec.headsValidity (now s) 0 File.programFields ≡ Validity.Fit) × (l ≡ File.layoutOf (now s)) ⌝ }
     ensures { λ r. ⌜ r ≡ spec.contentValidity (now (s .entry)) ⌝ }
 {
-    let l = file::layout(s);
     let spans = l.names;
     let names = check_names(s, spans.count);
     if refused(names) {
@@ -414,11 +259,10 @@ fn check_content(s: &[u8]) -> Validity
     check_entries(s, l)
 }
 
-// Question 5, after `k` fields.
-fn check_end(s: &[u8], k: u8) -> Validity
-    ensures { λ r. ⌜ r ≡ spec.endValidity (now (s .entry)) k ⌝ }
+// Question 5: whether a file ends after its last field, at `at`.
+fn check_end(s: &[u8], at: usize) -> Validity
+    ensures { λ r. ⌜ r ≡ Asking.ask (eqb at (length (now (s .entry)))) 5 at ⌝ }
 {
-    let at = reader::place_after(s, 0, k);
     ask(at == s.len(), 5, at)
 }
 
@@ -427,15 +271,17 @@ pub fn validate(s: &[u8]) -> Validity
     ensures { λ r. ⌜ r ≡ spec.validity (now (s .entry)) ⌝ }
     ensures numbers { λ r. ⌜ Asking.validityNumbers r ≡ Asking.validityNumbers (spec.validity (now (s .entry))) ⌝ }
 {
-    let heads = check_heads(s);
+    let h = file::heads(s);
+    let heads = check_heads(s, h);
     if refused(heads) {
         return heads;
     }
-    let end = check_end(s, 4);
+    let last = h.commands;
+    let end = check_end(s, reader::after(last));
     if refused(end) {
         return end;
     }
-    check_content(s)
+    check_content(s, file::layout_by(h))
 }
 
 // Questions 1 to 11 of the sheet program's input, whose fifth field is the start list.
@@ -443,20 +289,24 @@ pub fn validate_input(s: &[u8]) -> Validity
     ensures { λ r. ⌜ r ≡ spec.inputValidity (now (s .entry)) ⌝ }
     ensures numbers { λ r. ⌜ Asking.validityNumbers r ≡ Asking.validityNumbers (spec.inputValidity (now (s .entry))) ⌝ }
 {
-    let heads = check_heads(s);
+    let h = file::heads(s);
+    let heads = check_heads(s, h);
     if refused(heads) {
         return heads;
     }
-    let field = file::initial_field(file::name_count(s));
-    let initial = check_field(s, 4, field);
+    let l = file::layout_by(h);
+    let spans = l.names;
+    let fourth = h.commands;
+    let fifth = reader::next_head(s, fourth);
+    let initial = check_head(s.len(), fifth, file::initial_field(spans.count));
     if refused(initial) {
         return initial;
     }
-    let end = check_end(s, 5);
+    let end = check_end(s, reader::after(fifth));
     if refused(end) {
         return end;
     }
-    check_content(s)
+    check_content(s, l)
 }
 
 // The program's part of the sheet program's input: its first four fields.

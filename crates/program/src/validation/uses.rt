@@ -4,11 +4,8 @@ ghost use mathlib.Core.Path.{_≡_};
 ghost use Prim.Native.Nat.{_<_, _+_, min};
 ghost use lib.ListN.{length, getD, set};
 ghost use Rattle.program.specs.Counting as spec;
+ghost use Rattle.program.specs.Kind;
 ghost use Rattle.program.specs.Questions;
-use crate::Entry;
-use crate::Role;
-use crate::Roles;
-use crate::Shape;
 use crate::Sort;
 use crate::Table;
 use crate::file;
@@ -49,39 +46,11 @@ fn bump(uses: &mut [u8], k: usize)
 }
 
 // Counts a reference `x` to an entry of a sort.
-fn count_reference(uses: &mut [u8], sort: Sort, x: u16)
-    requires { ⌜ length (now uses) ≡ 1024 ⌝ }
-    ensures { λ _. ⌜ spec.Counted (now (uses .entry)) (now (uses .exit)) (λ u n. Questions.refersTo u n (Role.To sort) x) ⌝ }
+pub(super) fn count_reference(uses: &mut [u8; 1024], sort: Sort, x: u16)
+    ensures { λ _. ⌜ spec.Counted (now (uses .entry)) (now (uses .exit)) (λ u n. Questions.refersTo u n (Kind.To sort) x) ⌝ }
 {
     let table = kinds::table_of(sort);
     if x < capacity(table) {
         bump(uses, slot(table, x));
     }
-}
-
-// Counts an operand `x` with its role.
-fn count_operand(uses: &mut [u8], role: Role, x: u16)
-    requires { ⌜ length (now uses) ≡ 1024 ⌝ }
-    ensures { λ _. ⌜ spec.Counted (now (uses .entry)) (now (uses .exit)) (λ u n. Questions.refersTo u n role x) ⌝ }
-{
-    match role {
-        Role::Unused => {}
-        Role::Half => {}
-        Role::Variable => {}
-        Role::Array => {}
-        Role::To(sort) => count_reference(uses, sort, x),
-    }
-}
-
-// Counts the operands of an entry.
-pub(super) fn count_operands(uses: &mut [u8], roles: Roles, e: Entry)
-    requires { ⌜ length (now uses) ≡ 1024 ⌝ }
-    ensures { λ _. ⌜ spec.Counted (now (uses .entry)) (now (uses .exit)) (λ u n. Questions.shapeUses u n (Shape.Known roles) e) ⌝ }
-{
-    let p = roles.p;
-    let q = roles.q;
-    let r = roles.r;
-    count_operand(uses, p, e.p);
-    count_operand(uses, q, e.q);
-    count_operand(uses, r, e.r);
 }

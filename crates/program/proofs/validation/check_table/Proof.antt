@@ -11,7 +11,7 @@ use Rattle.program.specs.File.{entryCount}
 use Rattle.program.specs.Questions.{tableValidity, entryValidity, tableUses}
 use Rattle.program.specs.declared.Span.{Span}
 use Rattle.program.specs.declared.Validity.the-variants.{Fit}
-use Rattle.program.proofs.Asking.{each-stops, each-goes-on, answered, stopped}
+use Rattle.program.proofs.Asking.{each-stops, each-goes-on, not-refused, stopped}
 use Rattle.program.proofs.Counting.{counted-none, counted-then}
 use Rattle.program.proofs.Reading.{laid-count, laid-start}
 use Rattle.program.proofs.validation.check_table.Statement.{statement}
@@ -33,25 +33,24 @@ loop-holds c = (search needs, refl, counted-none _ _ (λ u n h. refl))
 
 check-entry-requires : tie.Need-check-entry-requires Inv-loop μ-loop
 check-entry-requires c κs =
-    let s = c .before .before .before .before .before .before in
-    (s .pre .0, ap (λ (x : Span). x .start) (c .before .before .before .span-of .ensures) ∙ laid-start _ _ (s .pre .0 .same) (s .args .table), c .before .before .loop .inv .2 .same-length ∙ s .pre .1)
+    let s = c .before .before .before .before .before in
+    (s .pre, ap (λ (x : Span). x .start) (c .before .before .before .span-of .ensures) ∙ laid-start _ _ (s .pre .same) (s .args .table))
 
 refused-requires : tie.Need-refused-requires Inv-loop μ-loop
 refused-requires c κs = search needs
 
-same-length : tie.Need-same-length Inv-loop μ-loop
-same-length c = search needs
-
 returns : tie.Need-returns Inv-loop μ-loop
 unfolding tableValidity
 returns c =
-    let l = c .before .before .before .before .before .before .before .loop in
-    let s = c .before .before .before .before .before .before .before .before .before .before .before in
-    let count : c .before .before .before .before .before .before .before .before .span-of .result .count ≡ entryCount (s .args .s .now) (s .args .table) =
-    ap (λ (x : Span). x .count) (c .before .before .before .before .before .before .before .before .span-of .ensures) ∙ laid-count _ _ (s .pre .0 .same) (s .args .table) in
+    let l = c .before .before .before .before .before .loop in
+    let s = c .before .before .before .before .before .before .before .before in
+    let count : c .before .before .before .before .before .before .span-of .result .count ≡ entryCount (s .args .s .now) (s .args .table) =
+    ap (λ (x : Span). x .count) (c .before .before .before .before .before .before .span-of .ensures) ∙ laid-count _ _ (s .pre .same) (s .args .table) in
     let below : l .n < entryCount (s .args .s .now) (s .args .table) = omega arith in
-    let valid = each-stops _ (entryValidity (s .args .s .now) (s .args .table)) (l .n) _ _ below (l .inv .1) (c .before .before .before .before .check-entry .ensures .0) (c .before .refused .ensures) (c .if1 .taken) in
-    (valid, c .before .before .before .before .check-entry .ensures .1, stopped valid (c .before .refused .ensures) (c .if1 .taken))
+    record {
+      valid = each-stops _ (entryValidity (s .args .s .now) (s .args .table)) (l .n) _ _ below (l .inv .1) (c .before .before .check-entry .ensures .valid) (c .before .refused .ensures) (c .if1 .taken);
+      counted = stopped refl (c .before .refused .ensures) (c .if1 .taken);
+    }
 
 add-n : tie.Need-add-n Inv-loop μ-loop
 add-n c = search needs
@@ -62,28 +61,24 @@ loop-less c = search needs
 loop-again : tie.Need-loop-again Inv-loop μ-loop
 unfolding tableUses
 loop-again c =
-    let l = c .before .before .before .before .before .before .before .loop in
-    let told = c .before .before .before .before .check-entry .ensures in (
+    let l = c .before .before .before .before .before .loop in
+    let told = c .before .before .check-entry .ensures in (
       search needs,
-      rw add-one (each-goes-on _ (l .n) _ _ (l .inv .1) (told .0) (c .before .refused .ensures) (c .if1 .left)),
-      simp add-one (counted-then _ _ _ _ _ (l .inv .2) (told .2 (answered (told .0) (c .before .refused .ensures) (c .if1 .left)))),
+      rw add-one (each-goes-on _ (l .n) _ _ (l .inv .1) (told .valid) (c .before .refused .ensures) (c .if1 .left)),
+      simp add-one (counted-then _ _ _ _ _ (l .inv .2) (told .counted (not-refused _ _ (c .before .refused .ensures) (c .if1 .left)))),
     )
-
-same-length-2 : tie.Need-same-length-2 Inv-loop μ-loop
-same-length-2 c = search needs
 
 returns-2 : tie.Need-returns-2 Inv-loop μ-loop
 unfolding tableValidity
 returns-2 c =
     let l = c .before .loop in
-    let s = c .before .before .before .before .before in
-    let count = ap (λ (x : Span). x .count) (c .before .before .span-of .ensures) ∙ laid-count _ _ (s .pre .0 .same) (s .args .table) in
+    let s = c .before .before .before .before in
+    let count = ap (λ (x : Span). x .count) (c .before .before .span-of .ensures) ∙ laid-count _ _ (s .pre .same) (s .args .table) in
     let all : l .n ≡ entryCount (s .args .s .now) (s .args .table) = omega arith in
-    let valid = ap (λ n. askEach n (entryValidity (s .args .s .now) (s .args .table))) (sym all) ∙ l .inv .1 in (
-      sym valid,
-      l .inv .2 .same-length ∙ s .pre .1,
-      λ fit. subst (λ (k : ℕ). Counted (s .args .uses .now) (l .uses) (λ u n. tableUses (s .args .s .now) u n (s .args .table) k)) all (l .inv .2),
-    )
+    record {
+      valid = sym (ap (λ n. askEach n (entryValidity (s .args .s .now) (s .args .table))) (sym all) ∙ l .inv .1);
+      counted = λ fit. subst (λ (k : ℕ). Counted (s .args .uses .now) (l .uses) (λ u n. tableUses (s .args .s .now) u n (s .args .table) k)) all (l .inv .2);
+    }
 
 pub check-table-spec : {M : Type 1} → statement M
 check-table-spec =
@@ -95,10 +90,8 @@ check-table-spec =
     loop-holds
     check-entry-requires
     refused-requires
-    same-length
     returns
     add-n
     loop-less
     loop-again
-    same-length-2
     returns-2)

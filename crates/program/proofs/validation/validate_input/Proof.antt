@@ -1,36 +1,40 @@
 -- `program::validation::validate_input` meets its contract.
 use borrow.Author.Needs.{needs}
-use mathlib.Core.Path.{_≡_, _∙_, ap}
 use lib.ListN.{length}
+use mathlib.Core.Path.{_≡_, _∙_, ap}
 use native.Mathlib.Omega.{arith}
 use Rattle.program.specs.Asking.{inTurn}
-use Rattle.program.specs.File.{programFields, fieldHead, initialField, nameCount}
+use Rattle.program.specs.File.{programFields, fieldHead, headsOf, initialField, nameCount}
 use Rattle.program.specs.Questions.{headValidity, headsValidity, endValidity, inputValidity}
 use Rattle.program.specs.declared.Field.{Field}
+use Rattle.program.specs.declared.FieldHeads.{FieldHeads}
 use Rattle.program.specs.declared.Validity.the-variants.{Fit}
 use Rattle.program.proofs.Asking.{stops, answered, passed, last-asked, numbered}
 use Rattle.program.proofs.Fit.{counts-allowed}
-use Rattle.program.proofs.Reading.{asked-field}
+use Rattle.program.proofs.Reading.{laid-names, asked-head, next-field, asked-end}
 use Rattle.program.proofs.validation.validate_input.Statement.{statement}
 use Rattle.program.proofs.validation.validate_input.Tie as tie
 
--- questions 1 to 4 are asked of the start list
-initial : (c : tie.After-check-field) → c .check-field .result ≡ headValidity (length (c .before .before .before .before .before .before .before .args .s .now)) (fieldHead (c .before .before .before .before .before .before .before .args .s .now) 4) (initialField (nameCount (c .before .before .before .before .before .before .before .args .s .now)))
-initial c =
-    asked-field _ _ (c .check-field .ensures) (c .before .initial-field .ensures ∙ ap initialField (c .before .before .name-count .ensures))
-
 -- the questions that are answered yes
-heads : (c : tie.Else1) → headsValidity (c .before .before .before .before .args .s .now) 0 programFields ≡ Fit
-heads c =
-    answered (c .before .before .check-heads .ensures) (c .before .refused .ensures) (c .if1 .left)
+heads-fit : (c : tie.Else1) → headsValidity (c .before .before .before .before .before .args .s .now) 0 programFields ≡ Fit
+heads-fit c = answered (c .before .before .check-heads .ensures) (c .before .refused .ensures) (c .if1 .left)
 
-initial-fit : (c : tie.Else2) → headValidity (length (c .before .before .before .before .before .before .before .before .before .args .s .now)) (fieldHead (c .before .before .before .before .before .before .before .before .before .args .s .now) 4) (initialField (nameCount (c .before .before .before .before .before .before .before .before .before .args .s .now))) ≡ Fit
-initial-fit c =
-    answered (initial (c .before .before)) (c .before .refused2 .ensures) (c .if2 .left)
+-- what stands at the start list's field
+fifth : (c : tie.After-next-head) → c .next-head .result ≡ fieldHead (c .before .before .before .before .before .before .before .before .args .s .now) 4
+unfolding headsOf
+fifth c = next-field _ 3 (c .next-head .ensures) (ap (λ (h : FieldHeads). h .commands) (c .before .before .before .before .before .before .heads .ensures))
 
-end : (c : tie.Else3) → endValidity (c .before .before .before .before .before .before .before .before .before .before .before .before .args .s .now) 5 ≡ Fit
-end c =
-    answered (c .before .before .check-end .ensures) (c .before .refused3 .ensures) (c .if3 .left)
+-- questions 1 to 4 are asked of it
+initial : (c : tie.After-check-head) → c .check-head .result ≡ headValidity (length (c .before .before .before .before .before .before .before .before .before .before .args .s .now)) (fieldHead (c .before .before .before .before .before .before .before .before .before .before .args .s .now) 4) (initialField (nameCount (c .before .before .before .before .before .before .before .before .before .before .args .s .now)))
+initial c =
+    asked-head _ (c .check-head .ensures) (fifth (c .before .before)) (c .before .initial-field .ensures ∙ ap initialField (laid-names _ _ (c .before .before .before .before .layout-by .ensures _ (c .before .before .before .before .before .before .before .before .heads .ensures))))
+
+-- and question 5 after it
+ended : (c : tie.After-check-end) → c .check-end .result ≡ endValidity (c .before .before .before .before .before .before .before .before .before .before .before .before .before .before .args .s .now) 5
+ended c = asked-end _ 4 (c .check-end .ensures) (c .before .after .ensures) (fifth (c .before .before .before .before .before .before))
+
+heads-requires : tie.Need-heads-requires
+heads-requires c κs = search needs
 
 check-heads-requires : tie.Need-check-heads-requires
 check-heads-requires c κs = search needs
@@ -40,27 +44,31 @@ refused-requires c κs = search needs
 
 returns : tie.Need-returns
 unfolding inputValidity inTurn
-returns c =
-    numbered (stops _ _ _ _ (c .before .before .check-heads .ensures) (c .before .refused .ensures) (c .if1 .taken))
+returns c = numbered (stops _ _ _ _ (c .before .before .check-heads .ensures) (c .before .refused .ensures) (c .if1 .taken))
 
-name-count-requires : tie.Need-name-count-requires
-name-count-requires c κs = search needs
+layout-by-requires : tie.Need-layout-by-requires
+layout-by-requires c κs = search needs
+
+next-head-requires : tie.Need-next-head-requires
+next-head-requires c κs = search needs
 
 initial-field-requires : tie.Need-initial-field-requires
 initial-field-requires c κs = search needs
 
-check-field-requires : tie.Need-check-field-requires
+check-head-requires : tie.Need-check-head-requires
 unfolding initialField
-check-field-requires c κs =
-    omega (arith, counts-allowed _ (heads (c .before .before)) .some-name, c .before .name-count .ensures, ap (λ (x : Field). x .width) (c .initial-field .ensures))
+check-head-requires c κs =
+    omega (arith, counts-allowed _ (heads-fit (c .before .before .before .before)) .some-name, laid-names _ _ (c .before .before .before .layout-by .ensures _ (c .before .before .before .before .before .before .before .heads .ensures)), ap (λ (x : Field). x .width) (c .initial-field .ensures))
 
 refused-requires-2 : tie.Need-refused-requires-2
 refused-requires-2 c κs = search needs
 
 returns-2 : tie.Need-returns-2
 unfolding inputValidity inTurn
-returns-2 c =
-    numbered (passed (heads (c .before .before .before .before .before)) (stops _ _ _ _ (initial (c .before .before)) (c .before .refused2 .ensures) (c .if2 .taken)))
+returns-2 c = numbered (passed (heads-fit (c .before .before .before .before .before .before .before)) (stops _ _ _ _ (initial (c .before .before)) (c .before .refused2 .ensures) (c .if2 .taken)))
+
+after-requires : tie.Need-after-requires
+after-requires c κs = search needs
 
 check-end-requires : tie.Need-check-end-requires
 check-end-requires c κs = search needs
@@ -72,16 +80,37 @@ returns-3 : tie.Need-returns-3
 unfolding inputValidity inTurn
 returns-3 c =
     numbered
-    (passed (heads (c .before .before .before .before .before .before .before .before)) (passed (initial-fit (c .before .before .before)) (stops _ _ _ _ (c .before .before .check-end .ensures) (c .before .refused3 .ensures) (c .if3 .taken))))
+    (passed (heads-fit (c .before .before .before .before .before .before .before .before .before .before .before))
+    (passed (answered (initial (c .before .before .before .before .before .before)) (c .before .before .before .before .before .refused2 .ensures) (c .before .before .before .before .if2 .left)) (stops _ _ _ _ (ended (c .before .before)) (c .before .refused3 .ensures) (c .if3 .taken))))
 
 check-content-requires : tie.Need-check-content-requires
-check-content-requires c κs = heads (c .before .before .before .before .before .before .before .before)
+check-content-requires c κs = (heads-fit (c .before .before .before .before .before .before .before .before .before .before .before), c .before .before .before .before .before .before .before .before .before .before .layout-by .ensures _ (c .before .before .before .before .before .before .before .before .before .before .before .before .before .before .heads .ensures))
 
 returns-4 : tie.Need-returns-4
 unfolding inputValidity inTurn
 returns-4 c =
     numbered
-    (passed (heads (c .before .before .before .before .before .before .before .before .before)) (passed (initial-fit (c .before .before .before .before)) (passed (end (c .before)) (last-asked _ _ (c .check-content .ensures)))))
+    (passed (heads-fit (c .before .before .before .before .before .before .before .before .before .before .before .before))
+    (passed (answered (initial (c .before .before .before .before .before .before .before)) (c .before .before .before .before .before .before .refused2 .ensures) (c .before .before .before .before .before .if2 .left))
+    (passed (answered (ended (c .before .before .before)) (c .before .before .refused3 .ensures) (c .before .if3 .left)) (last-asked _ _ (c .check-content .ensures)))))
 
 pub validate-input-spec : {M : Type 1} → statement M
-validate-input-spec = tie.close (tie.spec check-heads-requires refused-requires returns name-count-requires initial-field-requires check-field-requires refused-requires-2 returns-2 check-end-requires refused-requires-3 returns-3 check-content-requires returns-4)
+validate-input-spec =
+    tie.close
+    (tie.spec
+    heads-requires
+    check-heads-requires
+    refused-requires
+    returns
+    layout-by-requires
+    next-head-requires
+    initial-field-requires
+    check-head-requires
+    refused-requires-2
+    returns-2
+    after-requires
+    check-end-requires
+    refused-requires-3
+    returns-3
+    check-content-requires
+    returns-4)
