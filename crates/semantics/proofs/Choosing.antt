@@ -13,7 +13,7 @@ use Rattle.program.specs.declared.EdgeBytes.{EdgeBytes}
 use Rattle.program.specs.declared.First.the-variants.{Nothing}
 use Rattle.semantics.specs.Action.{isDefined}
 use Rattle.semantics.specs.Budget.{lowestDefined}
-use Rattle.semantics.specs.Coding.{EffectIn}
+use Rattle.semantics.specs.Coding.{Attempted}
 use Rattle.semantics.specs.Running.{Ready, Chosen}
 use Rattle.semantics.specs.Step.{edgeEffect}
 use Rattle.semantics.specs.declared.Effect.{Effect}
@@ -33,17 +33,20 @@ module _ (edges entries szs cells : List ℕ) (count node : ℕ) (m : List ℤ) 
   none-chosen s y h = none-along s edges _ count (y .drawn .drawing) node _ e (undefined-before s y) h
 
   -- as the code reads an edge and finds its effect
-  module _ (h : e < count) (r : EdgeBytes) (x : Effect) (read : r ≡ edgeRead edges e) (found : EffectIn szs cells m (actionOf (decodedEntry entries) (r .kind) (r .entry)) x) where
-    effect-there : (s : List ℕ) → Ready s edges entries szs cells count → x ≡ edgeEffect (sizes s) (graph s) m e
-    effect-there s y = effect-read s edges _ count (y .drawn .drawing) e h m entries szs cells r x (y .entries-decoded) (y .sizes-decoded) (y .cells-decoded) read found
+  module _ (h : e < count) (r : EdgeBytes) (x : Effect) (read : r ≡ edgeRead edges e) (tried : Attempted szs cells m (actionOf (decodedEntry entries) (r .kind) (r .entry)) x) where
+    effect-there : (s : List ℕ) → Ready s edges entries szs cells count → tried .effect ≡ edgeEffect (sizes s) (graph s) m e
+    effect-there s y = effect-read s edges _ count (y .drawn .drawing) e h m entries szs cells r (tried .effect) (y .entries-decoded) (y .sizes-decoded) (y .cells-decoded) read (tried .found)
+
+    defined-there : (s : List ℕ) → Ready s edges entries szs cells count → isDefined (edgeEffect (sizes s) (graph s) m e) ≡ isDefined x
+    defined-there s y = ap isDefined (sym (effect-there s y)) ∙ sym (tried .alike .defined)
 
     pub undefined-here : isDefined x ≡ false → Undefined edges entries szs cells count m e
-    undefined-here none s y = ap isDefined (sym (effect-there s y)) ∙ none
+    undefined-here none s y = defined-there s y ∙ none
 
     pub chosen-here : isDefined x ≡ true → (s : List ℕ) → Ready s edges entries szs cells count → Chosen (sizes s) (graph s) node m (record { edge = e; effect = x })
     unfolding lowestDefined
     chosen-here defined s y =
         record {
-          lowest = rw defined (first-along s edges _ count (y .drawn .drawing) node _ e (undefined-before s y) h (ap isDefined (sym (effect-there s y)) ∙ defined));
-          there = λ t. effect-there s y;
+          lowest = rw defined (first-along s edges _ count (y .drawn .drawing) node _ e (undefined-before s y) h (defined-there s y ∙ defined));
+          there = λ t. tried .alike .same defined ∙ effect-there s y;
         }

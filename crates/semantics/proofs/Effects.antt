@@ -1,25 +1,29 @@
 -- Effects: where a value is stored, and what an action does from the numbers that its expressions give.
-use mathlib.Core.Path.{_≡_}
-use mathlib.Core.Bool.{false, _&&_}
+use mathlib.Core.Path.{_≡_, refl}
+use mathlib.Core.Bool.{Bool, true, false, cond, _&&_}
 use mathlib.Core.List.{List}
-use Prim.Native.Nat.{ℕ, _+_, _≤_, _<_}
+use Prim.Native.Nat.{ℕ, _+_, _-_, _≤_, _<_}
 use native.Mathlib.Nat.{lt-of-lt-of-le}
-use lib.Dec.{T}
-use lib.IntN.{ℤ, pos, natAbs}
+use borrow.Author.Tests.{ne-eqb}
+use lib.Dec.{T, eqb, ltb}
+use lib.IntN.{ℤ, pos, negsuc, natAbs}
 use lib.ListN.{getD}
 use lib.Signed.{ltZ}
 use mir.Facts.{and-yes}
+use mir.Syntax.{w64}
+use mir.Val.{ofZ}
 use Rattle.program.specs.Decoding.{NamesIn}
 use Rattle.program.specs.File.{cellCount}
-use Rattle.program.specs.Graph.{perform, test, leave, done}
+use Rattle.program.specs.Graph.{Action, perform, test, leave, done}
 use Rattle.program.specs.Sorted.{isVariable, isArray, arithNamed, commandNamed, actionNamed}
 use Rattle.program.specs.Syntax.{Arith, Boolean, Command, assign, store}
-use Rattle.semantics.specs.Action.{nothing, performing, meaning, pass, storeTo, effect}
-use Rattle.semantics.specs.Coding.{evaluated, decided, ValueIn, TruthIn, EffectIn}
-use Rattle.semantics.specs.Expression.{at, placeOf}
+use Rattle.semantics.specs.Action.{nothing, performing, meaning, pass, storeTo, effect, isDefined}
+use Rattle.semantics.specs.Coding.{reasonNumbered, evaluated, decided, ValueIn, TruthIn, EffectIn, Attempted}
+use Rattle.semantics.specs.Expression.{fault, at, placeOf}
 use Rattle.semantics.specs.declared.Effect.{Effect}
 use Rattle.semantics.specs.declared.Effect.the-variants.{Unchanged}
 use Rattle.semantics.specs.declared.Evaluation.{Evaluation}
+use Rattle.semantics.specs.declared.Truth.the-variants.{Known, Undefined as Unknown}
 use Rattle.semantics.proofs.Coded.{isFault, index-inside}
 use Rattle.semantics.proofs.Named.{variable-there, array-there, place-inside}
 
@@ -68,3 +72,18 @@ module _ {szs cells : List ℕ} where
     pub leave-effect : {c : Command} {v : ℤ} {r : Effect} → TruthIn szs cells m (done c) v → r ≡ pass (decided v) → EffectIn szs cells m (leave c) r
     unfolding actionNamed meaning effect
     leave-effect holds e = record { gives = λ ns names few t. rw (← holds .gives ns names t) e }
+
+    -- an effect that was found is one where it does not matter why it is undefined
+    pub attempted : {x : Action} {r : Effect} → EffectIn szs cells m x r → Attempted szs cells m x r
+    attempted {r = r} found = record { effect = r; found = found; alike = record { defined = refl; same = λ t. refl } }
+
+-- a condition whose number is not 1 is undefined
+pub other-pass : (v : ℤ) → (ofZ w64 v ≡ 1 → ⊥) → isDefined (pass (decided v)) ≡ false
+unfolding pass isDefined decided
+other-pass (pos n) h =
+    by (ltb n 4294967296)
+  where
+    by : (b : Bool) → isDefined (pass (cond b (Known (eqb n 1)) (Unknown (fault (reasonNumbered (n - 4294967296)))))) ≡ false
+    by true = rw (ne-eqb n 1 h)
+    by false = refl
+other-pass (negsuc n) h = refl

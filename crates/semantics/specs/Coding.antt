@@ -2,7 +2,7 @@
 -- is said here, once.
 use mathlib.Core.Path.{_≡_}
 use Prim.Native.Nat.{ℕ, _-_, _≤_}
-use mathlib.Core.Bool.{Bool, cond, _||_}
+use mathlib.Core.Bool.{Bool, true, cond, _||_}
 use mathlib.Core.List.{List, [], _∷_}
 use lib.Dec.{T, eqb, ltb}
 use lib.IntN.{ℤ, pos, negsuc}
@@ -16,7 +16,7 @@ use Rattle.program.specs.File.{cellCount}
 use Rattle.program.specs.Graph.{Action}
 use Rattle.program.specs.Sorted.{arithNamed, booleanNamed, actionNamed}
 use Rattle.program.specs.Syntax.{Arith, Boolean}
-use Rattle.semantics.specs.Action.{meaning, effect}
+use Rattle.semantics.specs.Action.{meaning, effect, isDefined}
 use Rattle.semantics.specs.Expression.{fault, value, truthIn}
 use Rattle.semantics.specs.declared.Effect.{Effect}
 use Rattle.semantics.specs.declared.Evaluation.{Evaluation}
@@ -62,3 +62,14 @@ pub record TruthIn (szs cells : List ℕ) (m : List ℤ) (b : Boolean) (r : ℤ)
 -- and the effect of an action, where the names' cells are at most 512
 pub record EffectIn (szs cells : List ℕ) (m : List ℤ) (x : Action) (r : Effect) : Type 0 where
   pub gives : (ns : List ℕ) → NamesIn ns szs cells → cellCount ns ≤ 512 → T (actionNamed ns x) → r ≡ effect ns m (meaning x)
+
+-- an effect r where it does not matter why it is undefined: it is defined where e is, and then it is e
+pub record Alike (r e : Effect) : Type 0 where
+  pub defined : isDefined r ≡ isDefined e
+  pub same : isDefined r ≡ true → r ≡ e
+
+-- such an effect of an action
+pub record Attempted (szs cells : List ℕ) (m : List ℤ) (x : Action) (r : Effect) : Type 0 where
+  pub effect : Effect
+  pub found : EffectIn szs cells m x effect
+  pub alike : Alike r effect

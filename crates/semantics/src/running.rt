@@ -79,7 +79,7 @@ fn lowest(
     let mut e = adjacency::first_edge(links, node);
     while e < count {
         let drawn = drawing::edge_at(edges, e);
-        let effect = action::effect(entries, cells, sizes, memory, drawn.kind, drawn.entry);
+        let effect = action::attempt(entries, cells, sizes, memory, drawn.kind, drawn.entry);
         if is_defined(effect) {
             return Choice { edge: e, effect };
         }

@@ -185,3 +185,34 @@ pub(crate) fn effect(
         _ => Effect::Unchanged,
     }
 }
+
+// What a condition does, by its truth, where it does not matter why it is undefined.
+fn held(v: i64) -> Effect
+    ensures { λ r. ⌜ code.Alike r (spec.pass (code.decided v)) ⌝ }
+{
+    if v == 1 {
+        Effect::Unchanged
+    } else {
+        undefined(Reason::ConditionFalse)
+    }
+}
+
+// What the action of a kind and an entry does, where it does not matter why it is undefined: a run asks only whether it is defined.
+pub(crate) fn attempt(
+    entries: &[u16; 4096],
+    cells: &[usize; 32],
+    sizes: &[u16; 32],
+    memory: &[i32; 512],
+    kind: u8,
+    n: u16,
+) -> Effect
+    ensures { λ r. ⌜ code.Attempted (now (sizes .entry)) (now (cells .entry)) (now (memory .entry))
+        (actionOf (decodedEntry (now (entries .entry))) kind n) r ⌝ }
+{
+    match kind {
+        1 => performed(entries, cells, sizes, memory, n),
+        2 => held(condition::truth(entries, cells, sizes, memory, 256, n)),
+        3 => held(condition::exit(entries, cells, sizes, memory, 256, n)),
+        _ => Effect::Unchanged,
+    }
+}

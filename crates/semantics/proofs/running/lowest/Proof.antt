@@ -27,8 +27,8 @@ loop-holds c h =
 edge-at-requires : tie.Need-edge-at-requires Inv-loop μ-loop
 edge-at-requires c κs = search needs
 
-effect-requires : tie.Need-effect-requires Inv-loop μ-loop
-effect-requires c κs = search needs
+attempt-requires : tie.Need-attempt-requires Inv-loop μ-loop
+attempt-requires c κs = search needs
 
 is-defined-requires : tie.Need-is-defined-requires Inv-loop μ-loop
 is-defined-requires c κs = search needs
@@ -37,7 +37,7 @@ returns : tie.Need-returns Inv-loop μ-loop
 returns c s y h =
     let l = c .before .before .before .before .before .loop in
     chosen-here _ _ _ _ _ _ _ (l .e) (l .inv h) (c .before .before .before .before .loop-test .taken) _ _
-    (c .before .before .before .edge-at .ensures) (c .before .before .effect .ensures) (sym (c .before .is-defined .ensures) ∙ c .if1 .taken) s y
+    (c .before .before .before .edge-at .ensures) (c .before .before .attempt .ensures) (sym (c .before .is-defined .ensures) ∙ c .if1 .taken) s y
 
 next-edge-requires : tie.Need-next-edge-requires Inv-loop μ-loop
 next-edge-requires c κs = search needs
@@ -54,7 +54,7 @@ loop-again c h =
     rw (c .next-edge .ensures)
     (next-followed (c .before .before .before .before .before .before .before .before .before .pre) _ _ (l .e) (c .before .before .before .before .before .loop-test .taken) (l .inv h)
     (undefined-here _ _ _ _ _ _ _ (l .e) (l .inv h) (c .before .before .before .before .before .loop-test .taken) _ _
-    (c .before .before .before .before .edge-at .ensures) (c .before .before .before .effect .ensures) (sym (c .before .before .is-defined .ensures) ∙ c .before .if1 .left)))
+    (c .before .before .before .before .edge-at .ensures) (c .before .before .before .attempt .ensures) (sym (c .before .before .is-defined .ensures) ∙ c .before .if1 .left)))
 
 returns-2 : tie.Need-returns-2 Inv-loop μ-loop
 unfolding isDefined
@@ -71,7 +71,7 @@ lowest-spec =
     first-edge-requires
     loop-holds
     edge-at-requires
-    effect-requires
+    attempt-requires
     is-defined-requires
     returns
     next-edge-requires
