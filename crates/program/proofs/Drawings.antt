@@ -6,21 +6,27 @@ use native.Mathlib.Numerals.{add-one}
 use native.Mathlib.Omega.{arith}
 use native.Mathlib.Nat.{zero-add}
 use lib.ListN.{length, take, drop, set, getD, length-append, length-drop}
-use lib.Seq.{length-take-le, take-at, paste-suc}
+use lib.Seq.{length-take-le, take-at, take-all, paste-suc}
 use borrow.Author.Tests.{le-leb, lt-leb}
 use Rattle.program.specs.Asking.{ask, thenAsk}
 use Rattle.program.specs.Drawing.{drawValidity, over}
-use Rattle.program.specs.DrawingParts.{strip, partAt, Room, Drew}
-use Rattle.program.specs.File.{entryCount, entry}
+use Rattle.program.specs.DrawingParts.{strip, partAt, commandsIn, Room, Drew}
+use Rattle.program.specs.File.{layoutOf, spanOf, entryCount, entryOffset, entry}
 use Rattle.program.specs.Graph.{Edge, graph, edges, edgeCount, nodeCount, wordBytes, edgeBytes, graphBytes}
 use Rattle.program.specs.Questions.{lastCommand, validity}
 use Rattle.program.specs.Tree.{script}
-use Rattle.program.specs.declared.Table.the-variants.{Commands}
+use Rattle.program.specs.declared.Layout.{Layout}
 use Rattle.program.specs.declared.Refusal.{Refusal}
+use Rattle.program.specs.declared.Span.{Span}
+use Rattle.program.specs.declared.Table.the-variants.{Commands}
 use Rattle.program.specs.declared.Validity.the-variants.{Fit, Refused}
-use Rattle.program.specs.declared.drawing.Pen.{Pen}
+use Rattle.program.proofs.Asking.{turn-fit}
 use Rattle.program.proofs.Counts.{few-edges, few-nodes}
 use Rattle.program.proofs.Fit.{counts}
+use Rattle.program.proofs.Heads.{end-inside}
+use Rattle.program.proofs.Inputs.{table-end}
+use Rattle.program.proofs.Reading.{front-entry, laid-count, laid-start}
+use Rattle.program.proofs.Strips.{same-strip}
 use Rattle.program.proofs.Trees.{command-below}
 
 -- one byte more of a copy
@@ -40,6 +46,12 @@ pub length-over : (bytes buffer : List ℕ) → length bytes ≤ length buffer �
 unfolding over
 length-over bytes buffer h = omega (arith, length-append bytes (drop (length bytes) buffer), length-drop (length bytes) buffer)
 
+-- the commands of a well-formed program are in the file, and not too many for an array of 256
+pub record Within (s : List ℕ) (x : Span) : Type 0 where
+  pub there : x .start + 7 * x .count ≤ length s
+  pub some : 1 ≤ x .count
+  pub few : x .count ≤ 256
+
 -- seven bytes for each edge
 bytes-length : (es : List Edge) → length (flatMap edgeBytes es) ≡ 7 * length es
 unfolding flatMap edgeBytes wordBytes
@@ -52,25 +64,53 @@ module _ (s : List ℕ) where
   graph-length = bytes-length (edges s)
 
   module _ (fit : validity s ≡ Fit) where
-    -- the program is the last command, as a part of all
-    program-strip : strip (partAt s (entryCount s Commands) (entryCount s Commands - 1)) 0 1 2 ≡ record { bytes = graphBytes s; fresh = nodeCount s }
-    unfolding strip graphBytes nodeCount edges graph script lastCommand
-    program-strip = rw (command-below (entry s) (entryCount s Commands) (entryCount s Commands - 1) (omega (arith, counts s fit .some-command)))
-
     -- an array for 255 edges keeps its length
     pub array-length : (edges : List ℕ) → length edges ≡ 1785 → length (over (graphBytes s) edges) ≡ 1785
     array-length edges h = length-over (graphBytes s) edges (omega (arith, graph-length, few-edges s fit)) ∙ h
 
-    module _ (bound : ℕ) (all : bound ≡ entryCount s Commands) where
-      -- 255 edges have room, and 129 nodes numbers
-      pub program-room : {size : ℕ} → 1785 ≤ size → Room (strip (partAt s bound (bound - 1)) 0 1 2) 0 size
-      program-room h =
-          rw (all, program-strip)
-          record { bytes-fit = omega (arith, graph-length, few-edges s fit); nodes-fit = omega (arith, few-nodes s fit) }
+    module _ (l : Layout) (laid : l ≡ layoutOf s) where
+      pub commands-within : Within s (l .commands)
+      unfolding validity spanOf
+      commands-within =
+          let heads = turn-fit _ 0 fit in
+          let count = laid-count s l laid Commands in
+          record {
+            there = omega (arith, laid-start s l laid Commands, table-end s heads Commands, end-inside s heads);
+            some = omega (arith, counts s fit .some-command);
+            few = omega (arith, counts s fit .commands);
+          }
 
-      -- what drawing it does
-      pub drew-program : {before after : List ℕ} {r : Pen} → Drew (strip (partAt s bound (bound - 1)) 0 1 2) 0 before after r → Drew (record { bytes = graphBytes s; fresh = nodeCount s }) 0 before after r
-      drew-program d = rw (all, program-strip) at d
+      -- m of them, which are all, over the front of an array
+      module _ (m : ℕ) (all : m ≡ l .commands .count) {array : List ℕ} (before : List ℕ)
+          (copy : array ≡ over (take (7 * m) (take (length s - l .commands .start) (drop (l .commands .start) s))) before) where
+        copied : take (7 * m) array ≡ take (7 * m) (drop (l .commands .start) s)
+        copied =
+            let part = drop (l .commands .start) s in
+            let size = length-drop (l .commands .start) s in
+            rw (copy, take-all (length s - l .commands .start) part (omega arith))
+            (take-over (take (7 * m) part) before (7 * m) (length-take-le (7 * m) part (omega (arith, commands-within .there))))
+
+        same-command : (n : ℕ) → n < l .commands .count → commandsIn array Commands n ≡ entry s Commands n
+        unfolding commandsIn entry entryOffset spanOf
+        same-command n h =
+            front-entry s array (l .commands .start) (7 * m) copied (7 * n) _ (omega arith) (omega (arith, laid-start s l laid Commands))
+
+        -- the program is the last of them, as a part of all
+        program-strip : strip (partAt (commandsIn array) (l .commands .count) (l .commands .count - 1)) 0 1 2 ≡ record { bytes = graphBytes s; fresh = nodeCount s }
+        unfolding strip graphBytes nodeCount edges graph script lastCommand spanOf
+        program-strip =
+            same-strip (commandsIn array) (entry s) (l .commands .count) same-command (l .commands .count - 1) 0 1 2
+            ∙ rw (laid-count s l laid Commands, command-below (entry s) (entryCount s Commands) (entryCount s Commands - 1) (omega (arith, counts s fit .some-command)))
+
+        -- 255 edges have room, and 129 nodes numbers
+        pub program-room : Room (strip (partAt (commandsIn array) (l .commands .count) (l .commands .count - 1)) 0 1 2) 0
+        program-room =
+            rw program-strip
+            record { bytes-fit = omega (arith, graph-length, few-edges s fit); nodes-fit = omega (arith, few-nodes s fit) }
+
+        -- what drawing it does
+        pub drew-program : {before after : List ℕ} {r : ℕ} → Drew (strip (partAt (commandsIn array) (l .commands .count) (l .commands .count - 1)) 0 1 2) 0 before after r → Drew (record { bytes = graphBytes s; fresh = nodeCount s }) 0 before after r
+        drew-program d = rw program-strip at d
 
   -- question 13, after the others
   module _ (buffer : List ℕ) where

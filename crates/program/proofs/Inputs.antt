@@ -6,7 +6,7 @@ use native.Mathlib.Nat.{div-add-mod', mul-div-le}
 use native.Mathlib.Omega.{arith}
 use lib.Dec.{eqb, leb}
 use lib.ListN.{length, getD, take, drop, length-drop}
-use lib.Seq.{length-take-le, getD-take}
+use lib.Seq.{length-take-le, take-all}
 use borrow.Author.Tests.{leb-true, eqb-true, eq-eqb}
 use Rattle.program.specs.Asking.{ask, thenAsk, inTurn}
 use Rattle.program.specs.File.{byteAt, wordAt, namesField, tableField, programFields, initialField, headFound, headAt, afterHead, placeAfter, fieldStart, fieldHead, headSpan, headContent, layoutOf, spanOf, nameCount, nameOffset, sizeAt, sizes, entryCount, tableStart, entryOffset, entryAt, entry}
@@ -21,7 +21,7 @@ use Rattle.program.proofs.Agreeing.{Agree, same-names, same-sizes, same
 use Rattle.program.proofs.Asking.{ask-fit, turn-fit}
 use Rattle.program.proofs.Fit.{counts-allowed}
 use Rattle.program.proofs.Heads.{Whole, whole, ends-earlier, field-fit, next-start, ends-before, end-inside, field-span}
-use Rattle.program.proofs.Reading.{head-there}
+use Rattle.program.proofs.Reading.{front-byte, front-word, front-entry, head-there}
 use Rattle.program.proofs.Tests.{three}
 
 -- the program part of a file with four fields that pass questions 1 to 4
@@ -31,13 +31,15 @@ module _ (s : List ℕ) (fit : headsValidity s 0 programFields ≡ Fit) where
   part-length = length-take-le (fieldStart s 4) s (end-inside s fit)
 
   -- what is read below the end
+  part-front : take (fieldStart s 4) (programPart s) ≡ take (fieldStart s 4) (drop 0 s)
+  unfolding programPart
+  part-front = take-all (fieldStart s 4) (programPart s) (omega (arith, part-length))
+
   same-byte : (i : ℕ) → i < fieldStart s 4 → byteAt (programPart s) i ≡ byteAt s i
-  unfolding programPart byteAt
-  same-byte i h = getD-take (fieldStart s 4) s i 0 h
+  same-byte i h = front-byte s (programPart s) 0 (fieldStart s 4) part-front i i h (omega arith)
 
   same-word : (i : ℕ) → i + 1 < fieldStart s 4 → wordAt (programPart s) i ≡ wordAt s i
-  unfolding wordAt
-  same-word i h = rw (same-byte i (omega arith), same-byte (i + 1) h)
+  same-word i h = front-word s (programPart s) 0 (fieldStart s 4) part-front i i h (omega arith)
 
   same-head : (at : ℕ) → at + 3 ≤ fieldStart s 4 → headAt (programPart s) at ≡ headAt s at
   unfolding headFound
@@ -77,8 +79,7 @@ module _ (s : List ℕ) (fit : headsValidity s 0 programFields ≡ Fit) where
 
   -- so the names and entries are the same
   same-entry-at : (at : ℕ) → at + 7 ≤ fieldStart s 4 → entryAt (programPart s) at ≡ entryAt s at
-  unfolding entryAt
-  same-entry-at at h = rw (same-byte at (omega arith), same-word (at + 1) (omega arith), same-word (at + 3) (omega arith), same-word (at + 5) (omega arith))
+  same-entry-at at h = front-entry s (programPart s) 0 (fieldStart s 4) part-front at at h (omega arith)
 
   part-agrees : Agree (programPart s) s
   unfolding sizeAt nameOffset entry entryOffset tableStart

@@ -19,5 +19,5 @@ use Rattle.program.specs.Links
 use Rattle.signs.proofs.Open as Below
 
 unfoldable pub definitions : Unit {0}
-unfolding File.byteAt File.wordAt File.signed32 File.namesField File.tableField File.programFields File.initialField File.headFound File.headAt File.afterHead File.placeAfter File.fieldHead File.headNumbers File.headSpan File.headContent File.layoutOf File.headsOf File.spanOf File.nameCount File.nameOffset File.sizeAt File.sizes File.entryCount File.tableStart File.entryOffset File.entryAt File.entry File.cellsOf File.cellCount File.firstCell FirstSuch.orElse FirstSuch.firstOf FirstSuch.isAt FirstSuch.firstSuch Asking.ask Asking.thenAsk Asking.isRefused Asking.inTurn Asking.askEach Asking.validityNumbers Kind.kinds Kind.shape Kind.tableOf Kind.isCommand Kind.isGuarded Questions.wholeEntries Questions.headValidity Questions.headsValidity Questions.endValidity Questions.nameValidity Questions.named Questions.sameTable Questions.limit Questions.ofSort Questions.points Questions.eachOperand Questions.shapeValidity Questions.entryValidity Questions.tableValidity Questions.refersTo Questions.shapeUses Questions.entryUses Questions.tableUses Questions.uses Questions.useValidity Questions.toBeUsed Questions.usedValidity Questions.lastCommand Questions.lastValidity Questions.usesValidity Questions.contentValidity Questions.validity Questions.inputValidity Questions.programPart Questions.initialPart Counting.capacity Counting.slot Checking.anyAnswer Syntax.arithEntry Syntax.booleanEntry Syntax.commandEntry Syntax.commandSize Tree.arithBelow Tree.booleanBelow Tree.commandBelow Tree.arithNode Tree.arithTrees Tree.arithAt Tree.booleanNode Tree.booleanTrees Tree.booleanAt Tree.commandNode Tree.commandTrees Tree.commandAt Tree.script Decoding.entryOrNone Decoding.slotEntry Decoding.entryNumbers Decoding.decodedEntries Decoding.slotRead Decoding.decodedEntry Decoding.decodedSizes Decoding.decodedCells Node.arithKind Node.arithForm Node.arithTree Node.booleanKind Node.booleanForm Node.booleanTree Node.commandKind Node.commandForm Node.commandTree Graph.guardAction Graph.part Graph.done Graph.graph Graph.edges Graph.edgeCount Graph.nodeCount Graph.actionKind Graph.actionEntry Graph.actionTable Graph.actionOf Graph.wordBytes Graph.edgeBytes Graph.graphBytes Sorted.isVariable Sorted.isArray Sorted.arithNamed Sorted.booleanNamed Sorted.commandNamed Sorted.actionNamed Sorted.arithPoints Sorted.booleanPoints Sorted.isGuardedTree Sorted.commandPoints Sorted.actionPoints Drawing.drawValidity Drawing.drawnBy Drawing.drawn Drawing.over Drawing.drawnBufferBy Drawing.drawnBuffer Drawing.drawnNumbers Drawing.edgeRead Drawing.edgeNumbers DrawingParts.overAt DrawingParts.edgeRow DrawingParts.strip DrawingParts.construct DrawingParts.constructBy DrawingParts.constructOf DrawingParts.edgeStrip Examples.factorial Examples.field Examples.entryOf Examples.fileOf Examples.skipOver Examples.twoGuards Examples.prefix Examples.graphs Examples.exits Examples.limits Examples.inputs Examples.cases Links.sourceIn Links.lowestFrom Links.laterFrom Links.links Links.linkedOne Below.definitions
+unfolding File.byteAt File.wordAt File.signed32 File.namesField File.tableField File.programFields File.initialField File.headFound File.headAt File.afterHead File.placeAfter File.fieldHead File.headNumbers File.headSpan File.headContent File.layoutOf File.headsOf File.spanOf File.nameCount File.nameOffset File.sizeAt File.sizes File.entryCount File.tableStart File.entryOffset File.entryAt File.entry File.cellsOf File.cellCount File.firstCell FirstSuch.orElse FirstSuch.firstOf FirstSuch.isAt FirstSuch.firstSuch Asking.ask Asking.thenAsk Asking.isRefused Asking.inTurn Asking.askEach Asking.validityNumbers Kind.kinds Kind.shape Kind.tableOf Kind.isCommand Kind.isGuarded Questions.wholeEntries Questions.headValidity Questions.headsValidity Questions.endValidity Questions.nameValidity Questions.named Questions.sameTable Questions.limit Questions.ofSort Questions.points Questions.eachOperand Questions.shapeValidity Questions.entryValidity Questions.tableValidity Questions.refersTo Questions.shapeUses Questions.entryUses Questions.tableUses Questions.uses Questions.useValidity Questions.toBeUsed Questions.usedValidity Questions.lastCommand Questions.lastValidity Questions.usesValidity Questions.contentValidity Questions.validity Questions.inputValidity Questions.programPart Questions.initialPart Counting.capacity Counting.slot Checking.anyAnswer Syntax.arithEntry Syntax.booleanEntry Syntax.commandEntry Syntax.commandSize Tree.arithBelow Tree.booleanBelow Tree.commandBelow Tree.arithNode Tree.arithTrees Tree.arithAt Tree.booleanNode Tree.booleanTrees Tree.booleanAt Tree.commandNode Tree.commandTrees Tree.commandAt Tree.script Decoding.entryOrNone Decoding.slotEntry Decoding.entryNumbers Decoding.decodedEntries Decoding.slotRead Decoding.decodedEntry Decoding.decodedSizes Decoding.decodedCells Node.arithKind Node.arithForm Node.arithTree Node.booleanKind Node.booleanForm Node.booleanTree Node.commandKind Node.commandForm Node.commandTree Graph.guardAction Graph.part Graph.done Graph.graph Graph.edges Graph.edgeCount Graph.nodeCount Graph.actionKind Graph.actionEntry Graph.actionTable Graph.actionOf Graph.wordBytes Graph.edgeBytes Graph.graphBytes Sorted.isVariable Sorted.isArray Sorted.arithNamed Sorted.booleanNamed Sorted.commandNamed Sorted.actionNamed Sorted.arithPoints Sorted.booleanPoints Sorted.isGuardedTree Sorted.commandPoints Sorted.actionPoints Drawing.drawValidity Drawing.drawnBy Drawing.drawn Drawing.over Drawing.drawnBufferBy Drawing.drawnBuffer Drawing.drawnNumbers Drawing.edgeRead Drawing.edgeNumbers DrawingParts.overAt DrawingParts.edgeRow DrawingParts.strip DrawingParts.construct DrawingParts.constructBy DrawingParts.constructOf DrawingParts.commandsIn DrawingParts.edgeStrip Examples.factorial Examples.field Examples.entryOf Examples.fileOf Examples.skipOver Examples.twoGuards Examples.prefix Examples.graphs Examples.exits Examples.limits Examples.inputs Examples.cases Links.sourceIn Links.lowestFrom Links.laterFrom Links.links Links.linkedOne Below.definitions
 definitions = tt

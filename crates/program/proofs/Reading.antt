@@ -1,4 +1,4 @@
--- What stands past the end of a file reads as zero; what the field reader finds; and a layout's spans.
+-- What stands past the end of a file reads as zero; what is read in a part of it; what the field reader finds; and a layout's spans.
 use mathlib.Core.Path.{_≡_, refl, ap, _∙_}
 use mathlib.Core.Bool.{Bool, true, false, cond}
 use mathlib.Core.List.{List}
@@ -7,7 +7,8 @@ use native.Mathlib.Decide.{ℕ-discrete}
 use native.Mathlib.Omega.{arith}
 use borrow.Author.Tests.{leb-true, le-leb, lt-leb, eq-eqb, ne-eqb}
 use lib.Dec.{eqb, leb}
-use lib.ListN.{length, List·getD-eq-default}
+use lib.ListN.{length, take, drop, List·getD-eq-default}
+use lib.Seq.{getD-take, getD-drop}
 use Rattle.program.specs.Asking.{ask}
 use Rattle.program.specs.File.{byteAt, wordAt, namesField, tableField, headFound, headAt, afterHead, placeAfter, fieldStart, fieldHead, headSpan, entryAt, layoutOf, spanOf, nameCount, entryCount, tableStart, entryOffset, entry, cellsOf}
 use Rattle.program.specs.Questions.{headValidity, endValidity, sameTable, limit}
@@ -32,6 +33,26 @@ pub entry-past : (s : List ℕ) (i : ℕ) → length s ≤ i → record { kind =
 unfolding entryAt
 entry-past s i h =
     rw (byte-past s i h, word-past s (i + 1) (omega arith), word-past s (i + 3) (omega arith), word-past s (i + 5) (omega arith))
+
+-- bytes that begin with a part of a file: what is read there
+module _ (s bytes : List ℕ) (start end : ℕ) (front : take end bytes ≡ take end (drop start s)) where
+  pub front-byte : (i at : ℕ) → i < end → at ≡ start + i → byteAt bytes i ≡ byteAt s at
+  unfolding byteAt
+  front-byte i at h e = rw (e, ← getD-take end bytes i 0 h, front, getD-take end (drop start s) i 0 h) (getD-drop start s i 0)
+
+  pub front-word : (i at : ℕ) → i + 1 < end → at ≡ start + i → wordAt bytes i ≡ wordAt s at
+  unfolding wordAt
+  front-word i at h e = rw (front-byte i at (omega arith) e, front-byte (i + 1) (at + 1) h (omega arith))
+
+  pub front-entry : (i at : ℕ) → i + 7 ≤ end → at ≡ start + i → entryAt bytes i ≡ entryAt s at
+  unfolding entryAt
+  front-entry i at h e =
+      rw (
+        front-byte i at (omega arith) e,
+        front-word (i + 1) (at + 1) (omega arith) (omega arith),
+        front-word (i + 3) (at + 3) (omega arith) (omega arith),
+        front-word (i + 5) (at + 5) (omega arith) (omega arith),
+      )
 
 -- what the field reader finds where three bytes are left, and where they are not
 pub head-there : (s : List ℕ) (at : ℕ) → at + 3 ≤ length s → headAt s at ≡ Found (headFound s at)

@@ -3,7 +3,7 @@ use mathlib.Core.Path.{_≡_, refl, sym, _∙_, ap}
 use mathlib.Core.Bool.{Bool, true, false}
 use mathlib.Core.Logic.{_⊎_, inl, inr, ⊎-elim}
 use mathlib.Core.List.{List, [], _∷_, _++_, append-assoc, append-nil, flatMap}
-use Prim.Native.Nat.{ℕ, _+_, _≤_, _<_}
+use Prim.Native.Nat.{ℕ, _+_, _*_, _≤_, _<_}
 use native.Mathlib.Numerals.{add-one}
 use native.Mathlib.Nat.{le-refl}
 use native.Mathlib.Omega.{arith}
@@ -11,17 +11,17 @@ use lib.ListN.{length, take, drop, set, length-append}
 use lib.Seq.{length-take-le, set-split, take-at, drop-at, drop-drop}
 use lib.Dec.{ltb}
 use borrow.Author.Tests.{lt-ltb, le-ltb, ltb-true, ltb-false}
-use Rattle.program.specs.File.{entry}
 use Rattle.program.specs.Drawing.{over}
+use Rattle.program.specs.File.{byteAt, wordAt, entryAt}
 use Rattle.program.specs.Node.{commandKind}
-use Rattle.program.specs.DrawingParts.{overAt, edgeRow, Strip, strip, edgeStrip, partAt, construct, constructBy, constructOf, Room, Drew}
+use Rattle.program.specs.DrawingParts.{overAt, edgeRow, Strip, strip, freshOf, placeOf, edgeStrip, partAt, construct, constructBy, commandsIn, constructOf, Room, Drew}
 use Rattle.program.specs.Graph.{guardAction, part, actionKind, actionEntry, wordBytes, edgeBytes}
 use Rattle.program.specs.Syntax.{Command, skip, commandEntry}
-use Rattle.program.specs.Tree.{commandNode, commandTrees, commandAt}
+use Rattle.program.specs.Tree.{Entries, commandNode, commandTrees, commandAt}
+use Rattle.program.specs.declared.Table.the-variants.{Commands}
 use Rattle.program.specs.declared.drawing.Construct.{Construct}
 use Rattle.program.specs.declared.drawing.Construct.the-variants.{Leaf, Sequence, Conditional, Iteration, Guarded, Choice}
-use Rattle.program.specs.declared.drawing.Pen.{Pen}
-use Rattle.program.proofs.Induction.{by-kind}
+use Rattle.program.proofs.Induction.{by-kind, from-below}
 use Rattle.program.proofs.Nodes.{fresh-grows}
 use Rattle.program.proofs.Trees.{boolean-entry, command-below, command-past, command-entry}
 
@@ -58,7 +58,7 @@ unfoldable pub followed : Strip → (ℕ → Strip) → Strip
 followed x y = record { bytes = x .bytes ++ y (x .fresh) .bytes; fresh = y (x .fresh) .fresh }
 
 module _ (x : Strip) (y : ℕ → Strip) {at : ℕ} where
-  pub first-room : {size : ℕ} → ((f : ℕ) → f ≤ y f .fresh) → Room (followed x y) at size → Room x at size
+  pub first-room : ((f : ℕ) → f ≤ y f .fresh) → Room (followed x y) at → Room x at
   unfolding followed
   first-room grows room =
       record {
@@ -66,27 +66,28 @@ module _ (x : Strip) (y : ℕ → Strip) {at : ℕ} where
         nodes-fit = omega (arith, room .nodes-fit, grows (x .fresh));
       }
 
-  pub second-room : {size : ℕ} {a b : List ℕ} {r : Pen} → Room (followed x y) at size → Drew x at a b r → length b ≡ size → Room (y (r .fresh)) (r .at) (length b)
+  pub second-room : {a b : List ℕ} {r : ℕ} → Room (followed x y) at → Drew x at a b r → Room (y (freshOf r)) (placeOf r)
   unfolding followed
-  second-room room d h =
+  second-room room d =
       rw (d .fresh)
       record {
         bytes-fit = omega (arith, length-append (x .bytes) (y (x .fresh) .bytes), room .bytes-fit, d .next);
         nodes-fit = room .nodes-fit;
       }
 
-  pub both-drawn : {a b c : List ℕ} {r t : Pen} → Room (followed x y) at (length a) → Drew x at a b r → Drew (y (r .fresh)) (r .at) b c t → Drew (followed x y) at a c t
+  pub both-drawn : {a b c : List ℕ} {r t : ℕ} → Room (followed x y) at → Drew x at a b r → Drew (y (freshOf r)) (placeOf r) b c t → Drew (followed x y) at a c t
   unfolding followed
   both-drawn {a = a} room d e =
       let last = rw (d .fresh) at e in
       record {
-        buffer = over-then a at (x .bytes) (y (x .fresh) .bytes) (omega (arith, room .bytes-fit)) (d .buffer) (d .next) (last .buffer);
+        size = d .size;
+        buffer = over-then a at (x .bytes) (y (x .fresh) .bytes) (omega (arith, room .bytes-fit, d .size)) (d .buffer) (d .next) (last .buffer);
         fresh = last .fresh;
         next = omega (arith, d .next, last .next, length-append (x .bytes) (y (x .fresh) .bytes));
       }
 
 -- a part with nothing after it
-pub drew-only : (x : Strip) {at : ℕ} {a b : List ℕ} {r : Pen} → Drew x at a b r → Drew (followed x (λ f. record { bytes = []; fresh = f })) at a b r
+pub drew-only : (x : Strip) {at : ℕ} {a b : List ℕ} {r : ℕ} → Drew x at a b r → Drew (followed x (λ f. record { bytes = []; fresh = f })) at a b r
 unfolding followed
 drew-only x d = rw append-nil d
 
@@ -96,39 +97,71 @@ unfolding flatMap
 concat-append f [] ys = refl
 concat-append f (x ∷ xs) ys = rw (concat-append f xs ys) (sym (append-assoc (f x) (flatMap f xs) (flatMap f ys)))
 
-pub strip-grows : (c : Command) (a b n : ℕ) → n ≤ strip c a b n .fresh
+strip-grows : (c : Command) (a b n : ℕ) → n ≤ strip c a b n .fresh
 unfolding strip
 strip-grows = fresh-grows
 
--- the first part of a construct at entry k, and the rest, by the fresh node to which the first comes
-unfoldable pub firstAs : List ℕ → ℕ → Construct → ℕ → ℕ → ℕ → Strip
-firstAs s k Leaf a b n = edgeStrip a b 1 k n
-firstAs s k (Sequence p q) a b n = strip (partAt s k p) a n (n + 1)
-firstAs s k (Conditional p) a b n = strip (partAt s k p) a b n
-firstAs s k (Iteration p) a b n = strip (partAt s k p) a a n
-firstAs s k (Guarded g p) a b n = edgeStrip a n 2 g (n + 1)
-firstAs s k (Choice p q) a b n = strip (partAt s k p) a b n
+-- a fresh node, or a pen, after the node that a construct takes before its first part
+unfoldable pub taking : Construct → ℕ → ℕ
+taking Leaf f = f
+taking (Sequence p q) f = f + 1
+taking (Conditional p) f = f
+taking (Iteration p) f = f
+taking (Guarded g p) f = f + 1
+taking (Choice p q) f = f
 
-unfoldable pub restAs : List ℕ → ℕ → Construct → ℕ → ℕ → ℕ → ℕ → Strip
-restAs s k Leaf a b n f = record { bytes = []; fresh = f }
-restAs s k (Sequence p q) a b n f = strip (partAt s k q) n b f
-restAs s k (Conditional p) a b n f = record { bytes = []; fresh = f }
-restAs s k (Iteration p) a b n f = edgeStrip a b 3 p f
-restAs s k (Guarded g p) a b n f = strip (partAt s k p) n b f
-restAs s k (Choice p q) a b n f = strip (partAt s k q) a b f
+-- such a pen has such a fresh node, and its place
+pub record Taken (c : Construct) (pen : ℕ) : Type 0 where
+  pub fresh : freshOf (taking c pen) ≡ taking c (freshOf pen)
+  pub place : placeOf (taking c pen) ≡ placeOf pen
 
-pub rest-grows : (s : List ℕ) (k : ℕ) (c : Construct) (a b n f : ℕ) → f ≤ restAs s k c a b n f .fresh
+pub taken : (c : Construct) (pen : ℕ) → taking c (freshOf pen) < 65536 → Taken c pen
+unfolding taking
+taken Leaf pen h = record { fresh = refl; place = refl }
+taken (Sequence p q) pen h = record { fresh = omega arith; place = omega arith }
+taken (Conditional p) pen h = record { fresh = refl; place = refl }
+taken (Iteration p) pen h = record { fresh = refl; place = refl }
+taken (Guarded g p) pen h = record { fresh = omega arith; place = omega arith }
+taken (Choice p q) pen h = record { fresh = refl; place = refl }
+
+-- the first part of a construct at entry k whose fresh node is n, and the rest, each from the fresh node f on
+unfoldable pub firstAs : Entries → ℕ → Construct → ℕ → ℕ → ℕ → ℕ → Strip
+firstAs es k Leaf a b n f = edgeStrip a b 1 k f
+firstAs es k (Sequence p q) a b n f = strip (partAt es k p) a n f
+firstAs es k (Conditional p) a b n f = strip (partAt es k p) a b f
+firstAs es k (Iteration p) a b n f = strip (partAt es k p) a a f
+firstAs es k (Guarded g p) a b n f = edgeStrip a n 2 g f
+firstAs es k (Choice p q) a b n f = strip (partAt es k p) a b f
+
+unfoldable pub restAs : Entries → ℕ → Construct → ℕ → ℕ → ℕ → ℕ → Strip
+restAs es k Leaf a b n f = record { bytes = []; fresh = f }
+restAs es k (Sequence p q) a b n f = strip (partAt es k q) n b f
+restAs es k (Conditional p) a b n f = record { bytes = []; fresh = f }
+restAs es k (Iteration p) a b n f = edgeStrip a b 3 p f
+restAs es k (Guarded g p) a b n f = strip (partAt es k p) n b f
+restAs es k (Choice p q) a b n f = strip (partAt es k q) a b f
+
+pub first-grows : (es : Entries) (k : ℕ) (c : Construct) (a b n f : ℕ) → f ≤ firstAs es k c a b n f .fresh
+unfolding firstAs edgeStrip
+first-grows es k Leaf a b n f = le-refl f
+first-grows es k (Sequence p q) a b n f = strip-grows _ a n f
+first-grows es k (Conditional p) a b n f = strip-grows _ a b f
+first-grows es k (Iteration p) a b n f = strip-grows _ a a f
+first-grows es k (Guarded g p) a b n f = le-refl f
+first-grows es k (Choice p q) a b n f = strip-grows _ a b f
+
+pub rest-grows : (es : Entries) (k : ℕ) (c : Construct) (a b n f : ℕ) → f ≤ restAs es k c a b n f .fresh
 unfolding restAs edgeStrip
-rest-grows s k Leaf a b n f = le-refl f
-rest-grows s k (Sequence p q) a b n f = strip-grows _ n b f
-rest-grows s k (Conditional p) a b n f = le-refl f
-rest-grows s k (Iteration p) a b n f = le-refl f
-rest-grows s k (Guarded g p) a b n f = strip-grows _ n b f
-rest-grows s k (Choice p q) a b n f = strip-grows _ a b f
+rest-grows es k Leaf a b n f = le-refl f
+rest-grows es k (Sequence p q) a b n f = strip-grows _ n b f
+rest-grows es k (Conditional p) a b n f = le-refl f
+rest-grows es k (Iteration p) a b n f = le-refl f
+rest-grows es k (Guarded g p) a b n f = strip-grows _ n b f
+rest-grows es k (Choice p q) a b n f = strip-grows _ a b f
 
 -- the bytes of a construct at entry k
-unfoldable pub drawnAs : List ℕ → ℕ → Construct → ℕ → ℕ → ℕ → Strip
-drawnAs s k c a b n = followed (firstAs s k c a b n) (restAs s k c a b n)
+unfoldable pub drawnAs : Entries → ℕ → Construct → ℕ → ℕ → ℕ → Strip
+drawnAs es k c a b n = followed (firstAs es k c a b n (taking c n)) (restAs es k c a b n)
 
 -- one more than the entry, where the construct has parts
 unfoldable pub floor : ℕ → Construct → ℕ
@@ -163,22 +196,28 @@ leaf-kind =
     (λ p q r a b c d e. absurd (e refl))
     (λ k p q r a b c d e. refl)
 
-module _ (s : List ℕ) where
+-- the construct of a lower entry, by what is read of it
+pub construct-read : (bytes : List ℕ) (bound n m : ℕ) {p q : ℕ} → n < bound → m ≡ n → p ≡ wordAt bytes (7 * m + 1) → q ≡ wordAt bytes (7 * m + 3)
+    → constructBy (record { kind = byteAt bytes (7 * m); p = p; q = q; r = wordAt bytes (7 * m + 5) }) ≡ constructOf (commandsIn bytes) bound n
+unfolding constructOf commandsIn entryAt
+construct-read bytes bound n m h e f g = rw (f, g, e, lt-ltb n bound h)
+
+module _ (es : Entries) where
   -- a part's entry
-  part-entry : (n p : ℕ) → commandEntry (partAt s n p) ≡ p
+  part-entry : (n p : ℕ) → commandEntry (partAt es n p) ≡ p
   unfolding commandEntry
   part-entry n p =
       ⊎-elim
-      (λ h. ap commandEntry (command-below (entry s) n p h) ∙ command-entry (entry s) p)
-      (λ h. ap commandEntry (command-past (entry s) n p h))
+      (λ h. ap commandEntry (command-below es n p h) ∙ command-entry es p)
+      (λ h. ap commandEntry (command-past es n p h))
       (lt-or-ge p n)
 
-  skip-strip : (n a b f : ℕ) → strip (skip n) a b f ≡ drawnAs s n Leaf a b f
-  unfolding drawnAs firstAs restAs followed strip edgeStrip part flatMap edgeBytes edgeRow wordBytes actionKind actionEntry commandEntry
+  skip-strip : (n a b f : ℕ) → strip (skip n) a b f ≡ drawnAs es n Leaf a b f
+  unfolding drawnAs taking firstAs restAs followed strip edgeStrip part flatMap edgeBytes edgeRow wordBytes actionKind actionEntry commandEntry
   skip-strip n a b f = refl
 
-  node-strip : (n k p q r a b f : ℕ) → strip (commandNode (entry s) (commandTrees (entry s) n) n (record { kind = k; p = p; q = q; r = r })) a b f ≡ drawnAs s n (constructBy (record { kind = k; p = p; q = q; r = r })) a b f
-  unfolding commandNode construct constructBy commandKind drawnAs firstAs restAs followed strip edgeStrip part guardAction flatMap edgeBytes edgeRow wordBytes actionKind actionEntry commandEntry
+  node-strip : (n k p q r a b f : ℕ) → strip (commandNode es (commandTrees es n) n (record { kind = k; p = p; q = q; r = r })) a b f ≡ drawnAs es n (constructBy (record { kind = k; p = p; q = q; r = r })) a b f
+  unfolding commandNode construct constructBy commandKind drawnAs taking firstAs restAs followed strip edgeStrip part guardAction flatMap edgeBytes edgeRow wordBytes actionKind actionEntry commandEntry
   node-strip n =
       by-kind _
       (λ p q r a b f. refl)
@@ -191,15 +230,15 @@ module _ (s : List ℕ) where
       (λ p q r a b f. rw concat-append)
       (λ k p q r a b f. refl)
 
-  module _ (bound n : ℕ) {x k : Construct} (same : x ≡ constructOf s bound n) (told : x ≡ k) where
+  module _ (bound n : ℕ) {x k : Construct} (same : x ≡ constructOf es bound n) (told : x ≡ k) where
     -- the bytes of entry n as a part of entry bound, by its construct
-    pub strip-part : (a b f : ℕ) → strip (partAt s bound n) a b f ≡ drawnAs s n k a b f
+    pub strip-part : (a b f : ℕ) → strip (partAt es bound n) a b f ≡ drawnAs es n k a b f
     unfolding constructOf commandAt
     strip-part a b f =
         rw (← told, same)
         (⊎-elim
-        (λ h. rw (command-below (entry s) bound n h, lt-ltb n bound h) (node-strip n _ _ _ _ a b f))
-        (λ h. rw (command-past (entry s) bound n h, le-ltb n bound h) (skip-strip n a b f))
+        (λ h. rw (command-below es bound n h, lt-ltb n bound h) (node-strip n _ _ _ _ a b f))
+        (λ h. rw (command-past es bound n h, le-ltb n bound h) (skip-strip n a b f))
         (lt-or-ge n bound))
 
     -- one that has parts is lower
@@ -210,3 +249,37 @@ module _ (s : List ℕ) where
         (λ h. omega (arith, floor-low n k))
         (λ h. rw (← told, same, le-ltb n bound h) (omega arith))
         (lt-or-ge n bound)
+
+-- two readings with the same commands below an entry: its parts have the same bytes
+module _ (es fs : Entries) where
+  abbrev Same : ℕ → Type 0
+  Same bound = (n a b f : ℕ) → strip (partAt es bound n) a b f ≡ strip (partAt fs bound n) a b f
+
+  drawn-same : (n : ℕ) → Same n → (k : Construct) (a b f : ℕ) → drawnAs es n k a b f ≡ drawnAs fs n k a b f
+  unfolding drawnAs taking firstAs restAs followed
+  drawn-same n same Leaf a b f = refl
+  drawn-same n same (Sequence p q) a b f = rw (same p, same q)
+  drawn-same n same (Conditional p) a b f = rw (same p)
+  drawn-same n same (Iteration p) a b f = rw (same p)
+  drawn-same n same (Guarded g p) a b f = rw (same p)
+  drawn-same n same (Choice p q) a b f = rw (same p, same q)
+
+  abbrev Agreed : ℕ → Type 0
+  Agreed bound = (k : ℕ) → k < bound → es Commands k ≡ fs Commands k
+
+  same-construct : (bound n : ℕ) → n < bound → Agreed bound → constructOf fs bound n ≡ constructOf es bound n
+  unfolding constructOf
+  same-construct bound n h agreed = rw (agreed n h)
+
+  pub same-strip : (bound : ℕ) → Agreed bound → Same bound
+  same-strip = from-below (λ (bound : ℕ). Agreed bound → Same bound) step
+    where
+      step : (bound : ℕ) → ((m : ℕ) → m < bound → Agreed m → Same m) → Agreed bound → Same bound
+      step bound below agreed n a b f =
+          ⊎-elim
+          (λ h.
+          strip-part es bound n refl refl a b f
+          ∙ drawn-same n (below n h (λ k l. agreed k (omega arith))) (constructOf es bound n) a b f
+          ∙ sym (strip-part fs bound n refl (same-construct bound n h agreed) a b f))
+          (λ h. rw (command-past es bound n h, command-past fs bound n h))
+          (lt-or-ge n bound)

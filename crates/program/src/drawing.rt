@@ -25,12 +25,6 @@ enum Construct {
     Choice(u16, u16),
 }
 
-// How far a drawing has come: the next fresh node, and the place of the next edge in the buffer.
-struct Pen {
-    fresh: u16,
-    at: usize,
-}
-
 // The numbers of nodes and edges.
 struct Counts {
     nodes: u16,
@@ -75,77 +69,77 @@ fn put_edge(buffer: &mut [u8], at: usize, source: u16, target: u16, kind: u8, en
     put_word(buffer, at + 5, entry);
 }
 
-// The same, as a part of a drawing.
+// The same, as a part of a drawing. How far a drawing has come is one number, the pen: 65536 times the place of the next edge in the array, and the next fresh node. A struct would go through memory at each level.
 fn draw_edge(
-    buffer: &mut [u8],
-    at: usize,
+    edges: &mut [u8; 1785],
+    pen: u32,
     source: u16,
     target: u16,
     kind: u8,
     entry: u16,
-    fresh: u16,
-) -> Pen
-    requires { ⌜ parts.Room (parts.edgeStrip source target kind entry fresh) at (length (now buffer)) ⌝ }
-    ensures { λ r. ⌜ parts.Drew (parts.edgeStrip source target kind entry fresh) at (now (buffer .entry)) (now (buffer .exit)) r ⌝ }
+) -> u32
+    requires { ⌜ parts.Room (parts.edgeStrip source target kind entry (parts.freshOf pen)) (parts.placeOf pen) ⌝ }
+    ensures { λ r. ⌜ parts.Drew (parts.edgeStrip source target kind entry (parts.freshOf pen)) (parts.placeOf pen) (now (edges .entry)) (now (edges .exit)) r ⌝ }
 {
-    put_edge(buffer, at, source, target, kind, entry);
-    Pen { fresh, at: at + 7 }
+    put_edge(edges, (pen / 65536) as usize, source, target, kind, entry);
+    pen + 7 * 65536
 }
 
-// How entry `n` of the commands, which start at `start`, is drawn as a part of entry `bound`: a reference that is not lower is a leaf.
-fn construct_at(s: &[u8], start: usize, bound: u16, n: u16) -> Construct
-    requires { ⌜ parts.CommandsAt (now s) start ⌝ }
-    ensures { λ r. ⌜ r ≡ parts.constructOf (now (s .entry)) bound n ⌝ }
+// How entry `n` of the commands is drawn as a part of entry `bound`: a reference that is not lower is a leaf.
+fn construct_at(commands: &[u8; 1792], bound: u16, n: u16) -> Construct
+    requires { ⌜ bound ≤ 256 ⌝ }
+    ensures { λ r. ⌜ r ≡ parts.constructOf (parts.commandsIn (now (commands .entry))) bound n ⌝ }
 {
     if bound <= n {
         return Construct::Leaf;
     }
-    let e = file::entry_at(s, start + 7 * file::long(n));
-    let kind = e.kind;
+    let at = 7 * file::long(n);
+    let kind = commands[at];
+    let p = file::whole_word(commands, at + 1);
+    let q = file::whole_word(commands, at + 3);
     match kind {
-        3 => Construct::Sequence(e.p, e.q),
-        4 => Construct::Conditional(e.p),
-        5 => Construct::Iteration(e.p),
-        6 => Construct::Guarded(e.p, e.q),
-        7 => Construct::Choice(e.p, e.q),
+        3 => Construct::Sequence(p, q),
+        4 => Construct::Conditional(p),
+        5 => Construct::Iteration(p),
+        6 => Construct::Guarded(p, q),
+        7 => Construct::Choice(p, q),
         _ => Construct::Leaf,
     }
 }
 
 // The edges of entry `n`, a part of entry `bound`, from node `a` to node `b`.
 fn draw_part(
-    s: &[u8],
-    start: usize,
+    commands: &[u8; 1792],
     bound: u16,
     n: u16,
     a: u16,
     b: u16,
-    fresh: u16,
-    at: usize,
-    buffer: &mut [u8],
-) -> Pen
-    requires { ⌜ parts.Ready (now s) start (parts.strip (parts.partAt (now s) bound n) a b fresh) at (length (now buffer)) ⌝ }
-    ensures { λ r. ⌜ parts.Drew (parts.strip (parts.partAt (now (s .entry)) bound n) a b fresh) at (now (buffer .entry)) (now (buffer .exit)) r ⌝ }
+    pen: u32,
+    edges: &mut [u8; 1785],
+) -> u32
+    requires { ⌜ parts.Ready bound (parts.strip (parts.partAt (parts.commandsIn (now commands)) bound n) a b (parts.freshOf pen)) (parts.placeOf pen) ⌝ }
+    ensures { λ r. ⌜ parts.Drew (parts.strip (parts.partAt (parts.commandsIn (now (commands .entry))) bound n) a b (parts.freshOf pen)) (parts.placeOf pen) (now (edges .entry)) (now (edges .exit)) r ⌝ }
 {
-    let c = construct_at(s, start, bound, n);
+    let fresh = (pen % 65536) as u16;
+    let c = construct_at(commands, bound, n);
     match c {
-        Construct::Leaf => draw_edge(buffer, at, a, b, 1, n, fresh),
+        Construct::Leaf => draw_edge(edges, pen, a, b, 1, n),
         Construct::Sequence(p, q) => {
-            let first = draw_part(s, start, n, p, a, fresh, fresh + 1, at, buffer);
-            draw_part(s, start, n, q, fresh, b, first.fresh, first.at, buffer)
+            let first = draw_part(commands, n, p, a, fresh, pen + 1, edges);
+            draw_part(commands, n, q, fresh, b, first, edges)
         }
-        Construct::Conditional(p) => draw_part(s, start, n, p, a, b, fresh, at, buffer),
+        Construct::Conditional(p) => draw_part(commands, n, p, a, b, pen, edges),
         Construct::Iteration(p) => {
-            let body = draw_part(s, start, n, p, a, a, fresh, at, buffer);
-            draw_edge(buffer, body.at, a, b, 3, p, body.fresh)
+            let body = draw_part(commands, n, p, a, a, pen, edges);
+            draw_edge(edges, body, a, b, 3, p)
         }
         Construct::Guarded(g, p) => {
-            let guard = draw_edge(buffer, at, a, fresh, 2, g, fresh + 1);
-            draw_part(s, start, n, p, fresh, b, guard.fresh, guard.at, buffer)
+            let guard = draw_edge(edges, pen + 1, a, fresh, 2, g);
+            draw_part(commands, n, p, fresh, b, guard, edges)
         }
         Construct::Choice(p, q) => {
-            let first = draw_part(s, start, n, p, a, b, fresh, at, buffer);
-            draw_part(s, start, n, q, a, b, first.fresh, first.at, buffer)
+            let first = draw_part(commands, n, p, a, b, pen, edges);
+            draw_part(commands, n, q, a, b, first, edges)
         }
     }
 }
@@ -158,19 +152,21 @@ fn edges_in(end: usize) -> u16
     (end / 7) as u16
 }
 
-// The edges of a well-formed program: there are at most 255.
+// The edges of a well-formed program: there are at most 255. Its commands, at most 256, are copied to an array first: a slice would be kept in memory at each level.
 fn draw_program(s: &[u8], edges: &mut [u8; 1785]) -> Counts
     requires { ⌜ Questions.validity (now s) ≡ Validity.Fit ⌝ }
     ensures { λ r. ⌜ parts.DrewAll (now (s .entry)) (now (edges .entry)) (now (edges .exit)) r ⌝ }
 {
     let l = file::layout(s);
-    let commands = l.commands;
-    let start = commands.start;
-    let bound = commands.count;
-    let pen = draw_part(s, start, bound, bound - 1, 0, 1, 2, 0, edges);
+    let span = l.commands;
+    let start = span.start;
+    let bound = span.count;
+    let mut commands = [0u8; 1792];
+    copy_front(&mut commands, &s[start..], 7 * file::long(bound));
+    let pen = draw_part(&commands, bound, bound - 1, 0, 1, 2, edges);
     Counts {
-        nodes: pen.fresh,
-        edges: edges_in(pen.at),
+        nodes: (pen % 65536) as u16,
+        edges: edges_in((pen / 65536) as usize),
     }
 }
 
