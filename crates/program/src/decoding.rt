@@ -12,7 +12,6 @@ use crate::ArithNode;
 use crate::BooleanNode;
 use crate::CommandNode;
 use crate::Entry;
-use crate::Layout;
 use crate::Table;
 use crate::file;
 use crate::validation::uses;
@@ -41,15 +40,13 @@ fn copy_entry(s: &[u8], table: Table, start: usize, n: u16, out: &mut [u16])
     put_entry(out, uses::slot(table, n), e);
 }
 
-// The entries of a table, as many as there are.
-fn put_table(s: &[u8], l: Layout, table: Table, out: &mut [u16])
-    requires { ⌜ (l ≡ File.layoutOf (now s))
+// The entries of a table, as many as there are: `entries`, from `start` on.
+fn put_table(s: &[u8], table: Table, start: usize, entries: u16, out: &mut [u16])
+    requires { ⌜ (start ≡ File.tableStart (now s) table) × (entries ≡ File.entryCount (now s) table)
         × parts.Filled (spec.decodedEntries (now s)) (4 * Counting.slot table 0) (now out) ⌝ }
     ensures { λ _. ⌜ parts.Filled (spec.decodedEntries (now (s .entry))) (4 * Counting.slot table (Counting.capacity table)) (now (out .exit)) ⌝ }
 {
-    let span = file::span_of(l, table);
-    let start = span.start;
-    let count = file::least(span.count, uses::capacity(table));
+    let count = file::least(entries, uses::capacity(table));
     let mut n: u16 = 0;
     while n < count {
         copy_entry(s, table, start, n, out);
@@ -63,9 +60,18 @@ pub fn put_entries(s: &[u8], out: &mut [u16; 4096])
 {
     *out = [0u16; 4096];
     let l = file::layout(s);
-    put_table(s, l, Table::Arithmetic, out);
-    put_table(s, l, Table::Boolean, out);
-    put_table(s, l, Table::Commands, out);
+    let arithmetic = l.arithmetic;
+    let boolean = l.boolean;
+    let commands = l.commands;
+    put_table(
+        s,
+        Table::Arithmetic,
+        arithmetic.start,
+        arithmetic.count,
+        out,
+    );
+    put_table(s, Table::Boolean, boolean.start, boolean.count, out);
+    put_table(s, Table::Commands, commands.start, commands.count, out);
 }
 
 // The same as an array.

@@ -1,25 +1,21 @@
 -- `program::decoding::put_table` meets its contract.
 use borrow.Author.Needs.{needs}
 use Prim.Native.Nat.{ℕ, _≤_, _-_, _*_}
-use mathlib.Core.Path.{ap, sym, subst, _∙_}
+use mathlib.Core.Path.{sym, subst, _∙_}
 use native.Mathlib.Omega.{arith}
 use Rattle.program.specs.Counting.{slot}
 use Rattle.program.specs.Decoding.{decodedEntries}
 use Rattle.program.specs.DecodingParts.{Filled}
-use Rattle.program.specs.declared.Span.{Span}
 use Rattle.program.proofs.Decoded.{filled-table}
-use Rattle.program.proofs.Reading.{laid-count, laid-start, table-inside}
+use Rattle.program.proofs.Reading.{table-inside}
 use Rattle.program.proofs.decoding.put_table.Statement.{statement}
 use Rattle.program.proofs.decoding.put_table.Tie as tie
 
 abbrev Inv-loop : tie.InvT-loop
-Inv-loop s table out₀ start count n₀ out n = (n ≤ count) × Filled (decodedEntries s) (4 * slot table n) out
+Inv-loop s table start entries out₀ count n₀ out n = (n ≤ count) × Filled (decodedEntries s) (4 * slot table n) out
 
 abbrev μ-loop : tie.MeasureT-loop
-μ-loop s table out₀ start count n₀ out n = count - n
-
-span-of-requires : tie.Need-span-of-requires Inv-loop μ-loop
-span-of-requires c κs = search needs
+μ-loop s table start entries out₀ count n₀ out n = count - n
 
 capacity-requires : tie.Need-capacity-requires Inv-loop μ-loop
 capacity-requires c κs = search needs
@@ -28,19 +24,18 @@ least-requires : tie.Need-least-requires Inv-loop μ-loop
 least-requires c κs = search needs
 
 loop-holds : tie.Need-loop-holds Inv-loop μ-loop
-loop-holds c = (search needs, c .before .before .before .before .before .pre .1)
+loop-holds c = (search needs, c .before .before .before .before .pre .2)
 
 copy-entry-requires : tie.Need-copy-entry-requires Inv-loop μ-loop
 copy-entry-requires c κs =
-    let start = c .before .before .before .before .before .before .before .before in
+    let start = c .before .before .before .before .before .before .before in
     let s = start .args .s .now in
     let table = start .args .table in
-    let span = c .before .before .before .before .before .span-of .ensures in
-    let count = ap (λ (x : Span). x .count) span ∙ laid-count s _ (start .pre .0) table in
+    let count = start .pre .1 in
     let few = c .before .before .before .before .capacity .ensures in (
       record {
-        same = ap (λ (x : Span). x .start) span ∙ laid-start s _ (start .pre .0) table;
-        inside = omega (arith, table-inside s table (omega arith), ap (λ (x : Span). x .start) span, laid-start s _ (start .pre .0) table);
+        same = start .pre .0;
+        inside = omega (arith, table-inside s table (omega arith), start .pre .0);
         exists = omega arith;
         room = omega arith;
       },
@@ -57,16 +52,16 @@ loop-again : tie.Need-loop-again Inv-loop μ-loop
 loop-again c = (search needs, c .before .before .copy-entry .ensures)
 
 same-length : tie.Need-same-length Inv-loop μ-loop
-same-length c = c .before .loop .inv .1 .size ∙ sym (c .before .before .before .before .before .before .before .pre .1 .size)
+same-length c = c .before .loop .inv .1 .size ∙ sym (c .before .before .before .before .before .before .pre .2 .size)
 
 returns : tie.Need-returns Inv-loop μ-loop
 returns c =
-    let start = c .before .before .before .before .before .before .before in
+    let start = c .before .before .before .before .before .before in
     let s = start .args .s .now in
     let table = start .args .table in
-    let count = ap (λ (x : Span). x .count) (c .before .before .before .before .span-of .ensures) ∙ laid-count s _ (start .pre .0) table in
+    let count = start .pre .1 in
     let few = c .before .before .before .capacity .ensures in
     filled-table s table (subst (λ (n : ℕ). Filled (decodedEntries s) (4 * slot table n) (c .before .loop .out)) (omega arith) (c .before .loop .inv .1))
 
 pub put-table-spec : {M : Type 1} → statement M
-put-table-spec = tie.close (tie.spec Inv-loop μ-loop span-of-requires capacity-requires least-requires loop-holds copy-entry-requires add-n loop-less loop-again same-length returns)
+put-table-spec = tie.close (tie.spec Inv-loop μ-loop capacity-requires least-requires loop-holds copy-entry-requires add-n loop-less loop-again same-length returns)
