@@ -1,12 +1,13 @@
--- Laws of an array that is filled with the numbers of a list from the front.
+-- Laws of an array that is filled with the numbers of a list from the front, and of one that has them but for a part.
 use mathlib.Core.Path.{_≡_, sym, _∙_}
 use mathlib.Core.List.{List}
+use mathlib.Core.Logic.{inl, inr, ⊎-elim}
 use Prim.Native.Nat.{ℕ, _+_, _≤_, _<_}
 use native.Mathlib.Decide.{ℕ-discrete, decLe}
 use native.Mathlib.Omega.{arith}
-use lib.ListN.{length, getD, set, replicate, length-set, length-replicate}
+use lib.ListN.{length, getD, set, replicate, length-set, length-replicate, getD-replicate}
 use lib.Seq.{getD-set-same, getD-set-other, ext-getD}
-use Rattle.program.specs.DecodingParts.{Filled}
+use Rattle.program.specs.DecodingParts.{Filled, FilledBut}
 use Rattle.program.proofs.Lists.{getD-same}
 
 module _ (xs : List ℕ) where
@@ -46,3 +47,31 @@ module _ (xs : List ℕ) where
 
   pub filled-all : (n : ℕ) {out : List ℕ} → length xs ≡ n → Filled xs n out → out ≡ xs
   filled-all n {out} h f = ext-getD 0 out xs (f .size) (λ i l. f .same i (omega (arith, f .size)))
+
+  -- an array of one number, which is that of the list from j on
+  pub filled-same : (n j v : ℕ) → length xs ≡ n → ((k : ℕ) → j ≤ k → k < n → getD xs k 0 ≡ v) → FilledBut xs 0 j (replicate n v)
+  filled-same n j v h same =
+      record {
+        size = length-replicate n v ∙ sym h;
+        same = λ k l p. ⊎-elim (λ q. absurd (omega arith)) (λ q. getD-replicate n k v 0 (omega arith) ∙ sym (same k q (omega arith))) p;
+      }
+
+  -- one number more of those before
+  pub filled-before : (i j x : ℕ) {n : ℕ} {out : List ℕ} → n ≡ i + 1 → i < length xs → x ≡ getD xs i 0 → FilledBut xs i j out → FilledBut xs n j (set out i x)
+  filled-before i j x {out = out} next h e f =
+      record {
+        size = length-set out i x ∙ f .size;
+        same =
+            λ k l p. elim (ℕ-discrete k i) [
+              | yes q ↦ rw q (getD-set-same out i x 0 (omega (arith, f .size)) ∙ e)
+              | no q ↦ getD-set-other out i k x 0 q ∙ f .same k l (⊎-elim (λ r. inl (omega arith)) inr p)
+            ];
+      }
+
+  pub filled-whole : (j : ℕ) {out : List ℕ} → FilledBut xs j j out → out ≡ xs
+  filled-whole j {out} f =
+      ext-getD 0 out xs (f .size)
+      (λ k l. f .same k (omega (arith, f .size)) (elim (decLe j k) [
+        | yes p ↦ inr p
+        | no q ↦ inl (omega arith)
+      ]))

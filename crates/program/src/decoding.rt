@@ -97,29 +97,18 @@ pub fn name_sizes(s: &[u8]) -> [u16; 32]
     out
 }
 
-// The cells of the names up to name `i`, of which those before it have so many.
-fn cells_to(s: &[u8], names: u16, i: u16, before: usize) -> usize
-    requires { ⌜ (names ≡ File.nameCount (now s)) × (before ≡ File.firstCell (File.sizes (now s)) i) × (before ≤ 65536 * i) ⌝ }
-    ensures { λ r. ⌜ (r ≡ File.firstCell (File.sizes (now (s .entry))) (i + 1)) × (r ≤ 65536 * (i + 1)) ⌝ }
-{
-    if i < names {
-        before + file::cells_of(file::size_at(s, i))
-    } else {
-        before
-    }
-}
-
-// Their first cells.
+// Their first cells: past the last name, the number of all cells.
 pub fn name_cells(s: &[u8]) -> [usize; 32]
     ensures { λ r. ⌜ r ≡ spec.decodedCells (now (s .entry)) ⌝ }
 {
-    let names = file::name_count(s);
-    let mut out = [0usize; 32];
+    let count = file::least(file::name_count(s), 32);
+    let all = file::first_cell(s, 32);
+    let mut out = [all; 32];
     let mut total: usize = 0;
     let mut i: u16 = 0;
-    while i < 32 {
+    while i < count {
         out[file::long(i)] = total;
-        total = cells_to(s, names, i, total);
+        total += file::cells_of(file::size_at(s, i));
         i += 1;
     }
     out
