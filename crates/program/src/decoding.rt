@@ -1,7 +1,7 @@
 // A program decoded once: the entries of its tables as numbers in one array, and what such an entry is.
 
 ghost use mathlib.Core.Path.{_≡_};
-ghost use Prim.Native.Nat.{_<_, _≤_, _+_, _*_};
+ghost use Prim.Native.Nat.{_<_, _+_, _*_};
 ghost use lib.ListN.{length, getD, set};
 ghost use Rattle.program.specs.Counting;
 ghost use Rattle.program.specs.Decoding as spec;
