@@ -84,7 +84,7 @@ fn time(nanoseconds: f64) -> String {
 
 /// A line of the table: its bar has ten blocks where the two are as fast.
 fn row(operation: &str, input: &str, timed: Timed) {
-    let ratio = timed.ratio();
+    let ratio = timed.ratio;
     let bar = "█".repeat(((ratio * 10.0).round() as usize).clamp(1, 40));
     println!("| {operation} | {input} | {} | {} | {ratio:.2} | {bar} |", time(timed.engine), time(timed.plain));
 }

@@ -3,20 +3,15 @@
 use std::hint::black_box;
 use std::time::{Duration, Instant};
 
-/// Medians of the time of one call, in nanoseconds.
+/// Medians of the time of one call, in nanoseconds, and how many times as fast as the plain program the engine is: the median of the rounds' ratios, since a round of one and the
+/// next of the other meet the same machine, and rounds far apart may not.
 pub struct Timed {
     pub engine: f64,
     pub plain: f64,
+    pub ratio: f64,
 }
 
-impl Timed {
-    /// How many times as fast as the plain program the engine is.
-    pub fn ratio(&self) -> f64 {
-        self.plain / self.engine
-    }
-}
-
-const ROUNDS: usize = 15;
+const ROUNDS: usize = 25;
 const ROUND: Duration = Duration::from_millis(12);
 
 fn per_call<T>(calls: u32, mut call: impl FnMut() -> T) -> f64 {
@@ -52,5 +47,6 @@ pub fn side_by_side<T, U>(mut engine: impl FnMut() -> T, mut plain: impl FnMut()
         engine_times.push(per_call(engine_calls, &mut engine));
         plain_times.push(per_call(plain_calls, &mut plain));
     }
-    Timed { engine: median(engine_times), plain: median(plain_times) }
+    let ratios = engine_times.iter().zip(&plain_times).map(|(engine, plain)| plain / engine).collect();
+    Timed { engine: median(engine_times), plain: median(plain_times), ratio: median(ratios) }
 }
