@@ -2,6 +2,7 @@ pub mod Open
 pub mod Tabulated
 pub mod Laid
 pub mod Padding
+pub mod Doubling
 pub mod Searching
 pub mod Judged
 pub mod Values

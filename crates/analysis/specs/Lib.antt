@@ -10,6 +10,7 @@ pub mod Verdict
 pub mod Judging
 pub mod Solver
 pub mod Solving
+pub mod Doubling
 pub mod Splitter
 pub mod Sheet
 pub mod Soundness
