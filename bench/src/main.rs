@@ -7,6 +7,7 @@ mod plain;
 mod timing;
 
 use lessons::{Lesson, Walk};
+use oracle::making::Random;
 use pizwoter::{Ending, Mark, Outcome, Run, Verdict};
 use timing::{side_by_side, Timed};
 
@@ -31,8 +32,10 @@ fn main() {
         }
     }
     for lesson in lessons::files() {
-        if wanted("split") {
-            row("split", lesson.title, split(&lesson));
+        for (places, below) in [("a place below 12,288", 12_288), ("any place", 1 << 32)] {
+            if wanted("split") {
+                row("split", &format!("{}, {places}", lesson.title), split(&lesson, below));
+            }
         }
     }
     for lesson in lessons::endless() {
@@ -117,11 +120,16 @@ fn step(lesson: &Lesson) -> Timed {
     side_by_side(|| Run::FRESH.step(file, 0, &mut ours).0, || plain::step(file, 0, 0, 0, &mut theirs).is_ok())
 }
 
-fn split(lesson: &Lesson) -> Timed {
-    let (file, place) = (&lesson.file[..], 3_000_000_019);
-    let split = pizwoter::split(file, place).unwrap();
-    assert_eq!(plain::split(file, place), Ok((split.record, split.column)));
-    side_by_side(|| pizwoter::split(file, place).is_ok(), || plain::split(file, place).is_ok())
+/// Places in no order, so that no branch of a splitter can be learnt.
+fn split(lesson: &Lesson, below: usize) -> Timed {
+    let (file, mut random) = (&lesson.file[..], Random(20_261_116));
+    let places: Vec<u32> = (0..4096).map(|_| random.below(below) as u32).collect();
+    for &place in &places {
+        let split = pizwoter::split(file, place).unwrap();
+        assert_eq!(plain::split(file, place), Ok((split.record, split.column)));
+    }
+    let (mut ours, mut theirs) = (places.iter().cycle(), places.iter().cycle());
+    side_by_side(|| pizwoter::split(file, *ours.next().unwrap()), || plain::split(file, *theirs.next().unwrap()))
 }
 
 /// Small numbers in no order.
