@@ -79,6 +79,7 @@ impl Graph {
 }
 
 /// The arrows at the front of a buffer; nodes and arrows.
+#[inline(never)]
 pub fn draw(file: &[u8], buffer: &mut [u8]) -> Result<(u16, u16), Refusal> {
     let graph = Graph::of(&Program::read(file)?);
     if buffer.len() < 7 * graph.arrows.len() {

@@ -1,6 +1,6 @@
 //! The engine's operations as a plain optimised Rust program: what a careful programmer would write in an afternoon, without proofs. A program is decoded once a call into
 //! vectors of enums, the arrows of a node are a vector, records are looked up in a `HashSet`. It answers as document 01 says; the benchmark compares each answer with the
-//! engine's before it times the two.
+//! engine's before it times the two. An operation is never inlined: its time would then depend on what else the benchmark does.
 
 mod file;
 mod graph;

@@ -116,6 +116,7 @@ fn load(file: &[u8], memory: &[i32]) -> Result<(Program, Graph), Refusal> {
 }
 
 /// A step of a run: the run afterwards, or the reason.
+#[inline(never)]
 pub fn step(file: &[u8], node: u16, count: u16, arrow: u16, memory: &mut [i32]) -> Result<Result<(u16, u16), Reason>, Refusal> {
     let (program, graph) = load(file, memory)?;
     if node >= graph.nodes {
@@ -126,6 +127,7 @@ pub fn step(file: &[u8], node: u16, count: u16, arrow: u16, memory: &mut [i32]) 
 }
 
 /// A budgeted run: its answer, node and count.
+#[inline(never)]
 pub fn run(file: &[u8], budget: u16, memory: &mut [i32]) -> Result<(u32, u16, u16), Refusal> {
     let (program, graph) = load(file, memory)?;
     let leaving = graph.leaving();

@@ -228,6 +228,7 @@ fn is_whole(list: &[u8], width: usize) -> bool {
 }
 
 /// The verdict in document 01's numbers, as the engine's row has them.
+#[inline(never)]
 pub fn judge(file: &[u8], start: &[u8], sheet: &[u8]) -> Vec<u32> {
     let analysis = match Analysis::of(file) {
         Ok(analysis) => analysis,
@@ -269,6 +270,7 @@ pub fn judge(file: &[u8], start: &[u8], sheet: &[u8]) -> Vec<u32> {
 }
 
 /// The solver's records in a buffer, and its answer in document 01's numbers.
+#[inline(never)]
 pub fn solve(file: &[u8], start: &[u8], buffer: &mut [u8]) -> Vec<u32> {
     let analysis = match Analysis::of(file) {
         Ok(analysis) => analysis,
@@ -319,6 +321,7 @@ pub fn solve(file: &[u8], start: &[u8], buffer: &mut [u8]) -> Vec<u32> {
 }
 
 /// A place's record and column.
+#[inline(never)]
 pub fn split(file: &[u8], place: u32) -> Result<(u32, u32), Refusal> {
     let width = name_count(file)? as u32 + 2;
     Ok((place / width, place % width))
