@@ -12,7 +12,7 @@ use lib.Pow.{pow-mono, pow-pos}
 use mir.Val.{boolByte}
 use Rattle.analysis.specs.Doubling.{doubled, takenOff}
 
--- a width doubled k times is at least the k-th power of two, so fewer than 32 doublings are numbers of 32 bits
+-- a width doubled k times is at least the k-th power of two, so it is a number of 32 bits only where k is below 32
 power-below : (width k : ℕ) → 0 < width → 2 ^ k ≤ doubled width k
 unfolding doubled
 power-below width zero h = h

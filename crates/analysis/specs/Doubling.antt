@@ -11,7 +11,7 @@ unfoldable pub doubled : ℕ → ℕ → ℕ
 doubled width zero = width
 doubled width (suc k) = doubled width k + doubled width k
 
--- the first cells hold a width and its doublings, as many as a place has room for
+-- the first cells hold a width and its doublings, and the next would be more than a place
 pub record Doublings (width place : ℕ) (widths : List ℕ) (count : ℕ) : Type 0 where
   pub few : count ≤ 32
   pub held : (k : ℕ) → k < count → getD widths k 0 ≡ doubled width k

@@ -1,7 +1,6 @@
 // The splitter: the record and the column of a byte of a solution, by doubled widths taken off, with no division.
 
 ghost use Prim.Native.Nat.{_<_};
-ghost use lib.ListN.{length};
 ghost use mathlib.Core.Path.{_≡_};
 ghost use Rattle.analysis.specs.Doubling as doubling;
 ghost use Rattle.analysis.specs.Splitter as spec;
@@ -14,9 +13,10 @@ use std::num;
 
 // Writes a width, its double, the double of that and so on, as many as are at most the place; how many. In 64 bits no sum overflows.
 fn double(width: u32, place: u32, widths: &mut [u32; 32]) -> usize
-    requires { ⌜ (0 < width) × (length (now widths) ≡ 32) ⌝ }
+    requires { ⌜ 0 < width ⌝ }
     ensures { λ r. ⌜ doubling.Doublings width place (now (widths .exit)) r ⌝ }
 {
+    *widths = [0u32; 32];
     let mut doubled = width as u64;
     let mut count: usize = 0;
     while doubled <= place as u64 {

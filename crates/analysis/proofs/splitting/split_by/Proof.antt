@@ -19,7 +19,7 @@ abbrev μ-loop : tie.MeasureT-loop
 μ-loop width place widths count record₀ rest₀ left₀ «record» rest left = left
 
 double-requires : tie.Need-double-requires Inv-loop μ-loop
-double-requires c κs = (c .before .pre, refl)
+double-requires c κs = c .before .pre
 
 loop-holds : tie.Need-loop-holds Inv-loop μ-loop
 loop-holds c = (omega arith, none-off _ _ _ (c .double .ensures .enough))
