@@ -3,7 +3,6 @@ use Prim.Native.Nat.{_+_, _-_, _≤_}
 use borrow.Author.Needs.{needs}
 use lib.Dec.{leb}
 use lib.ListN.{getD}
-use mathlib.Core.Path.{refl}
 use mir.Val.{boolByte}
 use native.Mathlib.Omega.{arith}
 use Rattle.analysis.specs.Doubling.{takenOff}
