@@ -106,7 +106,7 @@ fn any_missing(
 fn picked(
     query: Query,
     entries: &[u16; 4096],
-    grids: &[[[u8; 3]; 3]; 5],
+    table: &[[[u8; 8]; 8]; 5],
     edges: &[u8],
     factors: &[u16; 34],
     heads: &[u16; 8192],
@@ -117,7 +117,7 @@ fn picked(
     e: u16,
 ) -> bool
     requires { ⌜ parts.Ordered names (now solution) (now factors) (now heads) (now next) ⌝ }
-    requires { ⌜ now grids ≡ Grid.grids ⌝ }
+    requires { ⌜ now table ≡ Grid.setTable ⌝ }
     ensures { λ r. ⌜ ((s : List ℕ) (edge-count count : ℕ) (ρ : List ℕ)
         → parts.Searched s (now (edges .entry)) (now (entries .entry)) edge-count names count (now (solution .entry)) (now (factors .entry)) (now (heads .entry)) (now (next .entry))
         → parts.ReadInto ρ (now (rho .entry)) names → e < edge-count → r ≡ parts.picks (File.sizes s) (Graph.graph s) (now (solution .entry)) query ρ e) ⌝ }
@@ -125,7 +125,7 @@ fn picked(
     let drawn = drawing::edge_at(edges, e);
     match query {
         Query::MissingResult => {
-            let found = results::changes(entries, grids, rho, drawn.kind, drawn.entry);
+            let found = results::changes(entries, table, rho, drawn.kind, drawn.entry);
             any_missing(
                 factors,
                 heads,
@@ -141,7 +141,7 @@ fn picked(
         }
         Query::NegativeIndex => index::may_be_negative(
             entries,
-            grids,
+            table,
             rho,
             drawn.kind,
             drawn.entry,
@@ -153,7 +153,7 @@ fn picked(
 fn first_picked(
     query: Query,
     entries: &[u16; 4096],
-    grids: &[[[u8; 3]; 3]; 5],
+    table: &[[[u8; 8]; 8]; 5],
     edges: &[u8],
     links: &[u16; 384],
     edge_count: u16,
@@ -166,7 +166,7 @@ fn first_picked(
     node: u16,
 ) -> First
     requires { ⌜ parts.Ordered names (now solution) (now factors) (now heads) (now next) ⌝ }
-    requires { ⌜ now grids ≡ Grid.grids ⌝ }
+    requires { ⌜ now table ≡ Grid.setTable ⌝ }
     requires { ⌜ Links.Followable (now edges) «edge_count» (now links) ⌝ }
     ensures { λ r. ⌜ ((s : List ℕ) (count : ℕ) (ρ : List ℕ)
         → parts.Searched s (now (edges .entry)) (now (entries .entry)) «edge_count» names count (now (solution .entry)) (now (factors .entry)) (now (heads .entry)) (now (next .entry))
@@ -177,7 +177,7 @@ fn first_picked(
         if picked(
             query,
             entries,
-            grids,
+            table,
             edges,
             factors,
             heads,
@@ -198,7 +198,7 @@ fn first_picked(
 fn spot_at(
     query: Query,
     entries: &[u16; 4096],
-    grids: &[[[u8; 3]; 3]; 5],
+    table: &[[[u8; 8]; 8]; 5],
     edges: &[u8],
     links: &[u16; 384],
     edge_count: u16,
@@ -211,7 +211,7 @@ fn spot_at(
     k: u16,
 ) -> Spot
     requires { ⌜ parts.OrderedTo names records (now solution) (now factors) (now heads) (now next) × (k < records) ⌝ }
-    requires { ⌜ now grids ≡ Grid.grids ⌝ }
+    requires { ⌜ now table ≡ Grid.setTable ⌝ }
     requires { ⌜ Links.Followable (now edges) «edge_count» (now links) ⌝ }
     ensures { λ r. ⌜ ((s : List ℕ)
         → parts.Searched s (now (edges .entry)) (now (entries .entry)) «edge_count» names records (now (solution .entry)) (now (factors .entry)) (now (heads .entry)) (now (next .entry))
@@ -224,7 +224,7 @@ fn spot_at(
     let found = first_picked(
         query,
         entries,
-        grids,
+        table,
         edges,
         links,
         edge_count,
@@ -255,7 +255,7 @@ fn is_here(spot: Spot) -> bool
 fn first_spot(
     query: Query,
     entries: &[u16; 4096],
-    grids: &[[[u8; 3]; 3]; 5],
+    table: &[[[u8; 8]; 8]; 5],
     edges: &[u8],
     links: &[u16; 384],
     edge_count: u16,
@@ -267,7 +267,7 @@ fn first_spot(
     records: u16,
 ) -> Spot
     requires { ⌜ parts.OrderedTo names records (now solution) (now factors) (now heads) (now next) ⌝ }
-    requires { ⌜ now grids ≡ Grid.grids ⌝ }
+    requires { ⌜ now table ≡ Grid.setTable ⌝ }
     requires { ⌜ Links.Followable (now edges) «edge_count» (now links) ⌝ }
     ensures { λ r. ⌜ ((s : List ℕ)
         → parts.Searched s (now (edges .entry)) (now (entries .entry)) «edge_count» names records (now (solution .entry)) (now (factors .entry)) (now (heads .entry)) (now (next .entry))
@@ -278,7 +278,7 @@ fn first_spot(
         let spot = spot_at(
             query,
             entries,
-            grids,
+            table,
             edges,
             links,
             edge_count,
@@ -358,18 +358,18 @@ fn mark_of(spot: Spot) -> Mark
 // Whether an index of an edge may be negative in the widest abstract memory; if none may, none may in any.
 fn ever_negative(
     entries: &[u16; 4096],
-    grids: &[[[u8; 3]; 3]; 5],
+    table: &[[[u8; 8]; 8]; 5],
     edges: &[u8],
     edge_count: u16,
 ) -> bool
-    requires { ⌜ now grids ≡ Grid.grids ⌝ }
+    requires { ⌜ now table ≡ Grid.setTable ⌝ }
     ensures { λ r. ⌜ (r ≡ false → (e : ℕ) → e < «edge_count» → parts.NeverNegative (now (edges .entry)) (now (entries .entry)) e) ⌝ }
 {
     let widest = [7u8; 32];
     let mut e: u16 = 0;
     while e < edge_count {
         let drawn = drawing::edge_at(edges, e);
-        if index::may_be_negative(entries, grids, &widest, drawn.kind, drawn.entry) {
+        if index::may_be_negative(entries, table, &widest, drawn.kind, drawn.entry) {
             return true;
         }
         e += 1;
@@ -380,7 +380,7 @@ fn ever_negative(
 // The index mark of a solution that is indexed: its records are read only where some index may be negative at all.
 fn mark_indexed(
     entries: &[u16; 4096],
-    grids: &[[[u8; 3]; 3]; 5],
+    table: &[[[u8; 8]; 8]; 5],
     edges: &[u8],
     links: &[u16; 384],
     edge_count: u16,
@@ -392,17 +392,17 @@ fn mark_indexed(
     records: u16,
 ) -> Mark
     requires { ⌜ parts.OrderedTo names records (now solution) (now factors) (now heads) (now next) ⌝ }
-    requires { ⌜ now grids ≡ Grid.grids ⌝ }
+    requires { ⌜ now table ≡ Grid.setTable ⌝ }
     requires { ⌜ Links.Followable (now edges) «edge_count» (now links) ⌝ }
     ensures { λ r. ⌜ ((s : List ℕ)
         → parts.Searched s (now (edges .entry)) (now (entries .entry)) «edge_count» names records (now (solution .entry)) (now (factors .entry)) (now (heads .entry)) (now (next .entry))
         → r ≡ spec.indexMark (File.sizes s) (Graph.graph s) (now (solution .entry))) ⌝ }
 {
-    if ever_negative(entries, grids, edges, edge_count) {
+    if ever_negative(entries, table, edges, edge_count) {
         let negative = first_spot(
             Query::NegativeIndex,
             entries,
-            grids,
+            table,
             edges,
             links,
             edge_count,
@@ -421,7 +421,7 @@ fn mark_indexed(
 // 42, or accepted with the index mark, of a solution that is indexed.
 fn results_indexed(
     entries: &[u16; 4096],
-    grids: &[[[u8; 3]; 3]; 5],
+    table: &[[[u8; 8]; 8]; 5],
     edges: &[u8],
     links: &[u16; 384],
     edge_count: u16,
@@ -433,7 +433,7 @@ fn results_indexed(
     records: u16,
 ) -> Verdict
     requires { ⌜ parts.OrderedTo names records (now solution) (now factors) (now heads) (now next) ⌝ }
-    requires { ⌜ now grids ≡ Grid.grids ⌝ }
+    requires { ⌜ now table ≡ Grid.setTable ⌝ }
     requires { ⌜ Links.Followable (now edges) «edge_count» (now links) ⌝ }
     ensures { λ r. ⌜ ((s : List ℕ)
         → parts.Searched s (now (edges .entry)) (now (entries .entry)) «edge_count» names records (now (solution .entry)) (now (factors .entry)) (now (heads .entry)) (now (next .entry))
@@ -442,7 +442,7 @@ fn results_indexed(
     let spot = first_spot(
         Query::MissingResult,
         entries,
-        grids,
+        table,
         edges,
         links,
         edge_count,
@@ -457,7 +457,7 @@ fn results_indexed(
         Spot::At { record, edge } => Verdict::ResultMissing { record, edge },
         Spot::Nowhere => Verdict::Accepted(mark_indexed(
             entries,
-            grids,
+            table,
             edges,
             links,
             edge_count,
@@ -492,7 +492,7 @@ fn judge_formed(
     ensures { λ r. ⌜ r ≡ parts.found (now (program .entry)) (now (initial .entry)) (now (solution .entry)) ⌝ }
 {
     let entries = decoding::entries(program);
-    let grids = grid::grids();
+    let table = grid::set_table();
     let links = adjacency::links(edges, edge_count);
     let factors = membership::factors();
     let width = 2 + names;
@@ -513,7 +513,7 @@ fn judge_formed(
         First::At(k) => Verdict::InitialMissing { record: k },
         First::Nothing => results_indexed(
             &entries,
-            &grids,
+            &table,
             edges,
             &links,
             edge_count,
@@ -533,7 +533,7 @@ fn mark_formed(program: &[u8], edges: &[u8], edge_count: u16, solution: &[u8], n
     ensures { λ r. ⌜ r ≡ spec.indexMark (File.sizes (now (program .entry))) (Graph.graph (now (program .entry))) (now (solution .entry)) ⌝ }
 {
     let entries = decoding::entries(program);
-    let grids = grid::grids();
+    let table = grid::set_table();
     let links = adjacency::links(edges, edge_count);
     let factors = membership::factors();
     let width = 2 + names;
@@ -550,7 +550,7 @@ fn mark_formed(program: &[u8], edges: &[u8], edge_count: u16, solution: &[u8], n
     );
     mark_indexed(
         &entries,
-        &grids,
+        &table,
         edges,
         &links,
         edge_count,

@@ -162,7 +162,7 @@ fn offer_initial(
 // What follows an abstract memory along an edge, offered.
 fn offer_edge(
     entries: &[u16; 4096],
-    grids: &[[[u8; 3]; 3]; 5],
+    table: &[[[u8; 8]; 8]; 5],
     edges: &[u8],
     factors: &[u16; 34],
     heads: &mut [u16; 8192],
@@ -175,14 +175,14 @@ fn offer_edge(
     p: Progress,
 ) -> Progress
     requires { ⌜ parts.Growing (now factors) (2 + names) room (now buffer) (now heads) (now next) p ⌝ }
-    requires { ⌜ now grids ≡ Grid.grids ⌝ }
+    requires { ⌜ now table ≡ Grid.setTable ⌝ }
     ensures { λ r. ⌜ parts.Extended (now (factors .entry)) (2 + names) room (now (buffer .entry)) p (now (buffer .exit)) (now (heads .exit)) (now (next .exit)) r ⌝ }
     ensures { λ r. ⌜ ((s : List ℕ) (edge-count : ℕ) (ρ : List ℕ) → parts.Decoded s (now (edges .entry)) (now (entries .entry)) edge-count names
         → Judging.ReadInto ρ (now (rho .entry)) names → e < edge-count
         → parts.foundIn (2 + names) (now (buffer .exit)) r ≡ spec.offerResults (File.sizes s) (Graph.graph s) room ρ (parts.foundIn (2 + names) (now (buffer .entry)) p) e) ⌝ }
 {
     let drawn = drawing::edge_at(edges, e);
-    let changes = results::changes(entries, grids, rho, drawn.kind, drawn.entry);
+    let changes = results::changes(entries, table, rho, drawn.kind, drawn.entry);
     offer_results(
         factors,
         heads,
@@ -200,7 +200,7 @@ fn offer_edge(
 // What follows an abstract memory at a node, offered edge by edge; from a node past the last of 129 there is no edge.
 fn offer_successors(
     entries: &[u16; 4096],
-    grids: &[[[u8; 3]; 3]; 5],
+    table: &[[[u8; 8]; 8]; 5],
     edges: &[u8],
     links: &[u16; 384],
     edge_count: u16,
@@ -215,7 +215,7 @@ fn offer_successors(
     p: Progress,
 ) -> Progress
     requires { ⌜ parts.Growing (now factors) (2 + names) room (now buffer) (now heads) (now next) p ⌝ }
-    requires { ⌜ now grids ≡ Grid.grids ⌝ }
+    requires { ⌜ now table ≡ Grid.setTable ⌝ }
     requires { ⌜ Links.Followable (now edges) «edge_count» (now links) ⌝ }
     ensures { λ r. ⌜ parts.Extended (now (factors .entry)) (2 + names) room (now (buffer .entry)) p (now (buffer .exit)) (now (heads .exit)) (now (next .exit)) r ⌝ }
     ensures { λ r. ⌜ ((s ρ : List ℕ) → parts.Decoded s (now (edges .entry)) (now (entries .entry)) «edge_count» names → Judging.ReadInto ρ (now (rho .entry)) names
@@ -230,7 +230,7 @@ fn offer_successors(
     while e < edge_count {
         found = offer_edge(
             entries,
-            grids,
+            table,
             edges,
             factors,
             heads,
@@ -250,7 +250,7 @@ fn offer_successors(
 // What follows record k of the list, offered.
 fn offer_from(
     entries: &[u16; 4096],
-    grids: &[[[u8; 3]; 3]; 5],
+    table: &[[[u8; 8]; 8]; 5],
     edges: &[u8],
     links: &[u16; 384],
     edge_count: u16,
@@ -264,7 +264,7 @@ fn offer_from(
     p: Progress,
 ) -> Progress
     requires { ⌜ parts.Growing (now factors) (2 + names) room (now buffer) (now heads) (now next) p × (k < p .count) ⌝ }
-    requires { ⌜ now grids ≡ Grid.grids ⌝ }
+    requires { ⌜ now table ≡ Grid.setTable ⌝ }
     requires { ⌜ Links.Followable (now edges) «edge_count» (now links) ⌝ }
     ensures { λ r. ⌜ parts.Extended (now (factors .entry)) (2 + names) room (now (buffer .entry)) p (now (buffer .exit)) (now (heads .exit)) (now (next .exit)) r ⌝ }
     ensures { λ r. ⌜ ((s : List ℕ) → parts.Decoded s (now (edges .entry)) (now (entries .entry)) «edge_count» names
@@ -277,7 +277,7 @@ fn offer_from(
     lists::read_memory(&mut rho, buffer, at + 2, names);
     offer_successors(
         entries,
-        grids,
+        table,
         edges,
         links,
         edge_count,
@@ -296,7 +296,7 @@ fn offer_from(
 // Down the list: what follows each record is offered, until one has no room.
 fn descend(
     entries: &[u16; 4096],
-    grids: &[[[u8; 3]; 3]; 5],
+    table: &[[[u8; 8]; 8]; 5],
     edges: &[u8],
     links: &[u16; 384],
     edge_count: u16,
@@ -309,7 +309,7 @@ fn descend(
     p: Progress,
 ) -> Progress
     requires { ⌜ parts.Growing (now factors) (2 + names) room (now buffer) (now heads) (now next) p ⌝ }
-    requires { ⌜ now grids ≡ Grid.grids ⌝ }
+    requires { ⌜ now table ≡ Grid.setTable ⌝ }
     requires { ⌜ Links.Followable (now edges) «edge_count» (now links) ⌝ }
     ensures { λ r. ⌜ parts.Extended (now (factors .entry)) (2 + names) room (now (buffer .entry)) p (now (buffer .exit)) (now (heads .exit)) (now (next .exit)) r ⌝ }
     ensures { λ r. ⌜ ((s : List ℕ) → parts.Decoded s (now (edges .entry)) (now (entries .entry)) «edge_count» names
@@ -320,7 +320,7 @@ fn descend(
     while k < found.count && !found.full {
         found = offer_from(
             entries,
-            grids,
+            table,
             edges,
             links,
             edge_count,
@@ -383,7 +383,7 @@ fn find_all(
     ensures { λ r. ⌜ ((s : List ℕ) → parts.Decoded s (now (edges .entry)) (now (entries .entry)) «edge_count» names
         → parts.foundIn (2 + names) (now (buffer .exit)) r ≡ spec.solution (File.sizes s) (Graph.graph s) (now (initial .entry)) room) ⌝ }
 {
-    let grids = grid::grids();
+    let table = grid::set_table();
     let factors = membership::factors();
     let mut heads = [0u16; 8192];
     let mut next = [0u16; 4096];
@@ -403,7 +403,7 @@ fn find_all(
     );
     descend(
         entries,
-        &grids,
+        &table,
         edges,
         links,
         edge_count,

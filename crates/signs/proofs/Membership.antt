@@ -1,11 +1,11 @@
 -- Sets of signs: what is in them, and when two are the same.
 use mathlib.Core.Path.{_≡_, refl, sym, ap, _∙_}
-use mathlib.Core.Bool.{Bool, true, false, cond, not, _&&_, _||_, Bool·beq}
+use mathlib.Core.Bool.{Bool, false, cond, not, _&&_, _||_, Bool·beq}
 use mathlib.Core.List.{List, [], _∷_, List·Memᴰ, List·Memᴰ·head, List·Memᴰ·tail}
 use Prim.Native.Nat.{ℕ, _+_, _-_, _/_, _%_, _≤_, _<_}
 use native.Mathlib.Nat.{mod-lt}
 use native.Mathlib.Omega.{arith}
-use lib.Bits.{bitOr, or-mod, or-lt}
+use lib.Bits.{bitOr, or-mod}
 use lib.Dec.{T, eqb, leb, ltb, leb→le, ltb→lt, eqb→eq, lit<}
 use mir.Facts.{and-yes, yes-and}
 use Rattle.signs.specs.Lists.{anyOf, passing}
@@ -13,7 +13,7 @@ use Rattle.signs.specs.Sign.{has, single, signs, setOf, members, unite, 
 use Rattle.signs.specs.declared.Sign.{Sign}
 use Rattle.signs.specs.declared.Sign.the-variants.{Minus, Zero, Plus}
 use Rattle.signs.proofs.Finite.{everySign, at-sign, everyBool, at-bool, everyBelow, at-below, at-sets, beq-eq}
-use Rattle.signs.proofs.Lists.{anyOf-cong, anyOf-mono, and-mono, anyOf-passing, passing-keeps, passing-passes, or-assoc, or-false, or-left, or-right}
+use Rattle.signs.proofs.Lists.{anyOf-cong, anyOf-mono, and-mono, anyOf-passing, passing-keeps, passing-passes, or-left, or-right}
 
 -- the set with the signs that are said to be in it
 abbrev of : Bool → Bool → Bool → ℕ
@@ -134,26 +134,6 @@ unite-or a b =
     or-mod a b 3
     ∙ sym (eqb→eq (unite (a % 8) (b % 8)) (bitOr (a % 8) (b % 8)) (at-sets (λ a b. eqb (unite a b) (bitOr a b)) tt a b))
     ∙ unite-remainder a b
-
-pub has-or : (a b : ℕ) (s : Sign) → has (bitOr a b) s ≡ (has a s || has b s)
-has-or a b s = sym (has-remainder (bitOr a b) s) ∙ ap (λ n. has n s) (unite-or a b) ∙ has-unite a b s
-
-pub or-below : (a b : ℕ) → a < 8 → b < 8 → bitOr a b < 8
-or-below a b = or-lt 3 a b
-
--- the union over the three signs
-pub has-three : (f : Sign → ℕ) (s : Sign) → has (bitOr (bitOr (f Minus) (f Zero)) (f Plus)) s ≡ anyOf (λ t. has (f t) s) signs
-unfolding anyOf signs
-has-three f s = rw (has-or, has-or, or-assoc, or-false)
-
--- a set that is there only where a test passes
-pub has-cond : (b : Bool) (set : ℕ) (s : Sign) → has (cond b set 0) s ≡ (b && has set s)
-has-cond true set s = refl
-has-cond false set s = has-empty s
-
-pub cond-below : (b : Bool) (set : ℕ) → set < 8 → cond b set 0 < 8
-cond-below true set h = h
-cond-below false set h = omega arith
 
 -- a sign can be taken off where it was added
 off : (s : Sign) (set : ℕ) → (single s ≤ added s (set % 8)) × (added s (set % 8) - single s ≡ removed s (set % 8))

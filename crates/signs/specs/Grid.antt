@@ -2,7 +2,7 @@
 use Prim.Native.Nat.{ℕ}
 use mathlib.Core.List.{List, [], _∷_, map}
 use lib.ListN.{getD}
-use Rattle.signs.specs.Lists.{pairs}
+use Rattle.signs.specs.Lists.{pairs, tabulate}
 use Rattle.signs.specs.Sign.{members, unionAll}
 use Rattle.signs.specs.declared.Operator.{Operator}
 use Rattle.signs.specs.declared.Operator.the-variants.{Add, Sub, Mul, Div, Pow}
@@ -19,7 +19,7 @@ grids =
     ∷ ((0 ∷ 4 ∷ 5 ∷ []) ∷ (0 ∷ 4 ∷ 2 ∷ []) ∷ (0 ∷ 4 ∷ 4 ∷ []) ∷ [])
     ∷ []
 
--- an operator's place among the grids
+-- an operator's place among the grids, and in the set table
 unfoldable pub gridNumber : Operator → ℕ
 gridNumber Add = 0
 gridNumber Sub = 1
@@ -37,10 +37,14 @@ signNumber Plus = 2
 unfoldable pub grid : Operator → Sign → Sign → ℕ
 grid o l r = getD (getD (getD grids (gridNumber o) []) (signNumber l) []) (signNumber r) 0
 
--- the union over the pairs whose left side has a given sign
-unfoldable pub gridRow : Operator → Sign → ℕ → ℕ
-gridRow o l b = unionAll (map (grid o l) (members b))
-
 -- "on sets the union over all pairs"
 unfoldable pub operate : Operator → ℕ → ℕ → ℕ
 operate o a b = unionAll (pairs (grid o) (members a) (members b))
+
+-- the five operators, in the order of their grids
+unfoldable pub operators : List Operator
+operators = Add ∷ Sub ∷ Mul ∷ Div ∷ Pow ∷ []
+
+-- the operators on sets as "one constant table of 320 sign sets": by operator, left set and right set
+unfoldable pub setTable : List (List (List ℕ))
+setTable = map (λ o. tabulate 8 (λ a. tabulate 8 (operate o a))) operators

@@ -22,12 +22,12 @@ fn number_signs(z: i32) -> u8
 // The sign set of arithmetic entry `n`, a part of entry `bound`.
 pub(crate) fn signs(
     entries: &[u16; 4096],
-    grids: &[[[u8; 3]; 3]; 5],
+    table: &[[[u8; 8]; 8]; 5],
     rho: &[u8; 32],
     bound: u16,
     n: u16,
 ) -> u8
-    requires { ⌜ now grids ≡ Grid.grids ⌝ }
+    requires { ⌜ now table ≡ Grid.setTable ⌝ }
     ensures { λ r. ⌜ r ≡ spec.signsIn (now (rho .entry)) (arithBelow (arithTrees (decodedEntry (now (entries .entry))) bound) n) ⌝ }
 {
     let node = decoding::arith_node(entries, bound, n);
@@ -35,13 +35,13 @@ pub(crate) fn signs(
         ArithNode::Number(z) => number_signs(z),
         ArithNode::Variable(x) => set_of(rho, x),
         ArithNode::Element(x, i) => {
-            let index = signs(entries, grids, rho, n, i);
+            let index = signs(entries, table, rho, n, i);
             element(rho, x, index)
         }
         ArithNode::Operator(o, p, q) => {
-            let a = signs(entries, grids, rho, n, p);
-            let b = signs(entries, grids, rho, n, q);
-            grid::operate_by(grids, o, a, b)
+            let a = signs(entries, table, rho, n, p);
+            let b = signs(entries, table, rho, n, q);
+            grid::operate_by(table, o, a, b)
         }
     }
 }

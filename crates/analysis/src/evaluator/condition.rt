@@ -27,49 +27,49 @@ fn certain() -> Truths
 // A comparison of two arithmetic entries.
 fn comparison(
     entries: &[u16; 4096],
-    grids: &[[[u8; 3]; 3]; 5],
+    table: &[[[u8; 8]; 8]; 5],
     rho: &[u8; 32],
     o: Comparison,
     p: u16,
     q: u16,
 ) -> Truths
-    requires { ⌜ now grids ≡ Grid.grids ⌝ }
+    requires { ⌜ now table ≡ Grid.setTable ⌝ }
     ensures { λ r. ⌜ r ≡ answer.compareSets o
         (spec.signsIn (now (rho .entry)) (arithAt (decodedEntry (now (entries .entry))) p))
         (spec.signsIn (now (rho .entry)) (arithAt (decodedEntry (now (entries .entry))) q)) ⌝ }
 {
-    let a = arithmetic::signs(entries, grids, rho, 512, p);
-    let b = arithmetic::signs(entries, grids, rho, 512, q);
+    let a = arithmetic::signs(entries, table, rho, 512, p);
+    let b = arithmetic::signs(entries, table, rho, 512, q);
     truth::compare_sets(o, a, b)
 }
 
 // The truth answers of boolean entry `n`, a part of entry `bound`.
 pub(crate) fn truths(
     entries: &[u16; 4096],
-    grids: &[[[u8; 3]; 3]; 5],
+    table: &[[[u8; 8]; 8]; 5],
     rho: &[u8; 32],
     bound: u16,
     n: u16,
 ) -> Truths
-    requires { ⌜ now grids ≡ Grid.grids ⌝ }
+    requires { ⌜ now table ≡ Grid.setTable ⌝ }
     ensures { λ r. ⌜ r ≡ spec.truthsIn (now (rho .entry)) (booleanBelow (booleanTrees (decodedEntry (now (entries .entry))) bound) n) ⌝ }
 {
     let node = decoding::boolean_node(entries, bound, n);
     match node {
         BooleanNode::True => certain(),
-        BooleanNode::Comparison(o, p, q) => comparison(entries, grids, rho, o, p, q),
+        BooleanNode::Comparison(o, p, q) => comparison(entries, table, rho, o, p, q),
         BooleanNode::Both(p, q) => {
-            let a = truths(entries, grids, rho, n, p);
-            let b = truths(entries, grids, rho, n, q);
+            let a = truths(entries, table, rho, n, p);
+            let b = truths(entries, table, rho, n, q);
             truth::conjoined(a, b)
         }
         BooleanNode::AndThen(p, q) => {
-            let a = truths(entries, grids, rho, n, p);
-            let b = truths(entries, grids, rho, n, q);
+            let a = truths(entries, table, rho, n, p);
+            let b = truths(entries, table, rho, n, q);
             truth::and_then(a, b)
         }
         BooleanNode::Not(p) => {
-            let a = truths(entries, grids, rho, n, p);
+            let a = truths(entries, table, rho, n, p);
             truth::negated(a)
         }
     }
@@ -78,23 +78,23 @@ pub(crate) fn truths(
 // The truth answers of the condition for leaving a do whose operand is command entry `n`, a part of entry `bound`.
 pub(crate) fn exit_truths(
     entries: &[u16; 4096],
-    grids: &[[[u8; 3]; 3]; 5],
+    table: &[[[u8; 8]; 8]; 5],
     rho: &[u8; 32],
     bound: u16,
     n: u16,
 ) -> Truths
-    requires { ⌜ now grids ≡ Grid.grids ⌝ }
+    requires { ⌜ now table ≡ Grid.setTable ⌝ }
     ensures { λ r. ⌜ r ≡ spec.truthsIn (now (rho .entry)) (done (commandBelow (commandTrees (decodedEntry (now (entries .entry))) bound) n)) ⌝ }
 {
     let node = decoding::command_node(entries, bound, n);
     match node {
         CommandNode::Guarded(g, _) => {
-            let a = truths(entries, grids, rho, 256, g);
+            let a = truths(entries, table, rho, 256, g);
             truth::negated(a)
         }
         CommandNode::Choice(p, q) => {
-            let a = exit_truths(entries, grids, rho, n, p);
-            let b = exit_truths(entries, grids, rho, n, q);
+            let a = exit_truths(entries, table, rho, n, p);
+            let b = exit_truths(entries, table, rho, n, q);
             truth::conjoined(a, b)
         }
         _ => certain(),

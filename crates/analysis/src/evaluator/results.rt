@@ -122,48 +122,48 @@ fn unchanged(rho: &[u8; 32], holds: bool) -> Changes
 // x := a.
 fn assigned(
     entries: &[u16; 4096],
-    grids: &[[[u8; 3]; 3]; 5],
+    table: &[[[u8; 8]; 8]; 5],
     rho: &[u8; 32],
     x: u16,
     a: u16,
 ) -> Changes
-    requires { ⌜ now grids ≡ Grid.grids ⌝ }
+    requires { ⌜ now table ≡ Grid.setTable ⌝ }
     ensures { λ r. ⌜ ResultsIn (now (rho .entry)) (action.assigns x (arithAt (decodedEntry (now (entries .entry))) a)) r ⌝ }
 {
-    let values = arithmetic::signs(entries, grids, rho, 512, a);
+    let values = arithmetic::signs(entries, table, rho, 512, a);
     assigned_sets(x, values)
 }
 
 // A[i] := a.
 fn element_stored(
     entries: &[u16; 4096],
-    grids: &[[[u8; 3]; 3]; 5],
+    table: &[[[u8; 8]; 8]; 5],
     rho: &[u8; 32],
     x: u16,
     i: u16,
     a: u16,
 ) -> Changes
-    requires { ⌜ now grids ≡ Grid.grids ⌝ }
+    requires { ⌜ now table ≡ Grid.setTable ⌝ }
     ensures { λ r. ⌜ ResultsIn (now (rho .entry))
         (action.stores x (arithAt (decodedEntry (now (entries .entry))) i) (arithAt (decodedEntry (now (entries .entry))) a)) r ⌝ }
 {
-    let index = arithmetic::signs(entries, grids, rho, 512, i);
+    let index = arithmetic::signs(entries, table, rho, 512, i);
     if may_index(index) {
-        let values = arithmetic::signs(entries, grids, rho, 512, a);
+        let values = arithmetic::signs(entries, table, rho, 512, a);
         return stored_sets(x, set_of(rho, x), values);
     }
     unchanged(rho, false)
 }
 
 // Command entry `n`.
-fn performed(entries: &[u16; 4096], grids: &[[[u8; 3]; 3]; 5], rho: &[u8; 32], n: u16) -> Changes
-    requires { ⌜ now grids ≡ Grid.grids ⌝ }
+fn performed(entries: &[u16; 4096], table: &[[[u8; 8]; 8]; 5], rho: &[u8; 32], n: u16) -> Changes
+    requires { ⌜ now table ≡ Grid.setTable ⌝ }
     ensures { λ r. ⌜ ResultsIn (now (rho .entry)) (action.performing (commandAt (decodedEntry (now (entries .entry))) n)) r ⌝ }
 {
     let node = decoding::command_node(entries, 256, n);
     match node {
-        CommandNode::Assign(x, a) => assigned(entries, grids, rho, x, a),
-        CommandNode::Store(x, i, a) => element_stored(entries, grids, rho, x, i, a),
+        CommandNode::Assign(x, a) => assigned(entries, table, rho, x, a),
+        CommandNode::Store(x, i, a) => element_stored(entries, table, rho, x, i, a),
         _ => unchanged(rho, true),
     }
 }
@@ -171,22 +171,22 @@ fn performed(entries: &[u16; 4096], grids: &[[[u8; 3]; 3]; 5], rho: &[u8; 32], n
 // The results of the action of a kind and an entry.
 pub(crate) fn changes(
     entries: &[u16; 4096],
-    grids: &[[[u8; 3]; 3]; 5],
+    table: &[[[u8; 8]; 8]; 5],
     rho: &[u8; 32],
     kind: u8,
     n: u16,
 ) -> Changes
-    requires { ⌜ now grids ≡ Grid.grids ⌝ }
+    requires { ⌜ now table ≡ Grid.setTable ⌝ }
     ensures { λ r. ⌜ ResultsIn (now (rho .entry)) (action.meaning (actionOf (decodedEntry (now (entries .entry))) kind n)) r ⌝ }
 {
     match kind {
-        1 => performed(entries, grids, rho, n),
+        1 => performed(entries, table, rho, n),
         2 => {
-            let t = condition::truths(entries, grids, rho, 256, n);
+            let t = condition::truths(entries, table, rho, 256, n);
             unchanged(rho, t.holds)
         }
         3 => {
-            let t = condition::exit_truths(entries, grids, rho, 256, n);
+            let t = condition::exit_truths(entries, table, rho, 256, n);
             unchanged(rho, t.holds)
         }
         _ => unchanged(rho, true),

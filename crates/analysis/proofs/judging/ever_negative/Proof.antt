@@ -10,10 +10,10 @@ use Rattle.analysis.proofs.judging.ever_negative.Statement.{statement}
 use Rattle.analysis.proofs.judging.ever_negative.Tie as tie
 
 abbrev Inv-loop : tie.InvT-loop
-Inv-loop entries grids edges edge-count widest₀ e₀ e = (e ≤ edge-count) × ((k : ℕ) → k < e → NeverNegative edges entries k)
+Inv-loop entries table edges edge-count widest₀ e₀ e = (e ≤ edge-count) × ((k : ℕ) → k < e → NeverNegative edges entries k)
 
 abbrev μ-loop : tie.MeasureT-loop
-μ-loop entries grids edges edge-count widest₀ e₀ e = edge-count - e
+μ-loop entries table edges edge-count widest₀ e₀ e = edge-count - e
 
 loop-holds : tie.Need-loop-holds Inv-loop μ-loop
 loop-holds c = (search needs, λ k h. absurd (omega arith))

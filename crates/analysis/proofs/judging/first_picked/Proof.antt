@@ -10,11 +10,11 @@ use Rattle.analysis.proofs.judging.first_picked.Statement.{statement}
 use Rattle.analysis.proofs.judging.first_picked.Tie as tie
 
 abbrev Inv-loop : tie.InvT-loop
-Inv-loop query entries grids edges links edge-count factors heads next solution names rho node e₀ e =
+Inv-loop query entries table edges links edge-count factors heads next solution names rho node e₀ e =
     node < 129 → Followed edges edge-count node (Unpicked query edges entries edge-count names solution factors heads next rho) e
 
 abbrev μ-loop : tie.MeasureT-loop
-μ-loop query entries grids edges links edge-count factors heads next solution names rho node e₀ e = edge-count - e
+μ-loop query entries table edges links edge-count factors heads next solution names rho node e₀ e = edge-count - e
 
 loop-holds : tie.Need-loop-holds Inv-loop μ-loop
 loop-holds c h = rw (c .first-edge .ensures) (first-followed (c .before .before .before .pre .1 .1) _ _ h)

@@ -11,11 +11,11 @@ use Rattle.analysis.proofs.judging.first_spot.Statement.{statement}
 use Rattle.analysis.proofs.judging.first_spot.Tie as tie
 
 abbrev Inv-loop : tie.InvT-loop
-Inv-loop query entries grids edges links edge-count factors heads next solution names records k₀ k =
+Inv-loop query entries table edges links edge-count factors heads next solution names records k₀ k =
     (k ≤ records) × ((s : List ℕ) (x : Searched s edges entries edge-count names records solution factors heads next) → NowhereTo x query k)
 
 abbrev μ-loop : tie.MeasureT-loop
-μ-loop query entries grids edges links edge-count factors heads next solution names records k₀ k = records - k
+μ-loop query entries table edges links edge-count factors heads next solution names records k₀ k = records - k
 
 loop-holds : tie.Need-loop-holds Inv-loop μ-loop
 loop-holds c = (search needs, λ s x. nowhere-none x _)

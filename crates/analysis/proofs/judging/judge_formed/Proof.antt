@@ -32,7 +32,7 @@ results-indexed-requires c κs =
     let i = c .before .before .before .before .before .before .before .before .before .before .before .before .before in
     let s = i .before .before .before .before .before .before .before .before .before .before .before .before .before in (
       record { few = s .pre .0 .named .few; indexed = i .index-all .ensures },
-      (i .before .before .before .before .before .before .before .grids .ensures, followable (s .pre .0 .named .drawn) _ (i .before .before .before .before .before .before .links .ensures)),
+      (i .before .before .before .before .before .before .before .set-table .ensures, followable (s .pre .0 .named .drawn) _ (i .before .before .before .before .before .before .links .ensures)),
     )
 
 returns : tie.Need-returns

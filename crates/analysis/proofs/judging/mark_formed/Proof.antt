@@ -23,7 +23,7 @@ mark-indexed-requires : tie.Need-mark-indexed-requires
 mark-indexed-requires c κs =
     let i = c .before .before .before .before .before .before in
     let s = i .before .before .before .before .before .before .before .before .before .before .before .before in
-    (record { few = s .pre .named .few; indexed = i .index-all .ensures }, (i .before .before .before .before .before .before .before .grids .ensures, followable (s .pre .named .drawn) _ (i .before .before .before .before .before .before .links .ensures)))
+    (record { few = s .pre .named .few; indexed = i .index-all .ensures }, (i .before .before .before .before .before .before .before .set-table .ensures, followable (s .pre .named .drawn) _ (i .before .before .before .before .before .before .links .ensures)))
 
 returns : tie.Need-returns
 returns c = c .mark-indexed .ensures _ (sought (c .before .before .before .before .before .before .before))

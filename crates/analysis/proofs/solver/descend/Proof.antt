@@ -15,13 +15,13 @@ use Rattle.analysis.proofs.solver.descend.Statement.{statement}
 use Rattle.analysis.proofs.solver.descend.Tie as tie
 
 abbrev Inv-loop : tie.InvT-loop
-Inv-loop entries grids edges links edge-count factors heads₀ next₀ buffer₀ room names found₀ k₀ heads next buffer found k =
+Inv-loop entries table edges links edge-count factors heads₀ next₀ buffer₀ room names found₀ k₀ heads next buffer found k =
     Extended factors (2 + names) room buffer₀ found₀ buffer heads next found
     × ((s : List ℕ) → Decoded s edges entries edge-count names
     → descend room (file.sizes s) (graph s) room 0 (foundIn (2 + names) buffer₀ found₀) ≡ descend (room - k) (file.sizes s) (graph s) room k (foundIn (2 + names) buffer found))
 
 abbrev μ-loop : tie.MeasureT-loop
-μ-loop entries grids edges links edge-count factors heads₀ next₀ buffer₀ room names found₀ k₀ heads next buffer found k = room - k
+μ-loop entries table edges links edge-count factors heads₀ next₀ buffer₀ room names found₀ k₀ heads next buffer found k = room - k
 
 loop-holds : tie.Need-loop-holds Inv-loop μ-loop
 loop-holds c = (extended-none _ _ _ _ _ _ _ (c .before .before .pre .0), λ s x. descended-start _ _ _ _)

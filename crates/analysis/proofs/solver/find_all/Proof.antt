@@ -11,7 +11,7 @@ descend-requires : tie.Need-descend-requires
 descend-requires c κs =
     let o = c .before .before .before .before .before .before .before in
     let g = o .before .before .before .before .before .before in
-    (o .offer-initial .ensures .0 .growing, (g .grids .ensures, g .before .before .before .before .pre .0))
+    (o .offer-initial .ensures .0 .growing, (g .set-table .ensures, g .before .before .before .before .pre .0))
 
 returns : tie.Need-returns
 returns c =

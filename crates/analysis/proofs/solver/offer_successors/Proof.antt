@@ -17,14 +17,14 @@ use Rattle.analysis.proofs.solver.offer_successors.Statement.{statement
 use Rattle.analysis.proofs.solver.offer_successors.Tie as tie
 
 abbrev Inv-loop : tie.InvT-loop
-Inv-loop entries grids edges links edge-count factors heads₀ next₀ buffer₀ room names rho node found₀ e₀ heads next buffer found e =
+Inv-loop entries table edges links edge-count factors heads₀ next₀ buffer₀ room names rho node found₀ e₀ heads next buffer found e =
     (e < edge-count → sourceIn edges e ≡ node)
     × Extended factors (2 + names) room buffer₀ found₀ buffer heads next found
     × ((s ρ : List ℕ) → Decoded s edges entries edge-count names → ReadInto ρ rho names
     → foundIn (2 + names) buffer found ≡ along (offerResults (file.sizes s) (graph s) room ρ) (graph s) node (min e edge-count) (foundIn (2 + names) buffer₀ found₀))
 
 abbrev μ-loop : tie.MeasureT-loop
-μ-loop entries grids edges links edge-count factors heads₀ next₀ buffer₀ room names rho node found₀ e₀ heads next buffer found e = edge-count - e
+μ-loop entries table edges links edge-count factors heads₀ next₀ buffer₀ room names rho node found₀ e₀ heads next buffer found e = edge-count - e
 
 returns : tie.Need-returns Inv-loop μ-loop
 returns c =

@@ -8,7 +8,7 @@ use borrow.Fn.PlainCycle.{Measures, is, falls, and}
 use lib.IntN.{ℤ}
 use mir.Syntax.{w32}
 use mir.ValLaws.{toZ-ofZ}
-use Rattle.signs.specs.Grid.{grids}
+use Rattle.signs.specs.Grid.{setTable}
 use Rattle.signs.specs.Sign.{single, signOf}
 use Rattle.program.specs.Node.{arithTree}
 use Rattle.program.specs.declared.ArithNode.{ArithNode}
@@ -40,7 +40,7 @@ claims t =
     (arith-node-reads.Asked, arith-node-reads.Learnt, number-signs-reads.Asked, number-signs-reads.Learnt, set-of-reads.Asked, set-of-reads.Learnt, signs-below t, reads.Post, element-reads.Asked, element-reads.Learnt, operate-by-reads.Asked, operate-by-reads.Learnt)
 
 -- a part in the same table may be asked about
-lower : (t : ℕ) (c : lts.After-arith-node (claims t) (signs-at t) reads.Post) {k : ArithNode} → c .arith-node .result ≡ k → ArithParts k → (c .before .args .n < t) × (c .before .args .grids .now ≡ grids)
+lower : (t : ℕ) (c : lts.After-arith-node (claims t) (signs-at t) reads.Post) {k : ArithNode} → c .arith-node .result ≡ k → ArithParts k → (c .before .args .n < t) × (c .before .args .table .now ≡ setTable)
 lower t c told p = (omega (arith, arith-lower _ _ _ (c .arith-node .ensures) told p, c .before .pre .0), c .before .pre .1)
 
 signs-requires : (t : ℕ) → lts.Need-signs-requires (claims t) (signs-at t) reads.Post

@@ -5,7 +5,7 @@ use native.Mathlib.Omega.{arith}
 use borrow.Author.Needs.{needs}
 use borrow.Fn.Kinds.{In}
 use borrow.Fn.PlainCycle.{Measures, is, falls, and}
-use Rattle.signs.specs.Grid.{grids}
+use Rattle.signs.specs.Grid.{setTable}
 use Rattle.program.specs.Graph.{done}
 use Rattle.program.specs.Node.{commandTree}
 use Rattle.program.specs.declared.CommandNode.{CommandNode}
@@ -38,7 +38,7 @@ claims t =
     (command-node-reads.Asked, command-node-reads.Learnt, truths-reads.Asked, truths-reads.Learnt, negated-reads.Asked, negated-reads.Learnt, exit-truths-below t, reads.Post, conjoined-reads.Asked, conjoined-reads.Learnt, certain-reads.Asked, certain-reads.Learnt)
 
 -- a part in the same table may be asked about
-lower : (t : ℕ) (c : lts.After-command-node (claims t) (exit-truths-at t) reads.Post) {k : CommandNode} → c .command-node .result ≡ k → CommandParts k → (c .before .args .n < t) × (c .before .args .grids .now ≡ grids)
+lower : (t : ℕ) (c : lts.After-command-node (claims t) (exit-truths-at t) reads.Post) {k : CommandNode} → c .command-node .result ≡ k → CommandParts k → (c .before .args .n < t) × (c .before .args .table .now ≡ setTable)
 lower t c told p = (omega (arith, command-lower _ _ _ (c .command-node .ensures) told p, c .before .pre .0), c .before .pre .1)
 
 truths-requires : (t : ℕ) → lts.Need-truths-requires (claims t) (exit-truths-at t) reads.Post

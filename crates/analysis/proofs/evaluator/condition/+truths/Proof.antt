@@ -5,7 +5,7 @@ use native.Mathlib.Omega.{arith}
 use borrow.Author.Needs.{needs}
 use borrow.Fn.Kinds.{In}
 use borrow.Fn.PlainCycle.{Measures, is, falls, and}
-use Rattle.signs.specs.Grid.{grids}
+use Rattle.signs.specs.Grid.{setTable}
 use Rattle.program.specs.Node.{booleanTree}
 use Rattle.program.specs.declared.BooleanNode.{BooleanNode}
 use Rattle.program.proofs.Forms.{BooleanParts}
@@ -37,7 +37,7 @@ claims t =
     (boolean-node-reads.Asked, boolean-node-reads.Learnt, certain-reads.Asked, certain-reads.Learnt, comparison-reads.Asked, comparison-reads.Learnt, truths-below t, reads.Post, conjoined-reads.Asked, conjoined-reads.Learnt, and-then-reads.Asked, and-then-reads.Learnt, negated-reads.Asked, negated-reads.Learnt)
 
 -- a part in the same table may be asked about
-lower : (t : ℕ) (c : lts.After-boolean-node (claims t) (truths-at t) reads.Post) {k : BooleanNode} → c .boolean-node .result ≡ k → BooleanParts k → (c .before .args .n < t) × (c .before .args .grids .now ≡ grids)
+lower : (t : ℕ) (c : lts.After-boolean-node (claims t) (truths-at t) reads.Post) {k : BooleanNode} → c .boolean-node .result ≡ k → BooleanParts k → (c .before .args .n < t) × (c .before .args .table .now ≡ setTable)
 lower t c told p = (omega (arith, boolean-lower _ _ _ (c .boolean-node .ensures) told p, c .before .pre .0), c .before .pre .1)
 
 comparison-requires : (t : ℕ) → lts.Need-comparison-requires (claims t) (truths-at t) reads.Post

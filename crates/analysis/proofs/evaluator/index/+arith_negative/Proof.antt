@@ -5,7 +5,7 @@ use native.Mathlib.Omega.{arith}
 use borrow.Author.Needs.{needs}
 use borrow.Fn.Kinds.{In}
 use borrow.Fn.PlainCycle.{Measures, is, falls, and}
-use Rattle.signs.specs.Grid.{grids}
+use Rattle.signs.specs.Grid.{setTable}
 use Rattle.signs.specs.Lists.{anyOf}
 use Rattle.program.specs.Node.{arithTree}
 use Rattle.program.specs.declared.ArithNode.{ArithNode}
@@ -35,7 +35,7 @@ claims t =
     (arith-node-reads.Asked, arith-node-reads.Learnt, index-negative-reads.Asked, index-negative-reads.Learnt, arith-negative-below t, reads.Post)
 
 -- a part in the same table may be asked about
-lower : (t : ℕ) (c : lts.After-arith-node (claims t) (arith-negative-at t) reads.Post) {k : ArithNode} → c .arith-node .result ≡ k → ArithParts k → (c .before .args .n < t) × (c .before .args .grids .now ≡ grids)
+lower : (t : ℕ) (c : lts.After-arith-node (claims t) (arith-negative-at t) reads.Post) {k : ArithNode} → c .arith-node .result ≡ k → ArithParts k → (c .before .args .n < t) × (c .before .args .table .now ≡ setTable)
 lower t c told p = (omega (arith, arith-lower _ _ _ (c .arith-node .ensures) told p, c .before .pre .0), c .before .pre .1)
 
 index-negative-requires : (t : ℕ) → lts.Need-index-negative-requires (claims t) (arith-negative-at t) reads.Post

@@ -5,7 +5,7 @@ use native.Mathlib.Omega.{arith}
 use borrow.Author.Needs.{needs}
 use borrow.Fn.Kinds.{In}
 use borrow.Fn.PlainCycle.{Measures, is, falls, and}
-use Rattle.signs.specs.Grid.{grids}
+use Rattle.signs.specs.Grid.{setTable}
 use Rattle.signs.specs.Lists.{anyOf}
 use Rattle.program.specs.Node.{booleanTree}
 use Rattle.program.specs.declared.BooleanNode.{BooleanNode}
@@ -35,7 +35,7 @@ claims t =
     (boolean-node-reads.Asked, boolean-node-reads.Learnt, either-negative-reads.Asked, either-negative-reads.Learnt, boolean-negative-below t, reads.Post)
 
 -- a part in the same table may be asked about
-lower : (t : ℕ) (c : lts.After-boolean-node (claims t) (boolean-negative-at t) reads.Post) {k : BooleanNode} → c .boolean-node .result ≡ k → BooleanParts k → (c .before .args .n < t) × (c .before .args .grids .now ≡ grids)
+lower : (t : ℕ) (c : lts.After-boolean-node (claims t) (boolean-negative-at t) reads.Post) {k : BooleanNode} → c .boolean-node .result ≡ k → BooleanParts k → (c .before .args .n < t) × (c .before .args .table .now ≡ setTable)
 lower t c told p = (omega (arith, boolean-lower _ _ _ (c .boolean-node .ensures) told p, c .before .pre .0), c .before .pre .1)
 
 either-negative-requires : (t : ℕ) → lts.Need-either-negative-requires (claims t) (boolean-negative-at t) reads.Post

@@ -5,7 +5,7 @@ use native.Mathlib.Omega.{arith}
 use borrow.Author.Needs.{needs}
 use borrow.Fn.Kinds.{In}
 use borrow.Fn.PlainCycle.{Measures, is, falls, and}
-use Rattle.signs.specs.Grid.{grids}
+use Rattle.signs.specs.Grid.{setTable}
 use Rattle.signs.specs.Lists.{anyOf}
 use Rattle.program.specs.Node.{commandTree}
 use Rattle.program.specs.declared.CommandNode.{CommandNode}
@@ -37,7 +37,7 @@ claims t =
     (command-node-reads.Asked, command-node-reads.Learnt, boolean-negative-reads.Asked, boolean-negative-reads.Learnt, exit-negative-below t, reads.Post)
 
 -- a part in the same table may be asked about
-lower : (t : ℕ) (c : lts.After-command-node (claims t) (exit-negative-at t) reads.Post) {k : CommandNode} → c .command-node .result ≡ k → CommandParts k → (c .before .args .n < t) × (c .before .args .grids .now ≡ grids)
+lower : (t : ℕ) (c : lts.After-command-node (claims t) (exit-negative-at t) reads.Post) {k : CommandNode} → c .command-node .result ≡ k → CommandParts k → (c .before .args .n < t) × (c .before .args .table .now ≡ setTable)
 lower t c told p = (omega (arith, command-lower _ _ _ (c .command-node .ensures) told p, c .before .pre .0), c .before .pre .1)
 
 boolean-negative-requires : (t : ℕ) → lts.Need-boolean-negative-requires (claims t) (exit-negative-at t) reads.Post
