@@ -49,9 +49,10 @@ pub fn endless() -> Vec<Lesson> {
 pub struct Walk {
     pub title: &'static str,
     pub file: Vec<u8>,
-    /// Names of any sign, and names after them that are plus.
+    /// Names of any sign, names after them that are plus, and arrays after these of any set.
     names: usize,
     plus: usize,
+    arrays: usize,
 }
 
 const LETTERS: &str = "abcdefghijklmnopqrstuvwxyzABCDEF";
@@ -64,20 +65,28 @@ fn walk(title: &'static str, count: usize, factor: &str) -> Walk {
     let letters: Vec<char> = LETTERS.chars().take(count).collect();
     let steps: Vec<String> = (0..15).map(|k| letters[k % count]).map(|x| format!("{x} := {x} * {factor}")).collect();
     let script = script_of(&names(count), &steps.join("; "));
-    Walk { title, file: script.bytes(), names: count, plus: 0 }
+    Walk { title, file: script.bytes(), names: count, plus: 0, arrays: 0 }
 }
 
 /// The same with an element in one step, whose index is a variable: plus in all records, but it might not be.
 fn indexed_walk() -> Walk {
     let steps: Vec<String> = "abcdef".chars().cycle().take(14).map(|x| format!("{x} := {x} * 1")).collect();
     let file = file_of("a b c d e f g h A4", &format!("h := A[g]; {}", steps.join("; ")));
-    Walk { title: "9 names, an index", file, names: 6, plus: 3 }
+    Walk { title: "9 names, an index", file, names: 6, plus: 3, arrays: 0 }
 }
 
-/// Of 8 names with short actions, of 9 with an index, of 32 names, and of 32 names with actions of 31 entries each, 465 in all.
+/// The same with nine elements and eight operators in each step, on sets of up to three signs. A power of 0 is plus, whatever the set.
+fn array_walk() -> Walk {
+    let value = "A[0] * B[0] + C[0] * D[0] - A[0] * C[0] + B[0] * D[0] - A[0]";
+    let steps: Vec<String> = "abcdefgh".chars().cycle().take(15).map(|x| format!("{x} := {x} * ({value}) ^ 0")).collect();
+    let file = file_of("a b c d e f g h A4 B4 C4 D4", &steps.join("; "));
+    Walk { title: "8 names, 4 arrays, 450 entries", file, names: 8, plus: 0, arrays: 4 }
+}
+
+/// Of 8 names with short actions, of 9 with an index, of 32 names, of 32 names with actions of 31 entries each, 465 in all, and of 12 names, four of them arrays, with actions of 30.
 pub fn walks() -> Vec<Walk> {
     let product = vec!["1"; 15].join(" * ");
-    vec![walk("8 names", 8, "1"), indexed_walk(), walk("32 names", 32, "1"), walk("32 names, 465 entries", 32, &format!("({product})"))]
+    vec![walk("8 names", 8, "1"), indexed_walk(), walk("32 names", 32, "1"), walk("32 names, 465 entries", 32, &format!("({product})")), array_walk()]
 }
 
 impl Walk {
@@ -87,8 +96,9 @@ impl Walk {
         let mut seen = std::collections::HashSet::new();
         let mut list = Vec::new();
         while seen.len() < count {
-            let signs = (0..self.names).map(|_| 1 << random.below(3));
-            let record: Vec<u8> = signs.chain(std::iter::repeat_n(4, self.plus)).collect();
+            let mut record: Vec<u8> = (0..self.names).map(|_| 1 << random.below(3)).collect();
+            record.extend(std::iter::repeat_n(4, self.plus));
+            record.extend((0..self.arrays).map(|_| 1 + random.below(7) as u8));
             if seen.insert(record.clone()) {
                 list.extend(record);
             }
@@ -97,6 +107,6 @@ impl Walk {
     }
 
     pub fn width(&self) -> usize {
-        self.names + self.plus + 2
+        self.names + self.plus + self.arrays + 2
     }
 }
