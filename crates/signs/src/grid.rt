@@ -13,7 +13,7 @@ const GRIDS: [[[u8; 3]; 3]; 5] = [
     [[0, 4, 5], [0, 4, 2], [0, 4, 4]],
 ];
 
-// The operators on sets, each answer the union of the grid over the pairs of members; rows 0 to 7 are the left set, columns the right.
+// The operators + - * / ^ on sets: each number is the union of the grid over the pairs of members; rows 0 to 7 are the left set, columns the right.
 const SET_TABLE: [[[u8; 8]; 8]; 5] = [
     [
         [0, 0, 0, 0, 0, 0, 0, 0],
