@@ -7,6 +7,7 @@ use native.Mathlib.Nat.{mul-le-mul, le-trans, mul-le-mul-left}
 use native.Mathlib.Omega.{arith}
 use borrow.Author.Tests.{leb-true}
 use lib.IntN.{ℤ, pos, negℤ, natAbs, _+ℤ_, _*ℤ_}
+use lib.Signed.{leZ}
 use lib.ListN.{length, getD, length-map, List·getD-map}
 use lib.Seq.{take-length}
 use mir.Syntax.{w64}
@@ -17,15 +18,17 @@ use Rattle.program.proofs.Laws.{ask-fit, then-first, then-second, each-fit}
 use Rattle.program.proofs.Tests.{two, three}
 use Rattle.program.specs.declared.Validity.the-variants.{Fit}
 use Rattle.figures.specs.Bounds.{Bounded}
-use Rattle.figures.specs.Figures.{inRange, markValidity, listValidity}
+use Rattle.figures.specs.Figures.{inRange, InRange, markValidity, listValidity}
 use Rattle.figures.specs.Totals.{longest, highest, highestSquare, square, totals, joined, spread, countable, possible}
 use Rattle.figures.specs.declared.Totals.{Totals}
-use Rattle.figures.proofs.Integers.{between, upward}
+use Rattle.figures.proofs.Integers.{between, not-beyond, upward, not-below-zero, within-each}
+use Rattle.figures.proofs.Squares.{list-squares, list-spread, joined-spread}
 use Rattle.figures.proofs.Sums.{AtMost, sum-most}
 
-pub in-range : (x : ℤ) → inRange x ≡ true → natAbs x ≤ highest
+-- marks in the range are small
+pub small-marks : (marks : List ℤ) → InRange marks → AtMost highest marks
 unfolding inRange
-in-range x e = let ends = two _ _ e in between highest x (ends .0) (ends .1)
+small-marks marks within k h = let ends = two _ _ (within k h) in between highest (getD marks k (pos 0)) (ends .0) (ends .1)
 
 pub record Counted (n : ℕ) : Type 0 where
   pub some : 1 ≤ n
@@ -41,9 +44,12 @@ module _ (marks : List ℤ) (fit : listValidity marks ≡ Fit) where
   unfolding listValidity
   fit-count = counted (length marks) (ask-fit _ 23 0 (then-first _ _ fit))
 
-  pub fit-marks : AtMost highest marks
+  pub fit-in-range : InRange marks
   unfolding listValidity markValidity
-  fit-marks k h = in-range (getD marks k (pos 0)) (ask-fit _ 24 k (each-fit (length marks) (markValidity marks) (then-second _ _ fit) k h))
+  fit-in-range k h = ask-fit _ 24 k (each-fit (length marks) (markValidity marks) (then-second _ _ fit) k h)
+
+  pub fit-marks : AtMost highest marks
+  fit-marks = small-marks marks fit-in-range
 
 -- squares of small marks
 pub small-squares : (marks : List ℤ) → AtMost highest marks → AtMost highestSquare (map square marks)
@@ -51,6 +57,60 @@ small-squares marks most k h =
     let x = getD marks k (pos 0) in
     let below : k < length marks = omega (arith, length-map marks square) in
     rw (List·getD-map square marks k (pos 0), Signed.product x x) (mul-le-mul (most k below) (most k below))
+
+-- ---- Totals that a class can have, in magnitudes
+
+pub record Possible (t : Totals) : Type 0 where
+  pub low : natAbs (t .sum) ≤ highest * t .count
+  pub small : natAbs (t .squares) ≤ highestSquare * t .count
+  pub natural : leZ (pos 0) (t .squares) ≡ true
+  pub spread : leZ (pos 0) (spread t) ≡ true
+
+pub possible-told : (t : Totals) → possible t ≡ true → Possible t
+unfolding possible
+possible-told t e =
+    let last = two _ _ e in
+    let tests = four _ _ _ _ (last .0) in
+    record {
+      low = between _ (t .sum) (tests .0) (tests .1);
+      small = upward _ (t .squares) (tests .2) (tests .3);
+      natural = tests .2;
+      spread = last .1;
+    }
+  where
+    four : (a b c d : Bool) → (a && b && c && d) ≡ true → (a ≡ true) × (b ≡ true) × (c ≡ true) × (d ≡ true)
+    four a b c d h = let front = two (a && b && c) d h in let parts = three a b c (front .0) in (parts .0, parts .1, parts .2, front .1)
+
+pub possible-is : (t : Totals) → Possible t → possible t ≡ true
+unfolding possible
+possible-is t can =
+    let sums = not-beyond _ (t .sum) (can .low) in
+    rw (sums .0, sums .1, can .natural, not-beyond _ (t .squares) (can .small) .1, can .spread)
+
+-- those of a list of marks in the range, and those of two such classes joined
+pub list-possible : (marks : List ℤ) → InRange marks → Possible (totals marks)
+unfolding totals
+list-possible marks within =
+    let most = small-marks marks within in
+    let squared = sum-most highestSquare (map square marks) (small-squares marks most) (length (map square marks)) (omega arith) in
+    record {
+      low = rw (take-length marks) at (sum-most highest marks most (length marks) (omega arith));
+      small = rw (take-length (map square marks), length-map marks square) at squared;
+      natural = list-squares marks;
+      spread = list-spread marks;
+    }
+
+pub joined-possible : (a b : Totals) → Possible a → Possible b → Possible (joined a b)
+unfolding joined
+joined-possible a b x y =
+    record {
+      low = within-each highest (a .count) (b .count) (a .sum) (b .sum) (x .low) (y .low);
+      small = within-each highestSquare (a .count) (b .count) (a .squares) (b .squares) (x .small) (y .small);
+      natural = not-below-zero (a .squares) (b .squares) (x .natural) (y .natural);
+      spread = joined-spread a b (x .natural) (y .natural) (x .spread) (y .spread);
+    }
+
+-- ---- Totals that 64 bits hold
 
 -- the two products of the spread, and the spread, of small totals
 module _ (t : Totals) (b : Bounded t) where
@@ -92,38 +152,19 @@ module _ (t : Totals) (b : Bounded t) where
 pub fit-bounded : (marks : List ℤ) → listValidity marks ≡ Fit → Bounded (totals marks)
 unfolding totals
 fit-bounded marks fit =
-    let most = fit-marks marks fit in
-    let squared = sum-most highestSquare (map square marks) (small-squares marks most) (length (map square marks)) (omega arith) in
-    record {
-      few = fit-count marks fit .few;
-      low = rw (take-length marks) at (sum-most highest marks most (length marks) (omega arith));
-      small = rw (take-length (map square marks), length-map marks square) at squared;
-    }
-
--- four of five tests
-four : (a b c d e : Bool) → (a && b && c && d && e) ≡ true → (a ≡ true) × (b ≡ true) × (c ≡ true) × (d ≡ true)
-four a b c d e h =
-    let front = two (a && b && c) d (two (a && b && c && d) e h .0) in
-    let parts = three a b c (front .0) in
-    (parts .0, parts .1, parts .2, front .1)
+    let can = list-possible marks (fit-in-range marks fit) in
+    record { few = fit-count marks fit .few; low = can .low; small = can .small }
 
 pub possible-bounded : (t : Totals) → t .count ≤ longest → possible t ≡ true → Bounded t
-unfolding possible
-possible-bounded t few e =
-    let tests = four _ _ _ _ _ e in
-    record {
-      few = few;
-      low = between _ (t .sum) (tests .0) (tests .1);
-      small = upward _ (t .squares) (tests .2) (tests .3);
-    }
+possible-bounded t few e = let can = possible-told t e in record { few = few; low = can .low; small = can .small }
 
 pub joined-bounded : (a b : Totals) → Bounded a → Bounded b → a .count + b .count ≤ longest → Bounded (joined a b)
 unfolding joined
 joined-bounded a b x y few =
     record {
       few = few;
-      low = omega (arith, Signed.sum (a .sum) (b .sum), x .low, y .low);
-      small = omega (arith, Signed.sum (a .squares) (b .squares), x .small, y .small);
+      low = within-each highest (a .count) (b .count) (a .sum) (b .sum) (x .low) (y .low);
+      small = within-each highestSquare (a .count) (b .count) (a .squares) (b .squares) (x .small) (y .small);
     }
 
 -- two joined, as the machine adds them

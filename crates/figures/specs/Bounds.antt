@@ -1,5 +1,5 @@
 -- Totals small enough for 64 bits: what the code knows of them before it multiplies.
-use Prim.Native.Nat.{ℕ, _*_, _≤_}
+use Prim.Native.Nat.{_*_, _≤_}
 use lib.IntN.{natAbs}
 use Rattle.figures.specs.Totals.{longest, highest, highestSquare}
 use Rattle.figures.specs.declared.Totals.{Totals}

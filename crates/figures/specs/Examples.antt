@@ -2,7 +2,6 @@
 use Prim.Native.Nat.{ℕ}
 use mathlib.Core.List.{List, [], _∷_, _++_}
 use lib.IntN.{ℤ, pos}
-use lib.ListN.{replicate}
 use Rattle.signs.specs.Case.{Case, _gives_, row, minus}
 use Rattle.figures.specs.Figures.{listFigures, joinFigures, figuresNumbers}
 use Rattle.figures.specs.Totals.{totals}

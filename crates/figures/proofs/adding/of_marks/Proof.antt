@@ -1,17 +1,16 @@
 -- `adding::of_marks`: both totals are those of the marks passed over; each mark is small, so that no sum leaves 64 bits.
-use Prim.Native.Nat.{ℕ, suc, _+_, _-_, _*_, _≤_, _<_}
-use mathlib.Core.Path.{_≡_, refl, sym, ap, _∙_}
-use mathlib.Core.List.{List, map}
+use Prim.Native.Nat.{_-_, _*_, _≤_, _<_}
+use mathlib.Core.Path.{_≡_, refl}
+use mathlib.Core.List.{map}
 use native.Mathlib.Numerals.{add-one}
 use native.Mathlib.Omega.{arith}
 use borrow.Author.Needs.{needs}
-use lib.IntN.{ℤ, pos, _+ℤ_, _*ℤ_}
+use lib.IntN.{pos, _*ℤ_}
 use lib.ListN.{length, take, getD, length-map, List·getD-map}
 use lib.Seq.{take-length}
 use mir.Syntax.{w32, w64}
-use mir.Val.{SFits, toZ, ofZ}
-use mir.ValLaws.{toZ-ofZ}
-use Rattle.signs.proofs.Signed.{wide, widens, wide-is, wide-fits, wide-result, product-fits}
+use mir.Val.{SFits, toZ}
+use Rattle.signs.proofs.Signed.{widens, wide-is, wide-fits, wide-result, product-fits}
 use Rattle.figures.specs.Totals.{highest, highestSquare, sum, square, totals}
 use Rattle.figures.proofs.Limits.{fit-count, fit-marks, small-squares}
 use Rattle.figures.proofs.Sums.{next-fits, next-read}

@@ -1,17 +1,16 @@
 -- `adding::possible`: the five tests are the definition's, and the first four bound the totals for the last.
 use Prim.Native.Nat.{_*_}
-use mathlib.Core.Path.{_≡_, ap, _∙_}
+use mathlib.Core.Path.{_≡_}
 use mathlib.Core.Bool.{Bool, not}
 use native.Mathlib.Omega.{arith}
 use borrow.Author.Needs.{needs}
-use lib.IntN.{ℤ, pos, negsuc, negℤ, _*ℤ_}
+use lib.IntN.{pos, negsuc, negℤ, _*ℤ_}
 use lib.Signed.{leZ, ltZ}
 use mir.Facts.{sfits-lit}
 use mir.Syntax.{w64}
 use mir.Val.{SFits, toZ, ofZ}
 use mir.ValLaws.{toZ-ofZ}
 use Rattle.signs.proofs.Signed.{fits, less, magnitude}
-use Rattle.figures.specs.Bounds.{Bounded}
 use Rattle.figures.specs.Totals.{possible, spread}
 use Rattle.figures.proofs.Integers.{not-below, between, upward}
 use Rattle.figures.proofs.Numbers.{natural}

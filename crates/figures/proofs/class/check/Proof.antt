@@ -6,16 +6,15 @@ use mathlib.Core.Bool.{true, false}
 use mathlib.Core.Path.{_≡_, refl, sym, ap, _∙_}
 use native.Mathlib.Numerals.{add-one}
 use native.Mathlib.Omega.{arith}
-use lib.IntN.{pos}
-use lib.ListN.{length, getD}
+use lib.ListN.{length}
 use mir.Syntax.{w32}
 use mir.ValLaws.{toZ-ofZ}
 use Rattle.program.proofs.Asking.{passed}
 use Rattle.program.proofs.Laws.{each-stops, each-goes-on}
 use Rattle.program.specs.Asking.{ask, askEach, thenAsk, isRefused}
 use Rattle.program.specs.FirstSuch.{firstOf}
-use Rattle.program.specs.declared.Validity.the-variants.{Fit, Refused}
-use Rattle.figures.specs.Figures.{inRange, markValidity, listValidity}
+use Rattle.program.specs.declared.Validity.the-variants.{Fit}
+use Rattle.figures.specs.Figures.{markValidity, listValidity}
 use Rattle.figures.specs.Totals.{countable}
 use Rattle.figures.proofs.class.check.Statement.{statement}
 use Rattle.figures.proofs.class.check.Tie as tie

@@ -1,5 +1,4 @@
 -- `class::countable`: the two tests are the definition's.
-use mathlib.Core.Path.{refl}
 use borrow.Author.Tests.{lt-leb, le-leb}
 use Rattle.figures.specs.Totals.{countable}
 use Rattle.figures.proofs.class.countable.Statement.{statement}

@@ -1,19 +1,17 @@
 -- `class::of_both`: the tests are those of the definition; what passes them is small, and so is the sum of two such.
-use Prim.Native.Nat.{_+_, _≤_}
-use mathlib.Core.Path.{_≡_, refl, sym, ap, subst, _∙_}
-use mathlib.Core.Bool.{Bool, true, false, _&&_}
+use Prim.Native.Nat.{_+_}
+use mathlib.Core.Path.{_≡_, sym, ap, subst, _∙_}
+use mathlib.Core.Bool.{true}
 use native.Mathlib.Omega.{arith}
 use borrow.Author.Needs.{needs}
 use borrow.Author.Tests.{not-true, not-false}
-use lib.IntN.{_+ℤ_}
 use mir.Syntax.{w64}
-use mir.Val.{toZ, ofZ}
 use mir.ValLaws.{toZ-ofZ}
 use Rattle.signs.proofs.Signed.{fits}
 use Rattle.program.specs.declared.Validity.the-variants.{Fit}
 use Rattle.figures.specs.Bounds.{Bounded}
 use Rattle.figures.specs.Figures.{figuresBy}
-use Rattle.figures.specs.Totals.{joined, countable, possible}
+use Rattle.figures.specs.Totals.{countable, possible}
 use Rattle.figures.specs.declared.Totals.{Totals}
 use Rattle.figures.proofs.Limits.{Counted, counted, possible-bounded, joined-bounded, sums-fit, squares-fit, joined-read}
 use Rattle.figures.proofs.Replies.{join-fit, join-refused}

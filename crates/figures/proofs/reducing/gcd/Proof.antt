@@ -1,7 +1,7 @@
 -- `reducing::gcd`: the loop keeps the greatest common divisor of its two numbers, and the second falls.
 use borrow.Author.Needs.{needs}
 use mathlib.Core.Path.{_≡_, refl, sym, ap, _∙_}
-use native.Mathlib.Nat.{mod-lt, pos-of-ne-zero}
+use native.Mathlib.Nat.{mod-lt}
 use Rattle.figures.specs.Fraction.{gcd}
 use Rattle.figures.proofs.Divisors.{gcd-zero, gcd-step}
 use Rattle.figures.proofs.reducing.gcd.Statement.{statement}

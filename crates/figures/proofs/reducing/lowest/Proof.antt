@@ -1,6 +1,6 @@
 -- `reducing::lowest`: the divisor is the greatest common one, so it is positive and fits, and so do both quotients.
 use Prim.Native.Nat.{_/_, _≤_, _<_}
-use mathlib.Core.Path.{_≡_, sym, ap, _∙_}
+use mathlib.Core.Path.{_≡_, ap, _∙_}
 use native.Mathlib.Nat.{le-of-dvd, div-le-self}
 use native.Mathlib.Omega.{arith}
 use borrow.Author.Needs.{needs}
