@@ -12,7 +12,7 @@ use lib.IntN.{ℤ, pos, negsuc, natAbs, _+ℤ_, _-ℤ_}
 use lib.ListN.{length}
 use lib.Signed.{leZ}
 use Rattle.signs.proofs.Signed as Signed
-use Rattle.figures.specs.Totals.{sum, square, totals, joined, spread}
+use Rattle.figures.specs.Totals.{sumOf, square, totals, joined, spread}
 use Rattle.figures.specs.declared.Totals.{Totals}
 
 -- ---- Naturals
@@ -67,13 +67,13 @@ sizes (x ∷ xs) =
     rw (squared n (size xs), suc-mul (length xs) (n * n + area xs), mul-add (length xs) (n * n) (area xs), mul-comm n (size xs))
     (omega (arith, sizes xs, against xs n))
 
-sum-size : (xs : List ℤ) → natAbs (sum xs) ≤ size xs
-unfolding sum size
+sum-size : (xs : List ℤ) → natAbs (sumOf xs) ≤ size xs
+unfolding sumOf size
 sum-size [] = omega arith
-sum-size (x ∷ xs) = omega (arith, Signed.sum x (sum xs), sum-size xs)
+sum-size (x ∷ xs) = omega (arith, Signed.sum x (sumOf xs), sum-size xs)
 
-squares-area : (xs : List ℤ) → sum (map square xs) ≡ pos (area xs)
-unfolding sum area
+squares-area : (xs : List ℤ) → sumOf (map square xs) ≡ pos (area xs)
+unfolding sumOf area
 squares-area [] = refl
 squares-area (x ∷ xs) = rw (square-is x, squares-area xs)
   where
@@ -99,13 +99,13 @@ spread-by n q (pos s) = left-over (n * q) (s * s)
 spread-by n q (negsuc s) = left-over (n * q) (suc s * suc s)
 
 -- the sum of a list's squares is never below zero, and neither is its spread
-pub list-squares : (marks : List ℤ) → leZ (pos 0) (sum (map square marks)) ≡ true
+pub list-squares : (marks : List ℤ) → leZ (pos 0) (sumOf (map square marks)) ≡ true
 list-squares marks = rw (squares-area marks) (leb·zero (area marks))
 
 pub list-spread : (marks : List ℤ) → leZ (pos 0) (spread (totals marks)) ≡ true
 unfolding totals
 list-spread marks =
-    rw (squares-area marks, spread-by (length marks) (area marks) (sum marks))
+    rw (squares-area marks, spread-by (length marks) (area marks) (sumOf marks))
     (le-leb _ _ (le-trans (mul-le-mul (sum-size marks) (sum-size marks)) (sizes marks)))
 
 -- nor is that of two classes joined, of which neither's is

@@ -19,16 +19,16 @@ abbrev pub highestSquare : ℕ
 highestSquare = 100000000
 
 -- the sum of numbers, and the square of one
-unfoldable pub sum : List ℤ → ℤ
-sum [] = pos 0
-sum (x ∷ xs) = x +ℤ sum xs
+unfoldable pub sumOf : List ℤ → ℤ
+sumOf [] = pos 0
+sumOf (x ∷ xs) = x +ℤ sumOf xs
 
 abbrev pub square : ℤ → ℤ
 square x = x *ℤ x
 
 -- "counts, sums and sums of squares": the totals of a list of marks, those of no mark, and those of two classes joined
 unfoldable pub totals : List ℤ → Totals
-totals marks = record { count = length marks; sum = sum marks; squares = sum (map square marks) }
+totals marks = record { count = length marks; sum = sumOf marks; squares = sumOf (map square marks) }
 
 unfoldable pub none : Totals
 none = record { count = 0; sum = pos 0; squares = pos 0 }

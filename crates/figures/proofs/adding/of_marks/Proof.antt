@@ -11,20 +11,20 @@ use lib.Seq.{take-length}
 use mir.Syntax.{w32, w64}
 use mir.Val.{SFits, toZ}
 use Rattle.signs.proofs.Signed.{widens, wide-is, wide-fits, wide-result, product-fits}
-use Rattle.figures.specs.Totals.{highest, highestSquare, sum, square, totals}
+use Rattle.figures.specs.Totals.{highest, highestSquare, sumOf, square, totals}
 use Rattle.figures.proofs.Limits.{fit-count, fit-marks, small-squares}
 use Rattle.figures.proofs.Sums.{next-fits, next-read}
 use Rattle.figures.proofs.adding.of_marks.Statement.{statement}
 use Rattle.figures.proofs.adding.of_marks.Tie as tie
 
 abbrev Inv-loop : tie.InvT-loop
-Inv-loop marks sum₀ squares₀ i₀ s q i = (i ≤ length marks) × (toZ w64 s ≡ sum (take i marks)) × (toZ w64 q ≡ sum (take i (map square marks)))
+Inv-loop marks sum₀ squares₀ i₀ s q i = (i ≤ length marks) × (toZ w64 s ≡ sumOf (take i marks)) × (toZ w64 q ≡ sumOf (take i (map square marks)))
 
 abbrev μ-loop : tie.MeasureT-loop
 μ-loop marks sum₀ squares₀ i₀ s q i = length marks - i
 
 loop-holds : tie.Need-loop-holds Inv-loop μ-loop
-unfolding sum
+unfolding sumOf
 loop-holds c = (search needs, refl, refl)
 
 -- what holds of a list that answers the questions well
