@@ -14,13 +14,14 @@ use Rattle.semantics.specs.Step.{Configuration, steppedNumbers}
 use Rattle.analysis.specs.Solver.{solvedNumbers}
 use Rattle.analysis.specs.Splitter.{splitNumbers}
 use Rattle.analysis.specs.Verdict.{verdict, offending}
+use Rattle.figures.specs.declared.Totals.{Totals}
 use Rattle.desk.specs.Reply.{replyRoom, told}
-use Rattle.desk.specs.Rows.{validated, inputValidated, partsBy, parts, drew, stepped, ran, judged, offended, listNamed, partNamed, marked, solved, split}
+use Rattle.desk.specs.Rows.{validated, inputValidated, partsBy, parts, drew, stepped, ran, judged, offended, listNamed, partNamed, marked, solved, split, figured, joined}
 use Rattle.desk.proofs.Lengths
-use Rattle.desk.proofs.Lengths.{Fitting}
+use Rattle.desk.proofs.Lengths.{Fitting, FiguresFitting}
 use Rattle.desk.proofs.Offending
 
--- every row has one to four numbers: it fits in a reply that has room, and 0 is returned only where the reply is too short
+-- every row but those of figures has one to four numbers: it fits in a reply that has room, and 0 is returned only where the reply is too short
 pub rows-fit :
     (s other third : List ℕ) (m : List ℤ) (c : Configuration) (n : ℕ)
     → Fitting (validated s) × Fitting (inputValidated s) × Fitting (parts s) × Fitting (drew s other) × Fitting (stepped s c n) × Fitting (ran s n m)
@@ -39,6 +40,11 @@ rows-fit s other third m c n = (
   Lengths.solving-fits _ _,
   Lengths.validity-and-fits _ _ _,
 )
+
+-- a row of figures has eight or nine
+pub figures-fit : (marks : List ℤ) (a b : Totals) → FiguresFitting (figured marks) × FiguresFitting (joined a b)
+unfolding figured joined
+figures-fit marks a b = (Lengths.figures-fits _, Lengths.figures-fits _)
 
 pub none-told : (row reply : List ℕ) → Fitting row → told row reply ≡ 0 → length reply < replyRoom
 none-told = Lengths.none-told

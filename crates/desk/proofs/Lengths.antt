@@ -1,10 +1,11 @@
--- Every row has one to four numbers.
+-- Every row has one to four numbers, and every row of figures eight or nine.
 use mathlib.Core.Path.{_≡_, refl}
 use mathlib.Core.Bool.{Bool, true, false, cond, _&&_}
-use mathlib.Core.List.{List, [], _∷_, _++_}
+use mathlib.Core.List.{List, [], _∷_, _++_, map}
 use Prim.Native.Nat.{ℕ, _≤_, _<_}
 use native.Mathlib.Omega.{arith}
 use lib.Dec.{T, leb}
+use lib.IntN.{ℤ, pos}
 use lib.ListN.{length}
 use borrow.Author.Tests.{leb-true, leb-false}
 use Rattle.program.specs.Asking.{validityNumbers}
@@ -17,6 +18,8 @@ use Rattle.semantics.specs.declared.Ending.{Ending}
 use Rattle.semantics.specs.declared.Ending.the-variants.{Arrived, Spent, Stuck, Refused as Halts}
 use Rattle.semantics.specs.declared.Outcome.{Outcome}
 use Rattle.semantics.specs.declared.Outcome.the-variants.{Taken, Undefined as Stays, Refused as Refuses}
+use Rattle.figures.specs.Figures.{fractionNumbers, totalsNumbers, figuresNumbers}
+use Rattle.figures.specs.declared.Figures.{Figures}
 use Rattle.analysis.specs.Records.{wrongByteNumbers}
 use Rattle.analysis.specs.Solver.{solvingNumbers}
 use Rattle.analysis.specs.Verdict.{markNumbers, verdictNumbers, markingNumbers}
@@ -28,7 +31,7 @@ use Rattle.analysis.specs.declared.Solving.{Solving}
 use Rattle.analysis.specs.declared.Solving.the-variants.{Finished, Full, Refused as SolveRefused, Malformed as SolveMalformed}
 use Rattle.analysis.specs.declared.Verdict.{Verdict}
 use Rattle.analysis.specs.declared.Verdict.the-variants.{Refused as Declines, Malformed, InitialMissing, ResultMissing, Accepted}
-use Rattle.desk.specs.Reply.{replyRoom, unlessShort, told}
+use Rattle.desk.specs.Reply.{replyRoom, unlessShort, told, figuresRoom}
 use Rattle.desk.specs.Rows.{partsBy, offendingBy}
 
 abbrev pub Fitting : List ℕ → Type 0
@@ -106,3 +109,15 @@ none-told row reply fits e = by (leb replyRoom (length reply)) refl e
         let some : 1 ≤ length row = leb-true _ _ (two (leb 1 (length row)) (leb (length row) replyRoom) (is-true _ fits) .0) in
         absurd (omega arith)
     by false r e = leb-false _ _ r
+
+-- a row of figures
+abbrev pub FiguresFitting : List ℤ → Type 0
+FiguresFitting row = T (leb 8 (length row) && leb (length row) figuresRoom)
+
+pub figures-fits : (f : Figures) → FiguresFitting (figuresNumbers f)
+unfolding figuresNumbers totalsNumbers fractionNumbers validityNumbers
+figures-fits f = by (f .validity)
+  where
+    by : (v : Validity) → T (leb 8 (length (map pos (validityNumbers v) ++ totalsNumbers (f .totals) ++ fractionNumbers (f .mean) ++ fractionNumbers (f .variance))) && leb (length (map pos (validityNumbers v) ++ totalsNumbers (f .totals) ++ fractionNumbers (f .mean) ++ fractionNumbers (f .variance))) figuresRoom)
+    by Fit = tt
+    by (Refused x) = tt

@@ -1,5 +1,6 @@
 pub mod Never
 pub mod Replies
+pub mod Written
 pub mod Lengths
 pub mod Places
 pub mod Parts

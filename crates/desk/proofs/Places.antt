@@ -23,6 +23,10 @@ use Rattle.program.specs.declared.Validity.the-variants.{Fit, Refused}
 use Rattle.program.proofs.Laws.{counts, sizes-length, ask-fit, then-first, then-second, placed-fit, placed-ask, placed-then, placed-each, validity-placed, input-placed}
 use Rattle.program.proofs.Places.{Told, Placed}
 use Rattle.program.proofs.Tests.{two}
+use Rattle.figures.proofs.Laws.{list-placed, join-placed}
+use Rattle.figures.specs.Figures.{listFigures, joinFigures}
+use Rattle.figures.specs.declared.Figures.{Figures}
+use Rattle.figures.specs.declared.Totals.{Totals}
 use Rattle.semantics.specs.Budget.{Result, ends, lowestDefined, goesOn, runFrom, endsUnlessRefused, budgeted, programBudgeted, budgetReply}
 use Rattle.semantics.specs.Step.{Configuration, begun, along, memoryValidity, stepValidity, outcomeBy, unlessRefused, outcome, programOutcome, stepReply}
 use Rattle.semantics.specs.declared.Effect.{Effect}
@@ -317,3 +321,9 @@ solved-narrow s initial buffer same =
     let told = solved-told s initial buffer in
     let solving = ap (λ (r : Solved). r .solving) (sym same) in
     (λ x e. omega (arith, told .refused x (solving ∙ e) .near), λ w e. omega (arith, told .wrong w (solving ∙ e)))
+
+pub list-narrow : (marks : List ℤ) {f : Figures} → f ≡ listFigures marks → (x : Refusal) → f .validity ≡ Refused x → Narrow (x .offset)
+list-narrow marks same = validity-narrow (omega arith) (list-placed marks) (ap (λ (f : Figures). f .validity) same)
+
+pub join-narrow : (a b : Totals) {f : Figures} → f ≡ joinFigures a b → (x : Refusal) → f .validity ≡ Refused x → Narrow (x .offset)
+join-narrow a b same = validity-narrow (omega arith) (join-placed a b) (ap (λ (f : Figures). f .validity) same)

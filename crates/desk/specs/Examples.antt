@@ -2,11 +2,11 @@
 use mathlib.Core.List.{List, [], _∷_, _++_}
 use lib.IntN.{ℤ, pos}
 use lib.ListN.{replicate}
-use Rattle.signs.specs.Case.{Case, _gives_, row}
+use Rattle.signs.specs.Case.{Case, _gives_, row, minus}
 use Rattle.program.specs.Examples.{factorial, field}
 use Rattle.analysis.specs.Examples.{firstSeven, factorialSheet, factorialStart}
-use Rattle.desk.specs.Reply.{replied, told}
-use Rattle.desk.specs.Rows.{validated, parts, drew, standing, stepped, ran, judged, offended, marked, solved, split}
+use Rattle.desk.specs.Reply.{replied, told, figuresReplied, figuresTold}
+use Rattle.desk.specs.Rows.{validated, parts, drew, standing, stepped, ran, judged, offended, marked, solved, split, figured, class, joined}
 
 -- "The sheet without record 7: 42, record 5, arrow 4", into a reply with room for five numbers and into one that is too short
 unfoldable pub replies : List Case
@@ -52,5 +52,18 @@ sheets =
     ∷ (row (split factorial 14) gives row (0 ∷ 3 ∷ 2 ∷ []))
     ∷ []
 
+-- figures of order 13: of the marks 3, 4 and 4 into a reply with room for ten numbers, and into one that is too short; of those joined with a mark
+-- of −7; and of a list whose second mark is outside the range
+unfoldable pub figures : List Case
+figures =
+    let three = figured (row (3 ∷ 4 ∷ 4 ∷ [])) in
+    (figuresReplied three (replicate 10 (pos 9)) gives row (0 ∷ 3 ∷ 11 ∷ 41 ∷ 11 ∷ 3 ∷ 2 ∷ 9 ∷ 9 ∷ 9 ∷ []))
+    ∷ (row (figuresTold three (replicate 10 (pos 9)) ∷ []) gives row (8 ∷ []))
+    ∷ (figuresReplied three (replicate 8 (pos 7)) gives row (replicate 8 7))
+    ∷ (row (figuresTold three (replicate 8 (pos 7)) ∷ []) gives row (0 ∷ []))
+    ∷ (joined (class 3 (pos 11) (pos 41)) (class 1 (minus 7) (pos 49)) gives row (0 ∷ 4 ∷ 4 ∷ 90 ∷ 1 ∷ 1 ∷ 43 ∷ 2 ∷ []))
+    ∷ (figured (pos 10000 ∷ minus 10001 ∷ []) gives row (24 ∷ 1 ∷ 0 ∷ 0 ∷ 0 ∷ 0 ∷ 1 ∷ 0 ∷ 1 ∷ []))
+    ∷ []
+
 unfoldable pub cases : List Case
-cases = replies ++ files ++ runs ++ sheets
+cases = replies ++ files ++ runs ++ sheets ++ figures

@@ -1,14 +1,15 @@
 -- What a call replies: a row of document 01's numbers, over the front of the reply that the caller lends.
-use Prim.Native.Nat.{ℕ, _<_}
+use Prim.Native.Nat.{ℕ, _+_, _<_}
 use mathlib.Core.Bool.{cond}
-use mathlib.Core.List.{List, [], _∷_}
+use mathlib.Core.List.{List, [], _∷_, _++_}
 use lib.Dec.{leb}
-use lib.ListN.{length}
+use lib.IntN.{ℤ}
+use lib.ListN.{length, take, drop}
 use Rattle.program.specs.Drawing.{over}
 use Rattle.desk.specs.declared.Row.{Row}
 use Rattle.desk.specs.declared.Row.the-variants.{One, Two, Three, Four}
 
--- the longest row of any call has four numbers, and a reply is written only where it holds so many
+-- the longest row of a call but those for figures has four numbers, and a reply is written only where it holds so many
 abbrev pub replyRoom : ℕ
 replyRoom = 4
 
@@ -23,6 +24,20 @@ replied row reply = unlessShort reply (over row reply) reply
 -- how many numbers a call says that it wrote: 0 where the reply is too short
 unfoldable pub told : List ℕ → List ℕ → ℕ
 told row reply = unlessShort reply (length row) 0
+
+-- numbers over a reply of signed ones, from a place on
+unfoldable pub overAt : ℕ → List ℤ → List ℤ → List ℤ
+overAt at numbers reply = take at reply ++ numbers ++ drop (at + length numbers) reply
+
+-- figures have signed numbers of 64 bits, and a reply of their own: the longest row has nine, and is written only where the reply holds so many
+abbrev pub figuresRoom : ℕ
+figuresRoom = 9
+
+unfoldable pub figuresReplied : List ℤ → List ℤ → List ℤ
+figuresReplied row reply = cond (leb figuresRoom (length reply)) (overAt 0 row reply) reply
+
+unfoldable pub figuresTold : List ℤ → List ℤ → ℕ
+figuresTold row reply = cond (leb figuresRoom (length reply)) (length row) 0
 
 -- a number that a reply can hold
 abbrev pub Narrow : ℕ → Type 0

@@ -17,6 +17,8 @@ use Rattle.analysis.specs.Records.{listNumber}
 use Rattle.analysis.specs.Solver as Solver
 use Rattle.analysis.specs.Splitter as Splitter
 use Rattle.analysis.specs.Verdict.{verdict, verdictNumbers, marking, markingNumbers}
+use Rattle.figures.specs.Figures.{listFigures, joinFigures, figuresNumbers}
+use Rattle.figures.specs.declared.Totals.{Totals}
 use Rattle.analysis.specs.declared.Records.the-variants.{Initial, Solution}
 use Rattle.analysis.specs.declared.Verdict.{Verdict}
 use Rattle.analysis.specs.declared.Verdict.the-variants.{Refused as Refuses, Malformed, InitialMissing, ResultMissing, Accepted}
@@ -87,3 +89,15 @@ solved s initial buffer = Solver.solvedNumbers (Solver.solved s initial buffer)
 -- a place in a sheet: the answer's, then record and column
 unfoldable pub split : List ℕ → ℕ → List ℕ
 split s place = Splitter.splitNumbers (Splitter.split s place)
+
+-- the figures of a list of marks: the answer's, then count, sum and sum of squares, then mean and variance, each numerator first
+unfoldable pub figured : List ℤ → List ℤ
+figured marks = figuresNumbers (listFigures marks)
+
+-- a class's totals by their numbers, as a join takes them
+abbrev pub class : ℕ → ℤ → ℤ → Totals
+class n s q = record { count = n; sum = s; squares = q }
+
+-- the figures of two classes joined: the same numbers
+unfoldable pub joined : Totals → Totals → List ℤ
+joined a b = figuresNumbers (joinFigures a b)

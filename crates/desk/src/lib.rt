@@ -1,5 +1,6 @@
 // The engine as a C library: each operation on numbers and slices, its reply a row of document 01's numbers.
 
+pub mod classes;
 pub mod files;
 pub(crate) mod reply;
 pub mod sheets;

@@ -5,15 +5,17 @@ use mathlib.Core.List.{List, _++_}
 use Prim.Native.Nat.{ℕ, _<_, _∣_}
 use lib.IntN.{ℤ, pos}
 use lib.Signed.{leZ}
+use Rattle.program.proofs.Places.{Placed}
 use Rattle.program.specs.declared.Validity.the-variants.{Fit}
 use Rattle.figures.specs.Figures.{InRange, variance, listFigures, joinFigures, Exact}
 use Rattle.figures.specs.Fraction.{gcd, lowest, nought, LowestTerms}
-use Rattle.figures.specs.Totals.{totals}
+use Rattle.figures.specs.Totals.{longest, totals}
 use Rattle.figures.specs.declared.Totals.{Totals}
 use Rattle.figures.proofs.Divisors
 use Rattle.figures.proofs.Exactness
 use Rattle.figures.proofs.Joint
 use Rattle.figures.proofs.Lowest
+use Rattle.figures.proofs.Placing
 
 -- ---- Fractions
 
@@ -43,6 +45,13 @@ list-exact = Exactness.list-exact
 
 pub join-exact : (a b : Totals) → joinFigures a b .validity ≡ Fit → Exact (joinFigures a b)
 join-exact = Exactness.join-exact
+
+-- a refusal has a number, and its place is small
+pub list-placed : (marks : List ℤ) → Placed longest (listFigures marks .validity)
+list-placed = Placing.list-placed
+
+pub join-placed : (a b : Totals) → Placed longest (joinFigures a b .validity)
+join-placed = Placing.join-placed
 
 -- the variance of a list is never below zero, whatever integers it has
 pub list-variance : (marks : List ℤ) → leZ (pos 0) (variance (totals marks) .numerator) ≡ true

@@ -8,6 +8,7 @@ pub mod Limits
 pub mod Replies
 pub mod Lowest
 pub mod Joint
+pub mod Placing
 pub mod Exactness
 pub mod Laws
 pub mod Examples

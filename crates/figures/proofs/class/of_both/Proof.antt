@@ -5,15 +5,13 @@ use mathlib.Core.Bool.{true}
 use native.Mathlib.Omega.{arith}
 use borrow.Author.Needs.{needs}
 use borrow.Author.Tests.{not-true, not-false}
-use mir.Syntax.{w64}
-use mir.ValLaws.{toZ-ofZ}
 use Rattle.signs.proofs.Signed.{fits}
 use Rattle.program.specs.declared.Validity.the-variants.{Fit}
 use Rattle.figures.specs.Bounds.{Bounded}
 use Rattle.figures.specs.Figures.{figuresBy}
 use Rattle.figures.specs.Totals.{countable, possible}
 use Rattle.figures.specs.declared.Totals.{Totals}
-use Rattle.figures.proofs.Limits.{Counted, counted, possible-bounded, joined-bounded, sums-fit, squares-fit, joined-read}
+use Rattle.figures.proofs.Limits.{handed-is, Counted, counted, possible-bounded, joined-bounded, sums-fit, squares-fit, joined-read}
 use Rattle.figures.proofs.Replies.{join-fit, join-refused}
 use Rattle.figures.proofs.class.of_both.Statement.{statement}
 use Rattle.figures.proofs.class.of_both.Tie as tie
@@ -32,12 +30,12 @@ count-told c = sym (c .countable .ensures)
 first-told : (c : tie.After-possible) → possible (first (c .before .before .before)) ≡ c .possible .result
 first-told c =
     let s = c .before .before .before in
-    sym (c .possible .ensures ∙ rw (toZ-ofZ w64 (s .args .first-sum) (s .fits .first-sum), toZ-ofZ w64 (s .args .first-squares) (s .fits .first-squares)))
+    sym (c .possible .ensures ∙ ap possible (handed-is (first s) (s .fits .first-sum) (s .fits .first-squares)))
 
 second-told : (c : tie.After-possible2) → possible (second (c .before .before .before .before .before)) ≡ c .possible2 .result
 second-told c =
     let s = c .before .before .before .before .before in
-    sym (c .possible2 .ensures ∙ rw (toZ-ofZ w64 (s .args .second-sum) (s .fits .second-sum), toZ-ofZ w64 (s .args .second-squares) (s .fits .second-squares)))
+    sym (c .possible2 .ensures ∙ ap possible (handed-is (second s) (s .fits .second-sum) (s .fits .second-squares)))
 
 count-passed : (c : tie.Else1) → countable (first (c .before .before) .count + second (c .before .before) .count) ≡ true
 count-passed c = count-told (c .before) ∙ not-false (c .before .countable .result) (c .if1 .left)

@@ -1,0 +1,36 @@
+-- `pizwoter_join`: its row, put; the machine hands the totals on as they are.
+use borrow.Author.Needs.{needs}
+use mathlib.Core.Path.{_≡_, ap, _∙_}
+use Rattle.figures.proofs.Limits.{handed, handed-is}
+use Rattle.figures.specs.Figures.{joinFigures, figuresNumbers}
+use Rattle.figures.specs.declared.Totals.{Totals}
+use Rattle.desk.specs.Rows.{class, joined}
+use Rattle.desk.proofs.Places.{join-narrow}
+use Rattle.desk.proofs.Written.{figures-as}
+use Rattle.desk.proofs.classes.pizwoter_join.Statement.{statement}
+use Rattle.desk.proofs.classes.pizwoter_join.Tie as tie
+
+-- the two classes
+abbrev first : tie.Start → Totals
+first s = class (s .args .first-count) (s .args .first-sum) (s .args .first-squares)
+
+abbrev second : tie.Start → Totals
+second s = class (s .args .second-count) (s .args .second-sum) (s .args .second-squares)
+
+told : (c : tie.After-of-join) → c .of-join .result ≡ joinFigures (first (c .before)) (second (c .before))
+told c =
+    let s = c .before in
+    let same : c .of-join .result ≡ joinFigures (handed (first s)) (handed (second s)) = c .of-join .ensures .0 in
+    same
+    ∙ ap (λ t. joinFigures t (handed (second s))) (handed-is (first s) (s .fits .first-sum) (s .fits .first-squares))
+    ∙ ap (joinFigures (first s)) (handed-is (second s) (s .fits .second-sum) (s .fits .second-squares))
+
+put-requires : tie.Need-put-requires
+put-requires c κs = join-narrow _ _ (told (c .before))
+
+returns : tie.Need-returns
+unfolding joined
+returns c = figures-as _ (ap figuresNumbers (told (c .before .before .before))) (c .before .put .ensures)
+
+pub pizwoter-join-spec : {M : Type 1} → statement M
+pizwoter-join-spec = tie.close (tie.spec (λ c κs. search needs) put-requires (λ c. search needs) returns)
