@@ -1,6 +1,7 @@
-//! An oracle for the engine: document 01 as a program of its own, makers of test cases, and the answers to them. It shares no definition and no code with the engine.
+//! An oracle for the engine: document 01, and order 13 of document 02, as a program of its own, makers of test cases, and the answers to them. It shares no definition and no code with the engine.
 
 pub mod answers;
+pub mod figures;
 pub mod language;
 pub mod making;
 pub mod stored;

@@ -29,15 +29,20 @@ impl Tally {
         }
     }
 
-    pub fn say(&self) {
+    /// How often each answer occurs in all groups.
+    pub fn all(&self) -> BTreeMap<String, usize> {
         let mut all: BTreeMap<String, usize> = BTreeMap::new();
+        for (answer, count) in self.0.iter().flat_map(|group| &group.answers) {
+            *all.entry(answer.clone()).or_default() += count;
+        }
+        all
+    }
+
+    pub fn say(&self) {
         for Group { name, cases, answers } in &self.0 {
             println!("  {name}: {cases} cases, {}", listed(answers));
-            for (answer, count) in answers {
-                *all.entry(answer.clone()).or_default() += count;
-            }
         }
-        println!("  in all: {} cases, {}", self.0.iter().map(|group| group.cases).sum::<usize>(), listed(&all));
+        println!("  in all: {} cases, {}", self.0.iter().map(|group| group.cases).sum::<usize>(), listed(&self.all()));
     }
 }
 

@@ -7,7 +7,7 @@ use std::path::{Path, PathBuf};
 use std::process::{Command, Output};
 use std::{env, fs};
 
-const PROGRAMS: [&str; 4] = ["program_files", "semantics_runs", "analysis_sheets", "sheet"];
+const PROGRAMS: [&str; 5] = ["program_files", "semantics_runs", "analysis_sheets", "figures_classes", "sheet"];
 
 fn engine() -> PathBuf {
     let repository = Path::new(env!("CARGO_MANIFEST_DIR")).parent().unwrap();
@@ -60,7 +60,7 @@ const SOME: [&str; 2] = ["5", "300"];
 fn the_engine_as_it_is() {
     let (text, status) = spoilt("fine", "sheet", "exec PROGRAM", &SOME);
     assert_eq!(status, 0, "{text}");
-    assert!(text.ends_with("300 files, 4,200 operations, 0 differences\n"), "{text}");
+    assert!(text.ends_with("300 files, 4,800 operations, 0 differences\n"), "{text}");
 }
 
 #[test]
@@ -78,13 +78,20 @@ fn a_verdict_that_accepts() {
 }
 
 #[test]
+fn another_denominator() {
+    let (text, status) = spoilt("figures", "figures_classes", "PROGRAM | sed 's/ 1$/ 2/'", &SOME);
+    assert_eq!(status, 1, "{text}");
+    assert!(text.contains(": figures of a list\n") && text.contains(": figures of a join\n"), "{text}");
+}
+
+#[test]
 fn one_checksum() {
     let (text, status) = spoilt("sum", "program_files", "PROGRAM | sed '/^123a: /s/sum ./sum x/'", &SOME);
     assert_eq!(status, 1, "{text}");
     assert!(text.contains("file 123,") && text.ends_with(" 1 differences\n"), "{text}");
     // The file alone, and the one before it.
     let (text, status) = spoilt("sum1", "program_files", "PROGRAM | sed '/^123a: /s/sum ./sum x/'", &["5", "1", "123"]);
-    assert!(status == 1 && text.contains("file 123,") && text.ends_with("1 files, 14 operations, 1 differences\n"), "{text}");
+    assert!(status == 1 && text.contains("file 123,") && text.ends_with("1 files, 16 operations, 1 differences\n"), "{text}");
     let (text, status) = spoilt("sum0", "program_files", "PROGRAM | sed '/^123a: /s/sum ./sum x/'", &["5", "1", "122"]);
     assert_eq!(status, 0, "{text}");
 }

@@ -23,7 +23,7 @@ fn they_are_written_again() {
     let repository = Path::new(env!("CARGO_MANIFEST_DIR")).parent().unwrap();
     let folder = env::temp_dir().join(format!("oracle-test-{}-stored", std::process::id()));
     let _ = fs::remove_dir_all(&folder);
-    for name in ["signs_ends", "program_files", "semantics_runs", "analysis_sheets", "sheet", "sheet_inputs"] {
+    for name in ["signs_ends", "program_files", "semantics_runs", "analysis_sheets", "figures_classes", "sheet", "sheet_inputs"] {
         fs::create_dir_all(folder.join("crates").join(name)).unwrap();
     }
     let status = Command::new(env!("CARGO_BIN_EXE_oracle")).arg("store").env("REPOSITORY", &folder).output().unwrap().status;

@@ -35,9 +35,31 @@ pub fn long_at(bytes: &[u8], i: usize) -> u32 {
     }
 }
 
-// Cell `i` of a list of cells, four bytes each, two's complement. No list has more than 1,024.
+// A number of 64 bits as two's complement.
+fn signed(x: u64) -> i64 {
+    if x < 9223372036854775808 {
+        x as i64
+    } else {
+        -1 - (18446744073709551615 - x) as i64
+    }
+}
+
+fn joined(high: u32, low: u32) -> u64 {
+    high as u64 * 4294967296 + low as u64
+}
+
+// The number of eight bytes at a place, two's complement.
+pub fn signed_at(bytes: &[u8], i: usize) -> i64 {
+    if i < bytes.len() {
+        signed(joined(long_at(bytes, i), long_at(bytes, i + 4)))
+    } else {
+        0
+    }
+}
+
+// Cell `i` of a list of cells, four bytes each, two's complement. No list has more than 8,192.
 fn cell_at(bytes: &[u8], i: usize) -> i32 {
-    if i < 1024 {
+    if i < 8192 {
         decoding::signed(long_at(bytes, i * 4))
     } else {
         0

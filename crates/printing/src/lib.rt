@@ -41,23 +41,28 @@ pub fn place(x: usize) {
     number(x as u64);
 }
 
-// How far a number is from zero.
+// How far a number is from zero. The least one has no opposite in 64 bits: what is told is how far it is from minus one, and one more.
+fn long_magnitude(z: i64) -> u64
+    ensures { λ r. ⌜ r ≡ natAbs z ⌝ }
+{
+    if z < 0 { (-1 - z) as u64 + 1 } else { z as u64 }
+}
+
 pub fn magnitude(z: i32) -> u64
     ensures { λ r. ⌜ r ≡ natAbs z ⌝ }
 {
-    let wide = z as i64;
-    if wide < 0 {
-        (0 - wide) as u64
-    } else {
-        wide as u64
-    }
+    long_magnitude(z as i64)
 }
 
-pub fn integer(z: i32) {
+pub fn long_integer(z: i64) {
     if z < 0 {
         text(b"-");
     }
-    number(magnitude(z));
+    number(long_magnitude(z));
+}
+
+pub fn integer(z: i32) {
+    long_integer(z as i64);
 }
 
 pub fn refused(question: u8, offset: usize) {

@@ -1,5 +1,6 @@
 //! What each program of the engine prints of a case, and the case's record in the program's container. Written once, for the stored cases and for the random ones.
 
+pub mod classes;
 pub mod files;
 pub mod runs;
 pub mod sheets;

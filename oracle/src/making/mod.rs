@@ -1,6 +1,7 @@
-//! Makers of scripts, files, memories, step calls and records: by hand, from text, and from a seed.
+//! Makers of scripts, files, memories, step calls, records and classes: by hand, from text, and from a seed.
 
 mod arrays;
+mod classes;
 mod damage;
 mod known;
 mod lessons;
@@ -11,6 +12,7 @@ mod text;
 mod writing;
 
 pub use arrays::*;
+pub use classes::*;
 pub use damage::*;
 pub use known::*;
 pub use lessons::*;

@@ -1,12 +1,13 @@
 //! The stored files that `rt ci` compares: the cases of each program, group by group, with their answers. The same bytes at every run.
 
+mod classes;
 mod ends;
 mod files;
 mod inputs;
 mod runs;
 mod sheets;
 
-use crate::answers::Case;
+use crate::answers::{Case, Told};
 use crate::language::Loaded;
 use crate::tally::Tally;
 use std::fs;
@@ -20,6 +21,7 @@ pub fn store(repository: &Path) -> io::Result<()> {
     files::store(&crates.join("program_files"))?;
     runs::store(&crates.join("semantics_runs"))?;
     sheets::store(&crates.join("analysis_sheets"))?;
+    classes::store(&crates.join("figures_classes"))?;
     inputs::store(&crates.join("sheet"), &crates.join("sheet_inputs"))
 }
 
@@ -44,10 +46,14 @@ impl Out {
 
     /// Adds a case, and hands back what is expected of it but for checksums.
     fn put(&mut self, title: &str, file: &[u8], case: &impl Case) -> String {
+        self.add(title, case.told(&Loaded::of(file)), |title| case.record(title, file))
+    }
+
+    /// The same, of a case whose record is made once its whole title is known.
+    fn add(&mut self, title: &str, told: Told, record: impl Fn(&str) -> Vec<u8>) -> String {
         let title = format!("{} {title}", self.group);
-        let told = case.told(&Loaded::of(file));
         self.tally.count(&told.answers);
-        self.container.extend(case.record(&title, file));
+        self.container.extend(record(&title));
         self.text += &format!("{title}: {}\n", told.line);
         told.known
     }

@@ -4,7 +4,7 @@ use super::kinds::{random_file, Kind, Made};
 use super::needs;
 use crate::answers::files::Mode;
 use crate::answers::sheets::{marking, solved, Ask, Chunks};
-use crate::answers::{runs, Case};
+use crate::answers::{classes, runs, Case, Told};
 use crate::language::*;
 use crate::making::Random;
 
@@ -14,11 +14,12 @@ pub enum Program {
     Files,
     Runs,
     Sheets,
+    Classes,
     Sheet,
 }
 
 /// The programs that read a container.
-pub const CONTAINED: [Program; 3] = [Program::Files, Program::Runs, Program::Sheets];
+pub const CONTAINED: [Program; 4] = [Program::Files, Program::Runs, Program::Sheets, Program::Classes];
 
 impl Program {
     pub fn name(self) -> &'static str {
@@ -26,6 +27,7 @@ impl Program {
             Program::Files => "program_files",
             Program::Runs => "semantics_runs",
             Program::Sheets => "analysis_sheets",
+            Program::Classes => "figures_classes",
             Program::Sheet => "sheet",
         }
     }
@@ -36,6 +38,7 @@ impl Program {
             Program::Files => "files.bin",
             Program::Runs => "runs.bin",
             Program::Sheets => "sheets.bin",
+            Program::Classes => "classes.bin",
             Program::Sheet => "input.in",
         }
     }
@@ -57,10 +60,12 @@ pub enum Operation {
     Split,
     Follow,
     Listing,
+    Marks,
+    Join,
 }
 
 impl Operation {
-    pub const ALL: [Operation; 14] = [
+    pub const ALL: [Operation; 16] = [
         Operation::Draw,
         Operation::Edges,
         Operation::Readings,
@@ -75,6 +80,8 @@ impl Operation {
         Operation::Split,
         Operation::Follow,
         Operation::Listing,
+        Operation::Marks,
+        Operation::Join,
     ];
 
     pub fn name(self) -> &'static str {
@@ -93,6 +100,8 @@ impl Operation {
             Operation::Split => "places split",
             Operation::Follow => "third term tried",
             Operation::Listing => "sheet program",
+            Operation::Marks => "figures of a list",
+            Operation::Join => "figures of a join",
         }
     }
 
@@ -102,6 +111,7 @@ impl Operation {
             Operation::Budget | Operation::Steps | Operation::StepsFrom => Program::Runs,
             Operation::Judge | Operation::Mark | Operation::Solve | Operation::Split | Operation::Follow => Program::Sheets,
             Operation::Listing => Program::Sheet,
+            Operation::Marks | Operation::Join => Program::Classes,
         }
     }
 
@@ -145,6 +155,7 @@ pub fn cases(seed: u64, number: u64) -> Vec<Asked> {
     maker.of_files(r, &list);
     maker.of_runs(r);
     maker.of_sheets(r, &list);
+    maker.of_classes(r);
     maker.asked
 }
 
@@ -164,9 +175,12 @@ struct Maker<'a> {
 
 impl Maker<'_> {
     fn ask(&mut self, operation: Operation, file: &Loaded, case: &impl Case) {
+        self.add(operation, case.told(file), |title| case.record(title, &file.bytes));
+    }
+
+    fn add(&mut self, operation: Operation, told: Told, record: impl Fn(&str) -> Vec<u8>) {
         let title = format!("{}{}", self.number, operation.letter());
-        let told = case.told(file);
-        let bytes = case.record(&title, &file.bytes);
+        let bytes = record(&title);
         let expected = format!("{title}: {}\n", told.line);
         self.asked.push(Asked { number: self.number, kind: self.made.kind, operation, title, bytes, expected, answers: told.answers });
     }
@@ -212,6 +226,15 @@ impl Maker<'_> {
         self.ask(Operation::Solve, &made.file, &Ask::Solve(needs::any_start_list(r, made, list), room));
         self.ask(Operation::Split, &made.file, &Ask::Split(needs::places(r, made)));
         self.ask_follow(r, list, &solved);
+    }
+
+    /// These have nothing to do with the file.
+    fn of_classes(&mut self, r: &mut Random) {
+        let list = classes::Ask::List(needs::marks(r));
+        self.add(Operation::Marks, list.told(), |title| list.record(title));
+        let (first, second) = needs::two_totals(r);
+        let join = classes::Ask::Join(first, second);
+        self.add(Operation::Join, join.told(), |title| join.record(title));
     }
 
     /// The memory is one that the file's script takes, and its record is mostly in the start list.

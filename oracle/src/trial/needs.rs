@@ -1,7 +1,9 @@
-//! What the operations need beside a file: memories, step calls, start lists, sheets, rooms, places; most of them fit, some of them not.
+//! What the operations need beside a file: memories, step calls, start lists, sheets, rooms, places, and marks and totals; most of them fit, some of them not.
 
 use super::kinds::Made;
+use crate::answers::classes::MARKS;
 use crate::answers::sheets::{Chunks, LIST};
+use crate::figures::Totals;
 use crate::language::*;
 use crate::making::*;
 
@@ -213,4 +215,33 @@ pub fn input(r: &mut Random, made: &Made, list: &[u8]) -> Vec<u8> {
     }
     input.extend(field(5, &list));
     input
+}
+
+/// A list of marks, mostly a short one: questions 23 and 24.
+pub fn marks(r: &mut Random) -> Vec<i32> {
+    let count = match r.below(200) {
+        0 => r.below(MARKS + 1),
+        1 => 4095 + r.below(3),
+        2..=9 => r.below(2),
+        10..=39 => r.below(400),
+        _ => r.below(30),
+    };
+    let mut marks = random_marks(r, count);
+    if count > 0 && r.chance(5) {
+        spoil_marks(r, &mut marks);
+    }
+    marks
+}
+
+/// Two classes' totals, mostly those of lists: question 23.
+pub fn two_totals(r: &mut Random) -> (Totals, Totals) {
+    let class = |r: &mut Random| {
+        let count = if r.chance(20) { r.below(2200) } else { r.below(20) };
+        let mut totals = Totals::of(&random_marks(r, count));
+        if r.chance(3) {
+            damage_totals(r, &mut totals);
+        }
+        totals
+    };
+    (class(r), class(r))
 }
