@@ -36,24 +36,24 @@ difference a b = go (ltb a b) refl
     go true e = omega (arith, ltb-true a b e)
     go false e = omega arith
 
-sum : (a b : ℤ) → natAbs (a +ℤ b) ≤ natAbs a + natAbs b
+pub sum : (a b : ℤ) → natAbs (a +ℤ b) ≤ natAbs a + natAbs b
 sum (pos a) (pos b) = omega arith
 sum (pos a) (negsuc b) = difference a (suc b)
 sum (negsuc a) (pos b) = omega (arith, difference b (suc a))
 sum (negsuc a) (negsuc b) = omega arith
 
-opposite : (a : ℤ) → natAbs (negℤ a) ≡ natAbs a
+pub opposite : (a : ℤ) → natAbs (negℤ a) ≡ natAbs a
 opposite (pos zero) = refl
 opposite (pos (suc n)) = refl
 opposite (negsuc n) = refl
 
-product : (a b : ℤ) → natAbs (a *ℤ b) ≡ natAbs a * natAbs b
+pub product : (a b : ℤ) → natAbs (a *ℤ b) ≡ natAbs a * natAbs b
 product (pos a) (pos b) = refl
 product (pos a) (negsuc b) = magnitude (a * suc b)
 product (negsuc a) (pos b) = magnitude (suc a * b)
 product (negsuc a) (negsuc b) = refl
 
-quotient : (a b : ℤ) → natAbs (quotZ a b) ≤ natAbs a
+pub quotient : (a b : ℤ) → natAbs (quotZ a b) ≤ natAbs a
 quotient (pos a) (pos b) = div-le-self a b
 quotient (pos a) (negsuc b) = rw (magnitude (a / suc b)) (div-le-self a (suc b))
 quotient (negsuc a) (pos b) = rw (magnitude (suc a / b)) (div-le-self (suc a) b)
@@ -67,7 +67,7 @@ pub natAbs-suc : (z : ℤ) → natAbs z ≤ suc (mag z)
 natAbs-suc (pos n) = omega arith
 natAbs-suc (negsuc n) = le-refl (suc n)
 
-fits : (z : ℤ) → natAbs z ≤ 4611686018427387904 → SFits w64 z
+pub fits : (z : ℤ) → natAbs z ≤ 4611686018427387904 → SFits w64 z
 fits z h = record { sfits = omega (arith, mag-le z) }
 
 module _ {a b : ℤ} (fa : SFits w32 a) (fb : SFits w32 b) where

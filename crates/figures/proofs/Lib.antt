@@ -1,0 +1,13 @@
+pub mod Open
+pub mod Divisors
+pub mod Integers
+pub mod Numbers
+pub mod Sums
+pub mod Squares
+pub mod Limits
+pub mod Replies
+pub mod Lowest
+pub mod Joint
+pub mod Exactness
+pub mod Laws
+pub mod Examples
