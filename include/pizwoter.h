@@ -15,12 +15,15 @@
  *
  * THE REPLY. Every call writes its answer as a row of numbers at the front of `reply`, leaves the rest of `reply` alone, and
  * returns how many numbers the row has, 1 to 4. A reply of fewer than PIZWOTER_REPLY (4) numbers is too short: the call then returns 0
- * and writes nothing, in no buffer whatever.
+ * and writes nothing, in no buffer whatever. The two calls for class figures, pizwoter_figures and pizwoter_join, are the exception in
+ * two things: their numbers are signed and have 64 bits, and their rows have 8 or 9 of them, so that a reply of fewer than
+ * PIZWOTER_FIGURES_REPLY (9) is too short.
  *
  * REFUSALS. A row that begins with a number from 1 to 18 is a refusal: that question of document 01 is answered no. Its place follows,
  * a byte offset in the program file (0 where the question has no place); 17 is followed by the number of a list and then its place in
- * that list. After the refusals 1 to 17 no buffer has changed but `reply`. Questions are asked in the order of their numbers, and the
- * first no ends the asking. In the rows below `refusal` stands for the question's number and its place: two numbers.
+ * that list. Document 02 adds 23, which has no place, and 24, whose place is the number of a mark in its list, from 0; only the calls for
+ * class figures ask them. After the refusals 1 to 17, 23 and 24 no buffer has changed but `reply`. Questions are asked in the order of their
+ * numbers, and the first no ends the asking. In the rows below `refusal` stands for the question's number and its place: two numbers.
  */
 #ifndef PIZWOTER_H
 #define PIZWOTER_H
@@ -34,6 +37,7 @@ extern "C" {
 
 /* Sizes. */
 #define PIZWOTER_REPLY 4                 /* numbers that a reply must have room for */
+#define PIZWOTER_FIGURES_REPLY 9         /* the same of a reply of class figures */
 #define PIZWOTER_MOST_PROGRAM_BYTES 7244 /* the largest program file that is fit */
 #define PIZWOTER_MOST_INPUT_BYTES 23631  /* the largest input of five fields that is fit */
 #define PIZWOTER_MOST_NAMES 32
@@ -42,6 +46,8 @@ extern "C" {
 #define PIZWOTER_MOST_ARROWS 255
 #define PIZWOTER_ARROW_BYTES 7           /* from (2), to (2), action kind (1), entry (2); high byte first */
 #define PIZWOTER_MOST_RECORDS 4096       /* of a start list and of a sheet */
+#define PIZWOTER_MOST_MARKS 4096         /* of a class, and of two classes joined */
+#define PIZWOTER_HIGHEST_MARK 10000      /* the lowest is -10,000 */
 
 /* Questions: the first number of a refusal. The place is the byte where the head or the entry starts, unless it is said otherwise. */
 #define PIZWOTER_NO_HEAD 1            /* fewer than three bytes are left for a field's head */
@@ -62,6 +68,8 @@ extern "C" {
 #define PIZWOTER_NOT_WHOLE_RECORDS 16 /* the start list or the sheet is not whole records, or has more than 4,096 */
 #define PIZWOTER_WRONG_RECORD 17      /* a byte of a record is wrong; list and place follow */
 #define PIZWOTER_NO_ROOM_FOR_RECORD 18
+#define PIZWOTER_WRONG_CLASS 23       /* no mark or more than 4,096, or, in a join, totals beyond their limits; no place */
+#define PIZWOTER_WRONG_MARK 24        /* a mark is outside the range; the place is its number in the list */
 
 /* Lists, as 17 and pizwoter_offending name them. */
 #define PIZWOTER_NO_LIST 0
@@ -148,6 +156,21 @@ uint32_t pizwoter_solve(const uint8_t *program, size_t program_length, const uin
 /* A byte place in a sheet of the program, as the record and the column that it lies in.
  * Row: 0, record, column; or refusal (1 to 11), 0, 0. */
 uint32_t pizwoter_split(const uint8_t *program, size_t program_length, uint32_t place, uint32_t *reply, size_t reply_length);
+
+/* The figures of a class: mean and variance of its marks, 1 to 4,096 of them, each from -10,000 to 10,000, without rounding. The mean is the sum over the number of
+ * marks; the variance is the number times the sum of squares, less the square of the sum, over the number squared. Both are fractions in lowest terms with a
+ * positive denominator, zero as 0 over 1.
+ * Row, of eight numbers: 0, count, sum, sum of squares, numerator and denominator of the mean, numerator and denominator of the variance. Or, of nine:
+ * refusal (23, 24), 0, 0, 0, 0, 1, 0, 1. */
+uint32_t pizwoter_figures(const int32_t *marks, size_t marks_length, int64_t *reply, size_t reply_length);
+
+/* The figures of two classes joined, by count, sum and sum of squares of each, as the rows of these two calls give them; those of no mark are 0, 0, 0. Where each class's
+ * are those of a list of marks in the range, the row is the one that pizwoter_figures writes of the two lists as one. Question 23 is answered no where both together
+ * have no mark or more than 4,096, or where either has a sum beyond 10,000 per mark either way, a sum of squares below zero or beyond 100,000,000 per mark, or a
+ * variance below zero.
+ * Row: as of pizwoter_figures; the refusal is 23. */
+uint32_t pizwoter_join(uint32_t first_count, int64_t first_sum, int64_t first_squares, uint32_t second_count, int64_t second_sum, int64_t second_squares, int64_t *reply,
+                       size_t reply_length);
 
 #ifdef __cplusplus
 }

@@ -1,7 +1,12 @@
 //! The C library's functions, as `include/pizwoter.h` declares them, and the one safe way in which this crate calls them.
 
+use crate::Totals;
+
 /// Numbers that a reply has room for.
 pub const REPLY: usize = 4;
+
+/// The same of a reply of class figures.
+pub const FIGURES_REPLY: usize = 9;
 
 extern "C" {
     fn pizwoter_validate(program: *const u8, program_length: usize, reply: *mut u32, reply_length: usize) -> u32;
@@ -64,25 +69,37 @@ extern "C" {
         reply_length: usize,
     ) -> u32;
     fn pizwoter_split(program: *const u8, program_length: usize, place: u32, reply: *mut u32, reply_length: usize) -> u32;
+    fn pizwoter_figures(marks: *const i32, marks_length: usize, reply: *mut i64, reply_length: usize) -> u32;
+    #[rustfmt::skip]
+    fn pizwoter_join(
+        first_count: u32,
+        first_sum: i64,
+        first_squares: i64,
+        second_count: u32,
+        second_sum: i64,
+        second_squares: i64,
+        reply: *mut i64,
+        reply_length: usize,
+    ) -> u32;
 }
 
 /// A row of a reply: its first `length` numbers.
 #[derive(Clone, Copy)]
-pub struct Row {
-    numbers: [u32; REPLY],
+pub struct Row<N = u32, const ROOM: usize = REPLY> {
+    numbers: [N; ROOM],
     length: usize,
 }
 
-impl Row {
-    pub fn numbers(&self) -> &[u32] {
+impl<N, const ROOM: usize> Row<N, ROOM> {
+    pub fn numbers(&self) -> &[N] {
         &self.numbers[..self.length]
     }
 }
 
 /// Has a call write its row into a reply with room.
-fn replied(call: impl FnOnce(*mut u32, usize) -> u32) -> Row {
-    let mut numbers = [0; REPLY];
-    let length = call(numbers.as_mut_ptr(), REPLY) as usize;
+fn replied<N: Copy + Default, const ROOM: usize>(call: impl FnOnce(*mut N, usize) -> u32) -> Row<N, ROOM> {
+    let mut numbers = [N::default(); ROOM];
+    let length = call(numbers.as_mut_ptr(), ROOM) as usize;
     Row { numbers, length }
 }
 
@@ -135,9 +152,17 @@ pub fn split(program: &[u8], place: u32) -> Row {
     replied(|reply, room| unsafe { pizwoter_split(program.as_ptr(), program.len(), place, reply, room) })
 }
 
-/// For a test: every function, handed a reply that is too short.
+pub fn figures(marks: &[i32]) -> Row<i64, FIGURES_REPLY> {
+    replied(|reply, room| unsafe { pizwoter_figures(marks.as_ptr(), marks.len(), reply, room) })
+}
+
+pub fn join(first: Totals, second: Totals) -> Row<i64, FIGURES_REPLY> {
+    replied(|reply, room| unsafe { pizwoter_join(first.count, first.sum, first.squares, second.count, second.sum, second.squares, reply, room) })
+}
+
+/// For a test: every function, handed a reply of any length.
 #[cfg(test)]
-pub mod short {
+pub mod lent {
     use super::*;
 
     /// What each returns, of a program, two lists, a buffer and a memory.
@@ -160,5 +185,15 @@ pub mod short {
                 pizwoter_split(p, n, 14, r, room),
             ]
         }
+    }
+
+    /// What the figures of a list return.
+    pub fn figures(marks: &[i32], reply: &mut [i64]) -> u32 {
+        unsafe { pizwoter_figures(marks.as_ptr(), marks.len(), reply.as_mut_ptr(), reply.len()) }
+    }
+
+    /// And those of a class joined with itself.
+    pub fn join(t: Totals, reply: &mut [i64]) -> u32 {
+        unsafe { pizwoter_join(t.count, t.sum, t.squares, t.count, t.sum, t.squares, reply.as_mut_ptr(), reply.len()) }
     }
 }

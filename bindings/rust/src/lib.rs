@@ -1,11 +1,12 @@
 //! Pizwoter, the lesson engine of a crane simulator's control desk, as a safe Rust crate.
 //!
 //! A *program* (document 01: a script) is the bytes of a file of Dijkstra's Guarded Commands. The engine validates it, draws its program graph, steps and runs it,
-//! judges and solves sheets of signs for it. Every function here takes any bytes whatever and has one answer, which is proved to be the one of document 01:
-//! this crate only turns the C library's rows of numbers (`include/pizwoter.h`) into Rust's enums.
+//! judges and solves sheets of signs for it. Beside that it tells the mean and the variance of a class's marks (document 02). Every function here takes any bytes
+//! and any numbers whatever and has one answer, which is proved to be the one of the two documents: this crate only turns the C library's rows of numbers
+//! (`include/pizwoter.h`) into Rust's enums.
 //!
 //! ```
-//! use pizwoter::{judge, run, Ending, Mark, Verdict};
+//! use pizwoter::{judge, run, Ending, Fraction, Mark, Verdict};
 //!
 //! // y := 1; do x > 0 -> y := x * y; x := x - 1 od
 //! let lesson = include_bytes!("../tests/factorial.script");
@@ -17,6 +18,11 @@
 //! let mut sheet = [0; 32];
 //! let records = pizwoter::solve(lesson, &[4, 2], &mut sheet).unwrap();
 //! assert_eq!(judge(lesson, &[4, 2], &sheet[..records * 4]), Ok(Verdict::Accepted(Mark::Clean)));
+//!
+//! // A class with the marks 3, 4 and 4: the mean is 11/3, the variance 2/9.
+//! let class = pizwoter::figures(&[3, 4, 4]).unwrap();
+//! assert_eq!(class.mean, Fraction { numerator: 11, denominator: 3 });
+//! assert_eq!(class.variance, Fraction { numerator: 2, denominator: 9 });
 //! ```
 
 mod desk;
@@ -27,6 +33,9 @@ pub const MOST_ARROW_BYTES: usize = 255 * 7;
 /// The most records of a start list or of a sheet.
 pub const MOST_RECORDS: usize = 4096;
 
+/// The most marks of a class, and of two classes joined.
+pub const MOST_MARKS: usize = 4096;
+
 /// The two lists of records that a judgement reads.
 #[derive(Clone, Copy, Debug, PartialEq, Eq)]
 pub enum List {
@@ -34,10 +43,11 @@ pub enum List {
     Sheet,
 }
 
-/// A question of document 01 that is answered no.
+/// A question of document 01 or 02 that is answered no.
 #[derive(Clone, Copy, Debug, PartialEq, Eq)]
 pub enum Refusal {
-    /// Questions 1 to 16: the number, and the byte of the file that it concerns (0 where the question has no place).
+    /// Questions 1 to 16, 23 and 24: the number, and the byte of the file that it concerns, or for 24 the mark's number in the list (0 where the question has no
+    /// place).
     Question { number: u32, place: usize },
     /// Question 17: the list, and the place in it of its first wrong byte.
     WrongByte { list: List, place: usize },
@@ -166,6 +176,30 @@ pub struct Input<'a> {
 pub struct Split {
     pub record: u32,
     pub column: u32,
+}
+
+/// A class's totals: the number of its marks, their sum, and the sum of their squares.
+#[derive(Clone, Copy, Debug, PartialEq, Eq)]
+pub struct Totals {
+    pub count: u32,
+    pub sum: i64,
+    pub squares: i64,
+}
+
+/// A fraction in lowest terms: the denominator is positive, and zero is 0 over 1.
+#[derive(Clone, Copy, Debug, PartialEq, Eq)]
+pub struct Fraction {
+    pub numerator: i64,
+    pub denominator: i64,
+}
+
+/// The figures of a class, without rounding. The mean is the sum over the number of marks; the variance is the number times the sum of squares, less the square
+/// of the sum, over the number squared.
+#[derive(Clone, Copy, Debug, PartialEq, Eq)]
+pub struct Figures {
+    pub totals: Totals,
+    pub mean: Fraction,
+    pub variance: Fraction,
 }
 
 fn list(number: u32) -> List {
@@ -345,6 +379,31 @@ pub fn split(program: &[u8], place: u32) -> Result<Split, Refusal> {
     }
 }
 
+/// The figures of a class's marks: 1 to [`MOST_MARKS`] of them, else 23 is refused, each from -10,000 to 10,000, else 24 with the number of the first that is not.
+pub fn figures(marks: &[i32]) -> Result<Figures, Refusal> {
+    class(desk::figures(marks).numbers())
+}
+
+/// The figures of two classes joined, by their totals. Where each class's are those of a list of marks in the range, they are the [`figures`] of the two lists as one.
+///
+/// 23 is refused where both together have no mark or more than [`MOST_MARKS`], or where either has a sum beyond 10,000 per mark either way, a sum of squares below
+/// zero or beyond 100,000,000 per mark, or a variance below zero.
+pub fn join(first: Totals, second: Totals) -> Result<Figures, Refusal> {
+    class(desk::join(first, second).numbers())
+}
+
+fn class(row: &[i64]) -> Result<Figures, Refusal> {
+    match *row {
+        [0, count, sum, squares, mean, mean_over, variance, variance_over] => Ok(Figures {
+            totals: Totals { count: count as u32, sum, squares },
+            mean: Fraction { numerator: mean, denominator: mean_over },
+            variance: Fraction { numerator: variance, denominator: variance_over },
+        }),
+        [number, place, ..] => Err(Refusal::Question { number: number as u32, place: place as usize }),
+        _ => unreachable!("a refusal has its place"),
+    }
+}
+
 #[cfg(test)]
 mod tests {
     use super::*;
@@ -355,9 +414,35 @@ mod tests {
         let lesson = include_bytes!("../tests/factorial.script");
         for room in 0..desk::REPLY {
             let (mut buffer, mut memory, mut reply) = (vec![170; 2000], vec![3, 0], vec![7; room]);
-            let told = desk::short::all(lesson, &[4, 2], &[0, 0, 4, 2], &mut buffer, &mut memory, &mut reply);
+            let told = desk::lent::all(lesson, &[4, 2], &[0, 0, 4, 2], &mut buffer, &mut memory, &mut reply);
             assert_eq!(told, [0; 11]);
             assert!(buffer.iter().all(|&x| x == 170) && memory == [3, 0] && reply.iter().all(|&x| x == 7));
+        }
+    }
+
+    /// The same of class figures, whose replies are longer; and of a reply with room to spare the rest stays.
+    #[test]
+    fn class_figures_are_written_at_the_front_of_a_reply_or_not_at_all() {
+        let of_marks = |marks: &[i32], room| {
+            let mut reply = vec![7; room];
+            (desk::lent::figures(marks, &mut reply), reply)
+        };
+        let of_join = |count, sum, squares, room| {
+            let mut reply = vec![7; room];
+            (desk::lent::join(Totals { count, sum, squares }, &mut reply), reply)
+        };
+        for room in 0..desk::FIGURES_REPLY {
+            let nothing = (0, vec![7; room]);
+            assert_eq!([of_marks(&[3, 4, 4], room), of_marks(&[], room)], [nothing.clone(), nothing.clone()]);
+            assert_eq!([of_join(3, 11, 41, room), of_join(2, 3, 4, room)], [nothing.clone(), nothing]);
+        }
+        for spare in 0..3 {
+            let room = desk::FIGURES_REPLY + spare;
+            let row = |numbers: &[i64]| (numbers.len() as u32, [numbers, &vec![7; room - numbers.len()]].concat());
+            assert_eq!(of_marks(&[3, 4, 4], room), row(&[0, 3, 11, 41, 11, 3, 2, 9]));
+            assert_eq!(of_marks(&[10000, 10001, -10001], room), row(&[24, 1, 0, 0, 0, 0, 1, 0, 1]));
+            assert_eq!(of_join(3, 11, 41, room), row(&[0, 6, 22, 82, 11, 3, 2, 9]));
+            assert_eq!(of_join(2, 3, 4, room), row(&[23, 0, 0, 0, 0, 0, 1, 0, 1]));
         }
     }
 }
