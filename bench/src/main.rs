@@ -8,7 +8,7 @@ mod timing;
 
 use lessons::{Lesson, Walk};
 use oracle::making::Random;
-use pizwoter::{Ending, Mark, Outcome, Run, Verdict};
+use pizwoter::{Ending, Figures, Fraction, Mark, Outcome, Refusal, Run, Verdict};
 use timing::{side_by_side, Timed};
 
 fn main() {
@@ -57,6 +57,16 @@ fn main() {
             if wanted("solve") {
                 row("solve", &format!("{}, {} records", walk.title, grouped(records)), solve(&walk, records));
             }
+        }
+    }
+    for marks in [1, 30, 4096] {
+        if wanted("figures") {
+            row("figures", &format!("a list of {} marks", grouped(marks)), figures(marks));
+        }
+    }
+    for marks in [30, 2048] {
+        if wanted("figures") {
+            row("figures", &format!("two classes of {} marks joined", grouped(marks)), join(marks));
         }
     }
 }
@@ -181,4 +191,37 @@ fn solve(walk: &Walk, records: usize) -> Timed {
     assert_eq!(plain::solve(file, &start, &mut theirs), [0, records as u32]);
     assert_eq!(ours, theirs);
     side_by_side(|| pizwoter::solve(file, &start, &mut ours).is_ok(), || plain::solve(file, &start, &mut theirs)[0])
+}
+
+/// Marks all over the range, in no order.
+fn marks(count: usize) -> Vec<i32> {
+    let mut random = Random(20_261_117);
+    (0..count).map(|_| random.below(20_001) as i32 - 10_000).collect()
+}
+
+/// The engine's figures as the plain program's.
+fn told(figures: Result<Figures, Refusal>) -> plain::Figures {
+    let fraction = |f: Fraction| (f.numerator, f.denominator);
+    match figures {
+        Ok(f) => Ok(((f.totals.count, f.totals.sum, f.totals.squares), fraction(f.mean), fraction(f.variance))),
+        Err(Refusal::Question { number, place }) => Err((number, place)),
+        Err(refusal) => panic!("{refusal:?}"),
+    }
+}
+
+fn figures(count: usize) -> Timed {
+    let marks = marks(count);
+    let expected = plain::figures(&marks);
+    assert!(expected.is_ok() && told(pizwoter::figures(&marks)) == expected);
+    side_by_side(|| pizwoter::figures(&marks), || plain::figures(&marks))
+}
+
+/// Two classes, the halves of a list.
+fn join(count: usize) -> Timed {
+    let marks = marks(2 * count);
+    let [first, second] = [&marks[..count], &marks[count..]].map(|half| pizwoter::figures(half).unwrap().totals);
+    let [a, b]: [plain::Totals; 2] = [first, second].map(|t| (t.count, t.sum, t.squares));
+    let expected = plain::join(a, b);
+    assert!(expected.is_ok() && told(pizwoter::join(first, second)) == expected);
+    side_by_side(|| pizwoter::join(first, second), || plain::join(a, b))
 }

@@ -1,5 +1,6 @@
-//! Class figures: known answers, and random lists and joins against order 13 of document 02, worked out here in 128 bits.
+//! Class figures: known answers, and random lists and joins against the oracle.
 
+use oracle::language::No;
 use oracle::making::Random;
 use pizwoter::{figures, join, Figures, Fraction, Refusal, Totals};
 
@@ -82,50 +83,22 @@ fn joins_that_are_refused() {
     }
 }
 
-/// A number over a positive one, in lowest terms.
-fn lowest(z: i128, d: i128) -> (i64, i64) {
-    let (mut a, mut b) = (z.abs(), d);
-    while b > 0 {
-        (a, b) = (b, a % b);
-    }
-    (i64::try_from(z / a).unwrap(), i64::try_from(d / a).unwrap())
-}
-
-fn spread(t: Totals) -> i128 {
-    i128::from(t.count) * i128::from(t.squares) - i128::from(t.sum) * i128::from(t.sum)
-}
-
-fn figures_of(t: Totals) -> Result<Figures, Refusal> {
-    let count = i128::from(t.count);
-    told(t, lowest(t.sum.into(), count), lowest(spread(t), count * count))
+fn oracles(t: Totals) -> oracle::figures::Totals {
+    oracle::figures::Totals { count: t.count, sum: t.sum, squares: t.squares }
 }
 
 fn totals_of(marks: &[i32]) -> Totals {
-    let wide = || marks.iter().map(|&x| i64::from(x));
-    totals(marks.len() as u32, wide().sum(), wide().map(|x| x * x).sum())
+    let t = oracle::figures::Totals::of(marks);
+    totals(t.count, t.sum, t.squares)
 }
 
-fn expected(marks: &[i32]) -> Result<Figures, Refusal> {
-    if marks.is_empty() || marks.len() > 4096 {
-        return Err(REFUSED);
+/// The oracle's answer.
+fn expected(answer: Result<oracle::figures::Figures, oracle::figures::Refused>) -> Result<Figures, Refusal> {
+    let narrow = |f: oracle::figures::Fraction| (f.numerator.try_into().unwrap(), f.denominator.try_into().unwrap());
+    match answer {
+        Ok(f) => told(totals(f.totals.count, f.totals.sum, f.totals.squares), narrow(f.mean), narrow(f.variance)),
+        Err(oracle::figures::Refused { no: No(number, place), .. }) => Err(Refusal::Question { number, place }),
     }
-    match marks.iter().position(|x| !(-10_000..=10_000).contains(x)) {
-        Some(place) => outside(place),
-        None => figures_of(totals_of(marks)),
-    }
-}
-
-fn is_possible(t: Totals) -> bool {
-    let (count, sum, squares) = (i128::from(t.count), i128::from(t.sum), i128::from(t.squares));
-    sum.abs() <= 10_000 * count && (0..=100_000_000 * count).contains(&squares) && spread(t) >= 0
-}
-
-fn expected_of_join(a: Totals, b: Totals) -> Result<Figures, Refusal> {
-    let count = u64::from(a.count) + u64::from(b.count);
-    if !(1..=4096).contains(&count) || !is_possible(a) || !is_possible(b) {
-        return Err(REFUSED);
-    }
-    figures_of(totals(count as u32, a.sum + b.sum, a.squares + b.squares))
 }
 
 fn of<T: Copy>(r: &mut Random, pool: &[T]) -> T {
@@ -203,25 +176,25 @@ fn state(k: u64) -> Random {
 }
 
 #[test]
-fn random_lists_are_as_in_128_bits() {
+fn random_lists_are_the_oracle_s() {
     let mut fit = 0;
     for k in 1..=LISTS {
         let marks = any_marks(&mut state(k));
         let answer = figures(&marks);
-        assert_eq!(answer, expected(&marks), "{marks:?}");
+        assert_eq!(answer, expected(oracle::figures::of_list(&marks)), "{marks:?}");
         fit += u64::from(answer.is_ok());
     }
     assert!(LISTS / 4 < fit && fit < LISTS * 9 / 10, "{fit} of {LISTS} are fit");
 }
 
 #[test]
-fn random_joins_are_as_in_128_bits() {
+fn random_joins_are_the_oracle_s() {
     let mut fit = 0;
     for k in 1..=JOINS {
         let mut r = state(k);
         let (a, b) = (any_totals(&mut r), any_totals(&mut r));
         let answer = join(a, b);
-        assert_eq!(answer, expected_of_join(a, b), "{a:?} {b:?}");
+        assert_eq!(answer, expected(oracle::figures::of_join(oracles(a), oracles(b))), "{a:?} {b:?}");
         fit += u64::from(answer.is_ok());
     }
     assert!(JOINS / 4 < fit && fit < JOINS * 9 / 10, "{fit} of {JOINS} are fit");
