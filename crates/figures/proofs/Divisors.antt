@@ -1,7 +1,7 @@
 -- Euclid's algorithm gives the greatest common divisor: it divides both numbers, and every common divisor divides it.
-use Prim.Native.Nat.{ℕ, zero, suc, _*_, _/_, _%_, _≤_, _<_, _∣_}
-use mathlib.Core.Path.{_≡_, refl}
-use native.Mathlib.Nat.{zero-lt-suc, mod-lt, one-mul, dvd-refl, dvd-zero, dvd-mod-iff, pos-of-dvd-of-pos, div-mul-cancel, mul-dvd-mul-right, dvd-of-mul-dvd-mul-right, eq-one-of-dvd-one}
+use Prim.Native.Nat.{ℕ, zero, suc, _-_, _*_, _/_, _%_, _≤_, _<_, _∣_}
+use mathlib.Core.Path.{_≡_, refl, ap, _∙_}
+use native.Mathlib.Nat.{zero-lt-suc, zero-mul, one-mul, mul-comm, mul-assoc, mul-pos, mul-sub, mod-lt, mod-def, mul-div-mul-right, div-mul-cancel, dvd-refl, dvd-zero, dvd-mul-right, dvd-mod-iff, pos-of-dvd-of-pos, mul-dvd-mul-right, dvd-of-mul-dvd-mul-right, eq-one-of-dvd-one}
 use native.Mathlib.Omega.{arith}
 use Rattle.figures.specs.Fraction.{euclid, gcd}
 
@@ -70,3 +70,29 @@ module _ (a b : ℕ) where
       let scaled : (n : ℕ) → g ∣ n → k ∣ n / g → k * g ∣ n = λ n gn kn. rw (div-mul-cancel g gn) at (mul-dvd-mul-right k kn g) in
       let most : k * g ∣ 1 * g = rw one-mul (gcd-greatest (k * g) (scaled a gcd-left ka) (scaled b gcd-right kb)) in
       eq-one-of-dvd-one (dvd-of-mul-dvd-mul-right k (gcd-some h) most)
+
+-- ---- Multiples
+
+-- the remainder of multiples, and their greatest common divisor
+remainder-scaled : (a b c : ℕ) → 0 < c → a * c % (b * c) ≡ a % b * c
+remainder-scaled a b c h =
+    rw (mod-def (a * c) (b * c), mul-div-mul-right a b h, mod-def a b, mul-comm (a - b * (a / b)) c, mul-sub c a (b * (a / b)), mul-comm a c, mul-comm b c, mul-assoc c b (a / b))
+
+scaled : (n a b c : ℕ) → 0 < c → b ≤ n → gcd (a * c) (b * c) ≡ euclid n a b * c
+unfolding euclid
+scaled zero a zero c h k = rw (zero-mul c) (gcd-zero (a * c))
+scaled zero a (suc b) c h k = absurd (omega arith)
+scaled (suc n) a zero c h k = rw (zero-mul c) (gcd-zero (a * c))
+scaled (suc n) a (suc b) c h k =
+    gcd-step (a * c) (suc b * c) (mul-pos (zero-lt-suc b) h)
+    ∙ ap (gcd (suc b * c)) (remainder-scaled a (suc b) c h)
+    ∙ scaled n (suc b) (a % suc b) c h (left a b k)
+
+-- a number that divides a product, and has no divisor in common with one factor but 1, divides the other factor
+pub divides-other : (m n c : ℕ) → ((k : ℕ) → k ∣ m → k ∣ n → k ≡ 1) → m ∣ n * c → m ∣ c
+unfolding gcd
+divides-other m n zero apart h = dvd-zero m
+divides-other m n (suc c) apart h =
+    let one : gcd n m ≡ 1 = apart (gcd n m) (gcd-right n m) (gcd-left n m) in
+    let all : gcd (n * suc c) (m * suc c) ≡ suc c = scaled m n m (suc c) (zero-lt-suc c) (omega arith) ∙ ap (λ g. g * suc c) one ∙ one-mul (suc c) in
+    rw all at (gcd-greatest (n * suc c) (m * suc c) m h (dvd-mul-right m (suc c)))

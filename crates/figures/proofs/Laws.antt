@@ -10,6 +10,7 @@ use Rattle.program.specs.declared.Validity.the-variants.{Fit}
 use Rattle.figures.specs.Figures.{InRange, variance, listFigures, joinFigures, Exact}
 use Rattle.figures.specs.Fraction.{gcd, lowest, nought, LowestTerms}
 use Rattle.figures.specs.Totals.{longest, totals}
+use Rattle.figures.specs.declared.Fraction.{Fraction}
 use Rattle.figures.specs.declared.Totals.{Totals}
 use Rattle.figures.proofs.Divisors
 use Rattle.figures.proofs.Exactness
@@ -32,6 +33,10 @@ gcd-greatest = Divisors.gcd-greatest
 -- "lowest-terms fractions with a positive denominator, zero as 0 over 1"
 pub lowest-terms : (z : ℤ) (d : ℕ) → 0 < d → LowestTerms z d (lowest z d)
 lowest-terms = Lowest.lowest-terms
+
+-- and there is no other such fraction: what is above says all of `lowest`
+pub lowest-only : (z : ℤ) (d : ℕ) → 0 < d → (f : Fraction) → LowestTerms z d f → f ≡ lowest z d
+lowest-only = Lowest.lowest-only
 
 pub lowest-zero : (d : ℕ) → 0 < d → lowest (pos 0) d ≡ nought
 lowest-zero = Lowest.lowest-zero
