@@ -1,4 +1,4 @@
--- Integers: the two tests of order, and a magnitude from bounds on either side.
+-- Integers: the two tests of order, magnitudes and bounds, and a natural number in signed 64 bits.
 use Prim.Native.Nat.{ℕ, zero, suc, _+_, _*_, _≤_}
 use mathlib.Core.Path.{_≡_, refl, ap}
 use mathlib.Core.Bool.{Bool, true, false, not, false≢true}
@@ -8,6 +8,9 @@ use borrow.Author.Tests.{leb-true, ltb-true, ltb-false, lt-leb, le-leb}
 use lib.Dec.{leb, ltb, leb·zero}
 use lib.IntN.{ℤ, pos, negsuc, negℤ, natAbs, _+ℤ_}
 use lib.Signed.{leZ, ltZ}
+use mir.Syntax.{w64}
+use mir.Val.{toZ}
+use mir.ValLaws.{toZ-ofZ}
 use Rattle.signs.proofs.Signed as Signed
 
 -- one number is at most another where the other is not below it
@@ -46,3 +49,7 @@ not-below-zero (negsuc a) b h k = absurd (false≢true h)
 -- two numbers within so much for each of a count, added
 pub within-each : (m n k : ℕ) (a b : ℤ) → natAbs a ≤ m * n → natAbs b ≤ m * k → natAbs (a +ℤ b) ≤ m * (n + k)
 within-each m n k a b h l = rw (mul-add m n k) (omega (arith, Signed.sum a b))
+
+-- a natural number that was cast is read back
+pub natural : (n : ℕ) → n ≤ 4611686018427387904 → toZ w64 n ≡ pos n
+natural n h = toZ-ofZ w64 (pos n) (Signed.fits (pos n) h)

@@ -1,7 +1,6 @@
 pub mod Open
 pub mod Divisors
 pub mod Integers
-pub mod Numbers
 pub mod Sums
 pub mod Squares
 pub mod Limits

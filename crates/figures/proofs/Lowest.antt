@@ -49,7 +49,7 @@ lowest-terms z d h =
 
 -- "zero as 0 over 1"
 pub lowest-zero : (d : ℕ) → 0 < d → lowest (pos 0) d ≡ nought
-unfolding lowest nought
+unfolding lowest
 lowest-zero d h =
     let all : gcd 0 d ≡ d = gcd-step 0 d h ∙ ap (gcd d) (zero-mod d) ∙ gcd-zero d in
     rw (all, zero-div d, div-self h)

@@ -22,7 +22,7 @@ unfoldable pub lowest : ℤ → ℕ → Fraction
 lowest z d = record { numerator = quotZ z (pos (gcd (natAbs z) d)); denominator = pos (d / gcd (natAbs z) d) }
 
 -- "zero as 0 over 1"
-unfoldable pub nought : Fraction
+abbrev pub nought : Fraction
 nought = record { numerator = pos 0; denominator = pos 1 }
 
 -- what a fraction in lowest terms is: the same ratio as an integer over a number, "with a positive denominator", and with no common divisor but 1.

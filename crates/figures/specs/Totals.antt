@@ -30,7 +30,7 @@ square x = x *ℤ x
 unfoldable pub totals : List ℤ → Totals
 totals marks = record { count = length marks; sum = sumOf marks; squares = sumOf (map square marks) }
 
-unfoldable pub none : Totals
+abbrev pub none : Totals
 none = record { count = 0; sum = pos 0; squares = pos 0 }
 
 unfoldable pub joined : Totals → Totals → Totals

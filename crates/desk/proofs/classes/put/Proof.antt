@@ -6,7 +6,7 @@ use borrow.Author.Needs.{needs}
 use lib.ListN.{length, set, length-set}
 use lib.IntN.{pos}
 use Rattle.signs.proofs.Signed.{fits}
-use Rattle.figures.proofs.Numbers.{natural}
+use Rattle.figures.proofs.Integers.{natural}
 use Rattle.figures.specs.Figures.{fractionNumbers, totalsNumbers}
 use Rattle.desk.specs.Reply.{figuresRoom}
 use Rattle.desk.proofs.Written.{over-length, figures-short, fit-written, refused-written}

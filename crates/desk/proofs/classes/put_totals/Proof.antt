@@ -9,7 +9,7 @@ use lib.Seq.{sets-eq}
 use mir.Syntax.{w64}
 use mir.ValLaws.{toZ-ofZ}
 use Rattle.figures.specs.Figures.{totalsNumbers}
-use Rattle.figures.proofs.Numbers.{natural}
+use Rattle.figures.proofs.Integers.{natural}
 use Rattle.desk.specs.Reply.{overAt}
 use Rattle.desk.proofs.classes.put_totals.Statement.{statement}
 use Rattle.desk.proofs.classes.put_totals.Tie as tie

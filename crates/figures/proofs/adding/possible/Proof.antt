@@ -12,8 +12,7 @@ use mir.Val.{SFits, toZ, ofZ}
 use mir.ValLaws.{toZ-ofZ}
 use Rattle.signs.proofs.Signed.{fits, less, magnitude}
 use Rattle.figures.specs.Totals.{possible, spread}
-use Rattle.figures.proofs.Integers.{not-below, between, upward}
-use Rattle.figures.proofs.Numbers.{natural}
+use Rattle.figures.proofs.Integers.{not-below, between, upward, natural}
 use Rattle.figures.proofs.adding.possible.Statement.{statement}
 use Rattle.figures.proofs.adding.possible.Tie as tie
 

@@ -9,7 +9,7 @@ use mir.ValLaws.{toZ-ofZ}
 use Rattle.signs.proofs.Signed.{fits}
 use Rattle.figures.specs.Totals.{square, spread}
 use Rattle.figures.proofs.Limits.{first-small, second-small, spread-small}
-use Rattle.figures.proofs.Numbers.{natural}
+use Rattle.figures.proofs.Integers.{natural}
 use Rattle.figures.proofs.adding.spread.Statement.{statement}
 use Rattle.figures.proofs.adding.spread.Tie as tie
 

@@ -12,7 +12,7 @@ use mir.ValLaws.{toZ-ofZ}
 use Rattle.signs.proofs.Signed.{fits, quotient}
 use Rattle.figures.specs.Fraction.{gcd, lowest}
 use Rattle.figures.proofs.Divisors.{gcd-right, gcd-some}
-use Rattle.figures.proofs.Numbers.{natural}
+use Rattle.figures.proofs.Integers.{natural}
 use Rattle.figures.proofs.reducing.lowest.Statement.{statement}
 use Rattle.figures.proofs.reducing.lowest.Tie as tie
 

@@ -3,6 +3,7 @@ use Prim.Native.Nat.{_≤_}
 use mathlib.Core.Path.{_≡_, ap, _∙_}
 use mathlib.Core.Bool.{true, false, true≢false}
 use native.Mathlib.Omega.{arith}
+use borrow.Author.Needs.{needs}
 use borrow.Author.Tests.{ltb-true}
 use lib.Dec.{T}
 use lib.IntN.{ℤ, pos, negsuc, negℤ, natAbs, _-ℤ_, +ℤ-idl}
@@ -15,15 +16,16 @@ use Rattle.signs.proofs.Signed.{less, fits, opposite}
 use Rattle.figures.proofs.reducing.magnitude.Statement.{statement}
 use Rattle.figures.proofs.reducing.magnitude.Tie as tie
 
--- the opposite, as the machine makes it
-flipped : (z : ℤ) → SFits w64 z → pos 0 -ℤ toZ w64 (ofZ w64 z) ≡ negℤ z
-flipped z f = rw (toZ-ofZ w64 z f) (+ℤ-idl (negℤ z))
+module _ (z : ℤ) (f : SFits w64 z) (h : natAbs z ≤ 4611686018427387904) where
+  -- the opposite, as the machine makes it
+  flipped : pos 0 -ℤ toZ w64 (ofZ w64 z) ≡ negℤ z
+  flipped = rw (toZ-ofZ w64 z f) (+ℤ-idl (negℤ z))
 
-flipped-fits : (z : ℤ) → SFits w64 z → natAbs z ≤ 4611686018427387904 → SFits w64 (pos 0 -ℤ toZ w64 (ofZ w64 z))
-flipped-fits z f h = rw (flipped z f) (fits (negℤ z) (omega (arith, opposite z)))
+  flipped-fits : SFits w64 (pos 0 -ℤ toZ w64 (ofZ w64 z))
+  flipped-fits = rw flipped (fits (negℤ z) (omega (arith, opposite z)))
 
-flipped-read : (z : ℤ) → SFits w64 z → natAbs z ≤ 4611686018427387904 → toZ w64 (ofZ w64 (pos 0 -ℤ toZ w64 (ofZ w64 z))) ≡ negℤ z
-flipped-read z f h = toZ-ofZ w64 _ (flipped-fits z f h) ∙ flipped z f
+  flipped-read : toZ w64 (ofZ w64 (pos 0 -ℤ toZ w64 (ofZ w64 z))) ≡ negℤ z
+  flipped-read = toZ-ofZ w64 _ flipped-fits ∙ flipped
 
 -- what the tests say of the number, and of its opposite
 negative : (z : ℤ) → natAbs z ≤ 4611686018427387904 → ltZ z (pos 0) ≡ true → T (nonNeg (negℤ z)) × Fits w64 (natAbs (negℤ z))
@@ -45,13 +47,8 @@ cast-result-2 c =
     rw (toZ-ofZ w64 (s .args .z) (s .fits .z)) (natural (s .args .z) (s .pre) (less w64 (s .args .z) (pos 0) (s .fits .z) (sfits-lit tt) (c .if1 .left)))
 
 returns : tie.Need-returns
-returns c =
-    let s = c .before in
-    ap natAbs (flipped-read (s .args .z) (s .fits .z) (s .pre)) ∙ opposite (s .args .z)
-
-returns-2 : tie.Need-returns-2
-returns-2 c = ap natAbs (toZ-ofZ w64 (c .before .args .z) (c .before .fits .z))
+returns c = let s = c .before in ap natAbs (flipped-read (s .args .z) (s .fits .z) (s .pre)) ∙ opposite (s .args .z)
 
 pub magnitude-spec : {M : Type 1} → statement M
 magnitude-spec =
-    tie.close (tie.spec (λ c. flipped-fits (c .before .args .z) (c .before .fits .z) (c .before .pre)) cast-result cast-result-2 returns returns-2)
+    tie.close (tie.spec (λ c. flipped-fits (c .before .args .z) (c .before .fits .z) (c .before .pre)) cast-result cast-result-2 returns (λ c. search needs))
