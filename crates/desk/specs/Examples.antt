@@ -5,8 +5,9 @@ use lib.ListN.{replicate}
 use Rattle.signs.specs.Case.{Case, _gives_, row, minus}
 use Rattle.program.specs.Examples.{factorial, field}
 use Rattle.analysis.specs.Examples.{firstSeven, factorialSheet, factorialStart}
+use Rattle.figures.specs.Totals.{class}
 use Rattle.desk.specs.Reply.{replied, told, figuresReplied, figuresTold}
-use Rattle.desk.specs.Rows.{validated, parts, drew, standing, stepped, ran, judged, offended, marked, solved, split, figured, class, joined}
+use Rattle.desk.specs.Rows.{validated, parts, drew, standing, stepped, ran, judged, offended, marked, solved, split, figured, joined}
 
 -- "The sheet without record 7: 42, record 5, arrow 4", into a reply with room for five numbers and into one that is too short
 unfoldable pub replies : List Case

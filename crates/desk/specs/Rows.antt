@@ -94,10 +94,6 @@ split s place = Splitter.splitNumbers (Splitter.split s place)
 unfoldable pub figured : List ℤ → List ℤ
 figured marks = figuresNumbers (listFigures marks)
 
--- a class's totals by their numbers, as a join takes them
-abbrev pub class : ℕ → ℤ → ℤ → Totals
-class n s q = record { count = n; sum = s; squares = q }
-
 -- the figures of two classes joined: the same numbers
 unfoldable pub joined : Totals → Totals → List ℤ
 joined a b = figuresNumbers (joinFigures a b)

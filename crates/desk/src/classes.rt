@@ -5,6 +5,7 @@ ghost use mathlib.Core.Path.{_≡_};
 ghost use mathlib.Core.List.{[], _∷_, _++_};
 ghost use Rattle.program.specs.declared.Refusal.{Refusal};
 ghost use Rattle.figures.specs.Figures as Class;
+ghost use Rattle.figures.specs.Totals as sums;
 ghost use Rattle.desk.specs.Reply as spec;
 ghost use Rattle.desk.specs.Rows as row;
 use figures::Figures;
@@ -19,7 +20,7 @@ const ROOM: usize = 9;
 // A count and two sums into a reply, from a place on.
 fn put_totals(count: u32, sum: i64, squares: i64, at: usize, reply: &mut [i64])
     requires { do ⌜ at + 3 ≤ (← ⟦reply.len()⟧) ⌝ }
-    ensures { λ _. ⌜ now (reply .exit) ≡ spec.overAt at (Class.totalsNumbers (row.class count sum squares)) (now (reply .entry)) ⌝ }
+    ensures { λ _. ⌜ now (reply .exit) ≡ spec.overAt at (Class.totalsNumbers (sums.class count sum squares)) (now (reply .entry)) ⌝ }
 {
     reply[at] = count as i64;
     reply[at + 1] = sum;
@@ -90,8 +91,8 @@ pub extern "C" fn pizwoter_join(
     second_squares: i64,
     reply: &mut [i64],
 ) -> u32
-    ensures { λ r. ⌜ (r ≡ spec.figuresTold (row.joined (row.class «first_count» «first_sum» «first_squares») (row.class «second_count» «second_sum» «second_squares»)) (now (reply .entry)))
-        × (now (reply .exit) ≡ spec.figuresReplied (row.joined (row.class «first_count» «first_sum» «first_squares») (row.class «second_count» «second_sum» «second_squares»)) (now (reply .entry))) ⌝ }
+    ensures { λ r. ⌜ (r ≡ spec.figuresTold (row.joined (sums.class «first_count» «first_sum» «first_squares») (sums.class «second_count» «second_sum» «second_squares»)) (now (reply .entry)))
+        × (now (reply .exit) ≡ spec.figuresReplied (row.joined (sums.class «first_count» «first_sum» «first_squares») (sums.class «second_count» «second_sum» «second_squares»)) (now (reply .entry))) ⌝ }
 {
     let first = Totals {
         count: first_count,

@@ -12,7 +12,7 @@ use lib.IntN.{ℤ, pos, negsuc, natAbs, _+ℤ_, _-ℤ_}
 use lib.ListN.{length}
 use lib.Signed.{leZ}
 use Rattle.signs.proofs.Signed as Signed
-use Rattle.figures.specs.Totals.{sumOf, square, totals, joined, spread}
+use Rattle.figures.specs.Totals.{class, sumOf, square, totals, joined, spread}
 use Rattle.figures.specs.declared.Totals.{Totals}
 
 -- ---- Naturals
@@ -93,7 +93,7 @@ left-over a (suc b) = go (ltb a (suc b)) refl
     go false e = leb·zero (a - suc b) ∙ sym (le-leb (suc b) a (ltb-false a (suc b) e))
 
 -- the spread of totals, by magnitudes
-spread-by : (n q : ℕ) (z : ℤ) → leZ (pos 0) (spread (record { count = n; sum = z; squares = pos q })) ≡ leb (natAbs z * natAbs z) (n * q)
+spread-by : (n q : ℕ) (z : ℤ) → leZ (pos 0) (spread (class n z (pos q))) ≡ leb (natAbs z * natAbs z) (n * q)
 unfolding spread
 spread-by n q (pos s) = left-over (n * q) (s * s)
 spread-by n q (negsuc s) = left-over (n * q) (suc s * suc s)
@@ -116,9 +116,9 @@ classes n m p q u v h k =
     rw (squared u v, add-mul n m (p + q), mul-add n p q, mul-add m p q) (omega (arith, between (u * v) (n * q) (m * p) cross))
 
 both-spread : (n m : ℕ) (s t p q : ℤ) → leZ (pos 0) p ≡ true → leZ (pos 0) q ≡ true
-    → leZ (pos 0) (spread (record { count = n; sum = s; squares = p })) ≡ true
-    → leZ (pos 0) (spread (record { count = m; sum = t; squares = q })) ≡ true
-    → leZ (pos 0) (spread (record { count = n + m; sum = s +ℤ t; squares = p +ℤ q })) ≡ true
+    → leZ (pos 0) (spread (class n s p)) ≡ true
+    → leZ (pos 0) (spread (class m t q)) ≡ true
+    → leZ (pos 0) (spread (class (n + m) (s +ℤ t) (p +ℤ q))) ≡ true
 both-spread n m s t (negsuc p) q hp hq x y = absurd (false≢true hp)
 both-spread n m s t (pos p) (negsuc q) hp hq x y = absurd (false≢true hq)
 both-spread n m s t (pos p) (pos q) hp hq x y =

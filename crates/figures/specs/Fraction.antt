@@ -26,13 +26,13 @@ abbrev pub nought : Fraction
 nought = record { numerator = pos 0; denominator = pos 1 }
 
 -- what a fraction in lowest terms is: the same ratio as an integer over a number, "with a positive denominator", and with no common divisor but 1.
--- `proofs/Laws` shows it of `lowest`
+-- `proofs/Laws` shows it of `lowest`, and that no other fraction is so
 pub record LowestTerms (z : ℤ) (d : ℕ) (f : Fraction) : Type 0 where
   pub ratio : f .numerator *ℤ pos d ≡ z *ℤ f .denominator
   pub positive : leZ (pos 1) (f .denominator) ≡ true
   pub coprime : (k : ℕ) → k ∣ natAbs (f .numerator) → k ∣ natAbs (f .denominator) → k ≡ 1
 
--- what 64 bits can reduce: the number fits with either sign, and the denominator is positive and fits
+-- what 64 bits can reduce: a number of at most 2 ^ 62 either way, over a positive one of at most so much
 pub record Reducible (z : ℤ) (d : ℕ) : Type 0 where
   pub whole : natAbs z ≤ 4611686018427387904
   pub some : 0 < d

@@ -26,15 +26,19 @@ sumOf (x ∷ xs) = x +ℤ sumOf xs
 abbrev pub square : ℤ → ℤ
 square x = x *ℤ x
 
+-- a class's totals by their numbers
+abbrev pub class : ℕ → ℤ → ℤ → Totals
+class n s q = record { count = n; sum = s; squares = q }
+
 -- "counts, sums and sums of squares": the totals of a list of marks, those of no mark, and those of two classes joined
 unfoldable pub totals : List ℤ → Totals
-totals marks = record { count = length marks; sum = sumOf marks; squares = sumOf (map square marks) }
+totals marks = class (length marks) (sumOf marks) (sumOf (map square marks))
 
 abbrev pub none : Totals
-none = record { count = 0; sum = pos 0; squares = pos 0 }
+none = class 0 (pos 0) (pos 0)
 
 unfoldable pub joined : Totals → Totals → Totals
-joined a b = record { count = a .count + b .count; sum = a .sum +ℤ b .sum; squares = a .squares +ℤ b .squares }
+joined a b = class (a .count + b .count) (a .sum +ℤ b .sum) (a .squares +ℤ b .squares)
 
 -- "the number times the sum of squares, less the square of the sum": what the variance has over the number squared
 unfoldable pub spread : Totals → ℤ

@@ -42,8 +42,8 @@ pub(crate) fn none() -> Totals
 
 // The number times the sum of squares, less the square of the sum.
 pub(crate) fn spread(count: u32, sum: i64, squares: i64) -> i64
-    requires { ⌜ Bounded (record { count = count; sum = sum; squares = squares }) ⌝ }
-    ensures { λ r. ⌜ r ≡ spec.spread (record { count = count; sum = sum; squares = squares }) ⌝ }
+    requires { ⌜ Bounded (spec.class count sum squares) ⌝ }
+    ensures { λ r. ⌜ r ≡ spec.spread (spec.class count sum squares) ⌝ }
 {
     count as i64 * squares - sum * sum
 }
@@ -51,7 +51,7 @@ pub(crate) fn spread(count: u32, sum: i64, squares: i64) -> i64
 // Whether a class of so many marks can have these sums: no number wraps, since the limits are asked about before anything is multiplied.
 pub(crate) fn possible(count: u32, sum: i64, squares: i64) -> bool
     requires { ⌜ count ≤ spec.longest ⌝ }
-    ensures { λ r. ⌜ r ≡ spec.possible (record { count = count; sum = sum; squares = squares }) ⌝ }
+    ensures { λ r. ⌜ r ≡ spec.possible (spec.class count sum squares) ⌝ }
 {
     let number = count as i64;
     if sum < -10000 * number {

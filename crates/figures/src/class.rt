@@ -68,11 +68,21 @@ fn refused(x: Refusal) -> Figures
     }
 }
 
+// 23, which has no place.
+fn unfit() -> Figures
+    ensures { λ r. ⌜ r ≡ spec.figuresBy (Validity.Refused (record { number = 23; offset = 0 })) sums.none ⌝ }
+{
+    refused(Refusal {
+        number: 23,
+        offset: 0,
+    })
+}
+
 // The figures of a class with these totals.
 fn of_totals(count: u32, sum: i64, squares: i64) -> Figures
     requires { ⌜ 1 ≤ count ⌝ }
-    requires { ⌜ Bounded (record { count = count; sum = sum; squares = squares }) ⌝ }
-    ensures { λ r. ⌜ r ≡ spec.figuresBy Fit (record { count = count; sum = sum; squares = squares }) ⌝ }
+    requires { ⌜ Bounded (sums.class count sum squares) ⌝ }
+    ensures { λ r. ⌜ r ≡ spec.figuresBy Fit (sums.class count sum squares) ⌝ }
 {
     let number = count as u64;
     let spread = adding::spread(count, sum, squares);
@@ -112,27 +122,18 @@ fn of_both(
     second_sum: i64,
     second_squares: i64,
 ) -> Figures
-    ensures { λ r. ⌜ r ≡ spec.joinFigures (record { count = «first_count»; sum = «first_sum»; squares = «first_squares» })
-        (record { count = «second_count»; sum = «second_sum»; squares = «second_squares» }) ⌝ }
+    ensures { λ r. ⌜ r ≡ spec.joinFigures (sums.class «first_count» «first_sum» «first_squares»)
+        (sums.class «second_count» «second_sum» «second_squares») ⌝ }
 {
     let count = first_count as u64 + second_count as u64;
     if !countable(count) {
-        return refused(Refusal {
-            number: 23,
-            offset: 0,
-        });
+        return unfit();
     }
     if !adding::possible(first_count, first_sum, first_squares) {
-        return refused(Refusal {
-            number: 23,
-            offset: 0,
-        });
+        return unfit();
     }
     if !adding::possible(second_count, second_sum, second_squares) {
-        return refused(Refusal {
-            number: 23,
-            offset: 0,
-        });
+        return unfit();
     }
     of_totals(
         count as u32,

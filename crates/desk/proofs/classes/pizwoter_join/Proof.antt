@@ -3,8 +3,9 @@ use borrow.Author.Needs.{needs}
 use mathlib.Core.Path.{_≡_, ap, _∙_}
 use Rattle.figures.proofs.Limits.{handed, handed-is}
 use Rattle.figures.specs.Figures.{joinFigures, figuresNumbers}
+use Rattle.figures.specs.Totals.{class}
 use Rattle.figures.specs.declared.Totals.{Totals}
-use Rattle.desk.specs.Rows.{class, joined}
+use Rattle.desk.specs.Rows.{joined}
 use Rattle.desk.proofs.Places.{join-narrow}
 use Rattle.desk.proofs.Written.{figures-as}
 use Rattle.desk.proofs.classes.pizwoter_join.Statement.{statement}

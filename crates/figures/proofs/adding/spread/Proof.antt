@@ -7,7 +7,7 @@ use mir.Syntax.{w64}
 use mir.Val.{SFits, toZ, ofZ}
 use mir.ValLaws.{toZ-ofZ}
 use Rattle.signs.proofs.Signed.{fits}
-use Rattle.figures.specs.Totals.{square, spread}
+use Rattle.figures.specs.Totals.{class, square, spread}
 use Rattle.figures.proofs.Limits.{first-small, second-small, spread-small}
 use Rattle.figures.proofs.Integers.{natural}
 use Rattle.figures.proofs.adding.spread.Statement.{statement}
@@ -28,12 +28,12 @@ module _ (c : tie.Start) where
 
   -- the difference of the two, as the machine reads them
   difference-is : toZ w64 (ofZ w64 (toZ w64 (c .args .count) *ℤ toZ w64 (ofZ w64 (c .args .squares)))) -ℤ toZ w64 (ofZ w64 (toZ w64 (ofZ w64 (c .args .sum)) *ℤ toZ w64 (ofZ w64 (c .args .sum))))
-      ≡ spread (record { count = c .args .count; sum = c .args .sum; squares = c .args .squares })
+      ≡ spread (class (c .args .count) (c .args .sum) (c .args .squares))
   unfolding spread
   difference-is = rw (toZ-ofZ w64 _ one-fits, one-is, toZ-ofZ w64 _ two-fits, two-is)
 
   difference-fits : SFits w64 (toZ w64 (ofZ w64 (toZ w64 (c .args .count) *ℤ toZ w64 (ofZ w64 (c .args .squares)))) -ℤ toZ w64 (ofZ w64 (toZ w64 (ofZ w64 (c .args .sum)) *ℤ toZ w64 (ofZ w64 (c .args .sum)))))
-  difference-fits = rw difference-is (fits (spread (record { count = c .args .count; sum = c .args .sum; squares = c .args .squares })) (omega (arith, spread-small _ (c .pre))))
+  difference-fits = rw difference-is (fits (spread (class (c .args .count) (c .args .sum) (c .args .squares))) (omega (arith, spread-small _ (c .pre))))
 
 pub spread-spec : {M : Type 1} → statement M
 spread-spec =

@@ -9,7 +9,7 @@ use Rattle.signs.proofs.Signed.{fits}
 use Rattle.program.specs.declared.Validity.the-variants.{Fit}
 use Rattle.figures.specs.Bounds.{Bounded}
 use Rattle.figures.specs.Figures.{figuresBy}
-use Rattle.figures.specs.Totals.{countable, possible}
+use Rattle.figures.specs.Totals.{class, countable, possible}
 use Rattle.figures.specs.declared.Totals.{Totals}
 use Rattle.figures.proofs.Limits.{handed-is, Counted, counted, possible-bounded, joined-bounded, sums-fit, squares-fit, joined-read}
 use Rattle.figures.proofs.Replies.{join-fit, join-refused}
@@ -18,10 +18,10 @@ use Rattle.figures.proofs.class.of_both.Tie as tie
 
 -- the two classes
 abbrev first : tie.Start → Totals
-first s = record { count = s .args .first-count; sum = s .args .first-sum; squares = s .args .first-squares }
+first s = class (s .args .first-count) (s .args .first-sum) (s .args .first-squares)
 
 abbrev second : tie.Start → Totals
-second s = record { count = s .args .second-count; sum = s .args .second-sum; squares = s .args .second-squares }
+second s = class (s .args .second-count) (s .args .second-sum) (s .args .second-squares)
 
 -- what each test was answered
 count-told : (c : tie.After-countable) → countable (first (c .before) .count + second (c .before) .count) ≡ c .countable .result
@@ -50,20 +50,20 @@ returns : tie.Need-returns
 returns c =
     let d = c .before in
     let s = d .before .before in
-    c .refused .ensures ∙ sym (join-refused (first s) (second s) (rw (count-told (d .before), not-true (d .before .countable .result) (d .if1 .taken))))
+    c .unfit .ensures ∙ sym (join-refused (first s) (second s) (rw (count-told (d .before), not-true (d .before .countable .result) (d .if1 .taken))))
 
 returns-2 : tie.Need-returns-2
 returns-2 c =
     let d = c .before in
     let s = d .before .before .before .before in
-    c .refused2 .ensures
+    c .unfit2 .ensures
     ∙ sym (join-refused (first s) (second s) (rw (count-passed (d .before .before), first-told (d .before), not-true (d .before .possible .result) (d .if2 .taken))))
 
 returns-3 : tie.Need-returns-3
 returns-3 c =
     let d = c .before in
     let s = d .before .before .before .before .before .before in
-    c .refused3 .ensures
+    c .unfit3 .ensures
     ∙ sym (join-refused (first s) (second s)
     (rw (count-passed (d .before .before .before .before), first-passed (d .before .before), second-told (d .before), not-true (d .before .possible2 .result) (d .if3 .taken))))
 

@@ -6,7 +6,7 @@ use mir.Syntax.{w64}
 use mir.ValLaws.{toZ-ofZ}
 use Rattle.figures.specs.Figures.{mean, variance, figuresBy}
 use Rattle.figures.specs.Fraction.{lowest}
-use Rattle.figures.specs.Totals.{spread}
+use Rattle.figures.specs.Totals.{class, spread}
 use Rattle.figures.proofs.Limits.{spread-small}
 use Rattle.figures.proofs.class.of_totals.Statement.{statement}
 use Rattle.figures.proofs.class.of_totals.Tie as tie
@@ -15,7 +15,7 @@ spread-requires : tie.Need-spread-requires
 spread-requires c κs = rw (toZ-ofZ w64 (c .args .sum) (c .fits .sum), toZ-ofZ w64 (c .args .squares) (c .fits .squares)) (c .pre .1)
 
 -- the spread that was worked out
-told : (c : tie.After-spread) → c .spread .result ≡ spread (record { count = c .before .args .count; sum = c .before .args .sum; squares = c .before .args .squares })
+told : (c : tie.After-spread) → c .spread .result ≡ spread (class (c .before .args .count) (c .before .args .sum) (c .before .args .squares))
 told c =
     let s = c .before in
     c .spread .ensures ∙ rw (toZ-ofZ w64 (s .args .sum) (s .fits .sum), toZ-ofZ w64 (s .args .squares) (s .fits .squares))
