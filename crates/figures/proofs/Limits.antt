@@ -17,7 +17,7 @@ use Rattle.signs.proofs.Signed as Signed
 use Rattle.program.proofs.Laws.{ask-fit, then-first, then-second, each-fit}
 use Rattle.program.proofs.Tests.{two, three}
 use Rattle.program.specs.declared.Validity.the-variants.{Fit}
-use Rattle.figures.specs.Bounds.{Bounded}
+use Rattle.figures.specs.Bounds.{Limited, Bounded}
 use Rattle.figures.specs.Figures.{inRange, InRange, markValidity, listValidity}
 use Rattle.figures.specs.Totals.{longest, highest, highestSquare, square, totals, joined, spread, countable, possible}
 use Rattle.figures.specs.declared.Totals.{Totals}
@@ -61,8 +61,7 @@ small-squares marks most k h =
 -- ---- Totals that a class can have, in magnitudes
 
 pub record Possible (t : Totals) : Type 0 where
-  pub low : natAbs (t .sum) ≤ highest * t .count
-  pub small : natAbs (t .squares) ≤ highestSquare * t .count
+  pub limits : Limited t
   pub natural : leZ (pos 0) (t .squares) ≡ true
   pub spread : leZ (pos 0) (spread t) ≡ true
 
@@ -72,8 +71,7 @@ possible-told t e =
     let last = two _ _ e in
     let tests = four _ _ _ _ (last .0) in
     record {
-      low = between _ (t .sum) (tests .0) (tests .1);
-      small = upward _ (t .squares) (tests .2) (tests .3);
+      limits = record { low = between _ (t .sum) (tests .0) (tests .1); small = upward _ (t .squares) (tests .2) (tests .3) };
       natural = tests .2;
       spread = last .1;
     }
@@ -84,8 +82,8 @@ possible-told t e =
 pub possible-is : (t : Totals) → Possible t → possible t ≡ true
 unfolding possible
 possible-is t can =
-    let sums = not-beyond _ (t .sum) (can .low) in
-    rw (sums .0, sums .1, can .natural, not-beyond _ (t .squares) (can .small) .1, can .spread)
+    let sums = not-beyond _ (t .sum) (can .limits .low) in
+    rw (sums .0, sums .1, can .natural, not-beyond _ (t .squares) (can .limits .small) .1, can .spread)
 
 -- those of a list of marks in the range, and those of two such classes joined
 pub list-possible : (marks : List ℤ) → InRange marks → Possible (totals marks)
@@ -94,18 +92,27 @@ list-possible marks within =
     let most = small-marks marks within in
     let squared = sum-most highestSquare (map square marks) (small-squares marks most) (length (map square marks)) (omega arith) in
     record {
-      low = rw (take-length marks) at (sum-most highest marks most (length marks) (omega arith));
-      small = rw (take-length (map square marks), length-map marks square) at squared;
+      limits = record {
+        low = rw (take-length marks) at (sum-most highest marks most (length marks) (omega arith));
+        small = rw (take-length (map square marks), length-map marks square) at squared;
+      };
       natural = list-squares marks;
       spread = list-spread marks;
+    }
+
+joined-limits : (a b : Totals) → Limited a → Limited b → Limited (joined a b)
+unfolding joined
+joined-limits a b x y =
+    record {
+      low = within-each highest (a .count) (b .count) (a .sum) (b .sum) (x .low) (y .low);
+      small = within-each highestSquare (a .count) (b .count) (a .squares) (b .squares) (x .small) (y .small);
     }
 
 pub joined-possible : (a b : Totals) → Possible a → Possible b → Possible (joined a b)
 unfolding joined
 joined-possible a b x y =
     record {
-      low = within-each highest (a .count) (b .count) (a .sum) (b .sum) (x .low) (y .low);
-      small = within-each highestSquare (a .count) (b .count) (a .squares) (b .squares) (x .small) (y .small);
+      limits = joined-limits a b (x .limits) (y .limits);
       natural = not-below-zero (a .squares) (b .squares) (x .natural) (y .natural);
       spread = joined-spread a b (x .natural) (y .natural) (x .spread) (y .spread);
     }
@@ -117,11 +124,11 @@ module _ (t : Totals) (b : Bounded t) where
   pub first-small : natAbs (pos (t .count) *ℤ t .squares) ≤ 1677721600000000
   first-small =
       rw (Signed.product (pos (t .count)) (t .squares))
-      (mul-le-mul (b .few) (le-trans (b .small) (mul-le-mul-left highestSquare (b .few))))
+      (mul-le-mul (b .few) (le-trans (b .limits .small) (mul-le-mul-left highestSquare (b .few))))
 
   pub second-small : natAbs (square (t .sum)) ≤ 1677721600000000
   second-small =
-      let most = le-trans (b .low) (mul-le-mul-left highest (b .few)) in
+      let most = le-trans (b .limits .low) (mul-le-mul-left highest (b .few)) in
       rw (Signed.product (t .sum) (t .sum)) (mul-le-mul most most)
 
   pub spread-small : natAbs (spread t) ≤ 3355443200000000
@@ -140,10 +147,10 @@ handed-is t f g = rw (toZ-ofZ w64 (t .sum) f, toZ-ofZ w64 (t .squares) g)
 -- small totals fit
 module _ (t : Totals) (b : Bounded t) where
   sum-fits : SFits w64 (t .sum)
-  sum-fits = Signed.fits (t .sum) (omega (arith, b .low, b .few))
+  sum-fits = Signed.fits (t .sum) (omega (arith, b .limits .low, b .few))
 
   squares-fits : SFits w64 (t .squares)
-  squares-fits = Signed.fits (t .squares) (omega (arith, b .small, b .few))
+  squares-fits = Signed.fits (t .squares) (omega (arith, b .limits .small, b .few))
 
   pub small-handed : handed t ≡ t
   small-handed = handed-is t sum-fits squares-fits
@@ -151,21 +158,14 @@ module _ (t : Totals) (b : Bounded t) where
 -- which totals are small: those of a fit list, those that a class can have, and two such joined
 pub fit-bounded : (marks : List ℤ) → listValidity marks ≡ Fit → Bounded (totals marks)
 unfolding totals
-fit-bounded marks fit =
-    let can = list-possible marks (fit-in-range marks fit) in
-    record { few = fit-count marks fit .few; low = can .low; small = can .small }
+fit-bounded marks fit = record { few = fit-count marks fit .few; limits = list-possible marks (fit-in-range marks fit) .limits }
 
 pub possible-bounded : (t : Totals) → t .count ≤ longest → possible t ≡ true → Bounded t
-possible-bounded t few e = let can = possible-told t e in record { few = few; low = can .low; small = can .small }
+possible-bounded t few e = record { few = few; limits = possible-told t e .limits }
 
 pub joined-bounded : (a b : Totals) → Bounded a → Bounded b → a .count + b .count ≤ longest → Bounded (joined a b)
 unfolding joined
-joined-bounded a b x y few =
-    record {
-      few = few;
-      low = within-each highest (a .count) (b .count) (a .sum) (b .sum) (x .low) (y .low);
-      small = within-each highestSquare (a .count) (b .count) (a .squares) (b .squares) (x .small) (y .small);
-    }
+joined-bounded a b x y few = record { few = few; limits = joined-limits a b (x .limits) (y .limits) }
 
 -- two joined, as the machine adds them
 module _ (a b : Totals) (x : Bounded a) (y : Bounded b) (few : a .count + b .count ≤ longest) where

@@ -4,8 +4,12 @@ use lib.IntN.{natAbs}
 use Rattle.figures.specs.Totals.{longest, highest, highestSquare}
 use Rattle.figures.specs.declared.Totals.{Totals}
 
--- at most 4,096 marks, with no more than the highest sum and square sum per mark
-pub record Bounded (t : Totals) : Type 0 where
-  pub few : t .count ≤ longest
+-- a sum and a square sum that are within their limits for each mark, either way
+pub record Limited (t : Totals) : Type 0 where
   pub low : natAbs (t .sum) ≤ highest * t .count
   pub small : natAbs (t .squares) ≤ highestSquare * t .count
+
+-- and at most 4,096 marks
+pub record Bounded (t : Totals) : Type 0 where
+  pub few : t .count ≤ longest
+  pub limits : Limited t

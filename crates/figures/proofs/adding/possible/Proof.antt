@@ -72,8 +72,10 @@ spread-requires c κs =
     rw (toZ-ofZ w64 (s .args .sum) (s .fits .sum), toZ-ofZ w64 (s .args .squares) (s .fits .squares))
     (record {
       few = s .pre;
-      low = between _ (s .args .sum) (low s _ (c .before .before .before .if1 .left)) (high s _ (c .before .before .if2 .left));
-      small = upward _ (s .args .squares) (upper s _ (c .before .if3 .left)) (small s _ (c .if4 .left));
+      limits = record {
+        low = between _ (s .args .sum) (low s _ (c .before .before .before .if1 .left)) (high s _ (c .before .before .if2 .left));
+        small = upward _ (s .args .squares) (upper s _ (c .before .if3 .left)) (small s _ (c .if4 .left));
+      };
     })
 
 returns-5 : tie.Need-returns-5

@@ -25,7 +25,7 @@ lowest-requires c κs =
     let s = c .before in
     rw (toZ-ofZ w64 (s .args .sum) (s .fits .sum))
     (record {
-      whole = omega (arith, s .pre .1 .low, s .pre .1 .few);
+      whole = omega (arith, s .pre .1 .limits .low, s .pre .1 .few);
       some = s .pre .0;
       narrow = omega (arith, s .pre .1 .few);
     })
