@@ -37,7 +37,7 @@ in-range-fit : (marks : List ℤ) (k : ℕ) → inRange (getD marks k (pos 0)) �
 unfolding markValidity ask
 in-range-fit marks k e = rw e
 
-each-in-range : (marks : List ℤ) → InRange marks → (n : ℕ) → n ≤ length marks → askEach n (markValidity marks) ≡ Fit
+pub each-in-range : (marks : List ℤ) → InRange marks → (n : ℕ) → n ≤ length marks → askEach n (markValidity marks) ≡ Fit
 unfolding askEach firstOf isRefused
 each-in-range marks within zero h = refl
 each-in-range marks within (suc n) h =
