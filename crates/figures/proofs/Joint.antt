@@ -16,6 +16,7 @@ use Rattle.program.specs.FirstSuch.{firstOf}
 use Rattle.program.specs.declared.Validity.the-variants.{Fit}
 use Rattle.figures.specs.Figures.{inRange, InRange, markValidity, listValidity, joinValidity, figuresBy, listFigures, joinFigures}
 use Rattle.figures.specs.Totals.{square, totals, joined, countable}
+use Rattle.figures.specs.declared.Figures.{Figures}
 use Rattle.figures.proofs.Limits.{fit-in-range, possible-is, list-possible}
 use Rattle.figures.proofs.Replies.{list-answer, list-totals}
 use Rattle.figures.proofs.Sums.{sum-append}
@@ -74,3 +75,12 @@ joint-replies xs ys ex ey =
     let fx = sym (list-answer xs) ∙ ex in
     let fy = sym (list-answer ys) ∙ ey in
     rw (list-totals xs fx, list-totals ys fy) (joint xs ys (fit-in-range xs fx) (fit-in-range ys fy))
+
+-- and the totals that a join gives, joined again
+pub joint-again : (xs ys zs : List ℤ) → InRange xs → InRange ys → InRange zs → joinFigures (totals xs) (totals ys) .validity ≡ Fit
+    → joinFigures (joinFigures (totals xs) (totals ys) .totals) (totals zs) ≡ listFigures (xs ++ ys ++ zs)
+joint-again xs ys zs hx hy hz e =
+    let both = joint xs ys hx hy in
+    let fit : listValidity (xs ++ ys) ≡ Fit = sym (list-answer (xs ++ ys)) ∙ ap (λ (f : Figures). f .validity) (sym both) ∙ e in
+    ap (λ t. joinFigures t (totals zs)) (ap (λ (f : Figures). f .totals) both ∙ list-totals (xs ++ ys) fit)
+    ∙ joint (xs ++ ys) zs (in-range-append xs ys hx hy) hz

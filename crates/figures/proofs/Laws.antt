@@ -62,10 +62,15 @@ join-placed = Placing.join-placed
 pub list-variance : (marks : List ℤ) → leZ (pos 0) (variance (totals marks) .numerator) ≡ true
 list-variance = Exactness.list-variance
 
--- "giving the figures of the joint list where each came from a list": the totals of two lists of marks, of none too, joined, and those of two replies
+-- "giving the figures of the joint list where each came from a list": the totals of two lists of marks, of none too, joined; those of two replies;
+-- and those that a join replies, joined again
 pub joint : (xs ys : List ℤ) → InRange xs → InRange ys → joinFigures (totals xs) (totals ys) ≡ listFigures (xs ++ ys)
 joint = Joint.joint
 
 pub joint-replies : (xs ys : List ℤ) → listFigures xs .validity ≡ Fit → listFigures ys .validity ≡ Fit
     → joinFigures (listFigures xs .totals) (listFigures ys .totals) ≡ listFigures (xs ++ ys)
 joint-replies = Joint.joint-replies
+
+pub joint-again : (xs ys zs : List ℤ) → InRange xs → InRange ys → InRange zs → joinFigures (totals xs) (totals ys) .validity ≡ Fit
+    → joinFigures (joinFigures (totals xs) (totals ys) .totals) (totals zs) ≡ listFigures (xs ++ ys ++ zs)
+joint-again = Joint.joint-again
