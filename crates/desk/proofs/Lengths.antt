@@ -118,6 +118,6 @@ pub figures-fits : (f : Figures) → FiguresFitting (figuresNumbers f)
 unfolding figuresNumbers totalsNumbers fractionNumbers validityNumbers
 figures-fits f = by (f .validity)
   where
-    by : (v : Validity) → T (leb 8 (length (map pos (validityNumbers v) ++ totalsNumbers (f .totals) ++ fractionNumbers (f .mean) ++ fractionNumbers (f .variance))) && leb (length (map pos (validityNumbers v) ++ totalsNumbers (f .totals) ++ fractionNumbers (f .mean) ++ fractionNumbers (f .variance))) figuresRoom)
+    by : (v : Validity) → FiguresFitting (map pos (validityNumbers v) ++ totalsNumbers (f .totals) ++ fractionNumbers (f .mean) ++ fractionNumbers (f .variance))
     by Fit = tt
     by (Refused x) = tt

@@ -1,4 +1,4 @@
-// The engine as a C library: each operation on numbers and slices, its reply a row of document 01's numbers.
+// The engine as a C library: each operation on numbers and slices, its reply a row of document 01's numbers, and of document 02's for figures.
 
 pub mod classes;
 pub mod files;

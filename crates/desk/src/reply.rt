@@ -4,7 +4,7 @@ ghost use mathlib.Core.Path.{_≡_};
 ghost use Rattle.desk.specs.Reply as spec;
 use crate::Row;
 
-// The numbers of the longest row: a reply that does not hold so many is too short for any.
+// The numbers of the longest row, but for those of figures: a reply that does not hold so many is too short for any.
 pub(crate) const REPLY: usize = 4;
 
 // The row at the front of a reply, unless that is too short; returns how many numbers were written.
