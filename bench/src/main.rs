@@ -59,9 +59,9 @@ fn main() {
             }
         }
     }
-    for marks in [1, 30, 4096] {
+    for (marks, many) in [(1, "a mark"), (30, "30 marks"), (4096, "4,096 marks")] {
         if wanted("figures") {
-            row("figures", &format!("a list of {} marks", grouped(marks)), figures(marks));
+            row("figures", many, figures(marks));
         }
     }
     for marks in [30, 2048] {
