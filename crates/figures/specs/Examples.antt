@@ -26,8 +26,8 @@ refusals =
     ∷ (figuresNumbers (listFigures (pos 10000 ∷ pos 10001 ∷ minus 10001 ∷ [])) gives row (24 ∷ 1 ∷ 0 ∷ 0 ∷ 0 ∷ 0 ∷ 1 ∷ 0 ∷ 1 ∷ []))
     ∷ []
 
--- 3, 4 and 4 joined with −7; with a class of no mark; two classes of no mark; and a second class of 2 marks whose sum, sum of squares or variance
--- cannot be
+-- 3, 4 and 4 joined with −7; with a class of no mark; two classes of no mark; joint lists of 4,096 and 4,097 marks; and a second class of 2 marks
+-- whose sum, sum of squares or variance cannot be
 unfoldable pub joins : List Case
 joins =
     let first = class 3 (pos 11) (pos 41) in

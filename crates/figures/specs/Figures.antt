@@ -27,7 +27,7 @@ variance t = lowest (spread t) (t .count * t .count)
 unfoldable pub inRange : ℤ → Bool
 inRange x = leZ (negℤ (pos highest)) x && leZ x (pos highest)
 
--- a list of marks each of which is
+-- a list of marks each of which is in the range
 abbrev pub InRange : List ℤ → Type 0
 InRange marks = (i : ℕ) → i < length marks → inRange (getD marks i (pos 0)) ≡ true
 

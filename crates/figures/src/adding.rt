@@ -48,7 +48,7 @@ pub(crate) fn spread(count: u32, sum: i64, squares: i64) -> i64
     count as i64 * squares - sum * sum
 }
 
-// Whether a class of so many marks can have these sums: no number wraps, since the limits are asked about before anything is multiplied.
+// Whether a class of so many marks can have these sums. No number wraps: the count is small, and a sum is multiplied only where it is within its limits.
 pub(crate) fn possible(count: u32, sum: i64, squares: i64) -> bool
     requires { ⌜ count ≤ spec.longest ⌝ }
     ensures { λ r. ⌜ r ≡ spec.possible (spec.class count sum squares) ⌝ }

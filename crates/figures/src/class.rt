@@ -139,7 +139,7 @@ pub fn of_list(marks: &[i32]) -> Figures
     }
 }
 
-// The figures of two classes joined, by the numbers of their totals: the joint count is asked about first, so that all that follows is small.
+// The figures of two classes joined, by the numbers of their totals. The joint count is asked about first: then neither class has more than 4,096 marks.
 fn of_both(
     first_count: u32,
     first_sum: i64,
