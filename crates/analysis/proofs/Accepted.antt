@@ -10,15 +10,15 @@ use lib.ListN.{length}
 use mir.Facts.{and-yes}
 use Rattle.signs.specs.Lists.{anyOf}
 use Rattle.program.specs.FirstSuch.{firstSuch}
-use Rattle.program.specs.Graph.{Graph}
+use Rattle.program.specs.Graph.{Graph, edgeAt}
 use Rattle.program.specs.declared.First.{First}
 use Rattle.program.specs.declared.First.the-variants.{At, Nothing}
 use Rattle.program.specs.declared.Validity.{Validity}
 use Rattle.program.specs.declared.Validity.the-variants.{Fit, Refused}
 use Rattle.program.proofs.Laws.{first-nothing, such-none}
 use Rattle.program.proofs.Tests.{passed}
-use Rattle.semantics.specs.Action.{meaning}
-use Rattle.semantics.specs.Step.{edgeAt, leaves}
+use Rattle.program.specs.Meaning.{meaning}
+use Rattle.semantics.specs.Step.{leaves}
 use Rattle.analysis.specs.Index.{mayBeNegative}
 use Rattle.analysis.specs.Records.{initialWidth, recordWidth, recordCount, recordAt, recordsOf, nodeOf, memoryOf, sameSigns, gives, listed, hasAt, hasInitial, bothWhole, initialFormed, solutionFormed}
 use Rattle.analysis.specs.Results.{results}

@@ -1,17 +1,20 @@
--- What the analysis says of an action depends on an abstract memory through its names' sets alone; and a name's new sets that stand for the results.
-use mathlib.Core.Path.{_≡_, refl, ap}
+-- What the analysis says of an action depends on an abstract memory through its names' sets alone; and a number that stands for the results.
+use mathlib.Core.Path.{_≡_, refl, sym, ap, _∙_}
 use mathlib.Core.Bool.{Bool, true, false, cond}
-use mathlib.Core.List.{List, [], _∷_, map}
-use Prim.Native.Nat.{ℕ}
-use lib.ListN.{getD, set, take}
-use lib.Seq.{set-getD}
+use mathlib.Core.List.{List, [], _∷_, map, map-congr-left}
+use Prim.Native.Nat.{ℕ, _+_, _*_, _/_, _%_, _≤_, _<_}
+use native.Mathlib.Omega.{arith}
+use lib.Dec.{ltb}
+use lib.ListN.{length, getD, set}
+use lib.Seq.{set-out}
+use borrow.Author.Tests.{ltb-true, ltb-false}
 use Rattle.program.specs.Syntax.{Arith, number, variable, element, operator, Boolean, truth, comparison, conjunction, shortCircuit, negation}
-use Rattle.semantics.specs.Action.{Meaning, nothing, assigns, stores, condition}
-use Rattle.analysis.specs.Changing.{Alike, Lists, ResultsIn}
+use Rattle.program.specs.Meaning.{Meaning, nothing, assigns, stores, condition}
+use Rattle.analysis.specs.Changing.{Alike, packed, digits, setsOf, nameFor, ResultsIn}
 use Rattle.analysis.specs.Index.{arithIndexes, booleanIndexes, indexSets, anyNegative, mayBeNegative}
 use Rattle.analysis.specs.Results.{assignedSets, storedSets, results}
 use Rattle.analysis.specs.Signs.{mayIndex, signsIn, truthsIn}
-use Rattle.analysis.specs.declared.Changes.{Changes}
+use Rattle.analysis.proofs.Digits.{room, Few, assigned-few, stored-few}
 
 module _ (ρ σ : List ℕ) (alike : Alike ρ σ) where
   pub set-alike : (x : ℕ) → getD ρ x 0 ≡ getD σ x 0
@@ -59,34 +62,76 @@ module _ (ρ σ : List ℕ) (alike : Alike ρ σ) where
   unfolding mayBeNegative
   negative-alike x = ap anyNegative (index-sets-alike x)
 
--- the first name as it is leaves an abstract memory as it is
-as-it-is : (lent : List ℕ) (r : Changes) (b : Bool) → Lists 0 (cond b (getD lent 0 0 ∷ []) []) r → (ρ : List ℕ) → Alike ρ lent
-    → cond b (ρ ∷ []) [] ≡ map (set ρ (r .name)) (take (r .count) (r .sets))
-as-it-is lent r true l ρ alike = rw (l .name, l .listed, ← set-alike ρ lent alike 0, set-getD ρ 0 0)
-as-it-is lent r false l ρ alike = rw (l .listed)
+-- a name that is past the last changes nothing, and neither does 32, which stands for it
+name-for : (ρ : List ℕ) → length ρ ≤ 32 → (x s : ℕ) → set ρ (nameFor x) s ≡ set ρ x s
+unfolding nameFor
+name-for ρ few x s = by (ltb x 32) refl
+  where
+    by : (b : Bool) → ltb x 32 ≡ b → set ρ (cond b x 32) s ≡ set ρ x s
+    by true e = refl
+    by false e = set-out ρ 32 s few ∙ sym (set-out ρ x s (omega (arith, few, ltb-false x 32 e)))
+
+-- a number with the sets of a name
+module _ (x : ℕ) (sets : List ℕ) (f : Few 12 sets) where
+  name-low : nameFor x < 64
+  unfolding nameFor
+  name-low = by (ltb x 32) refl
+    where
+      by : (b : Bool) → ltb x 32 ≡ b → cond b x 32 < 64
+      by true e = omega (arith, ltb-true x 32 e)
+      by false e = omega arith
+
+  number-few : (64 * packed sets 0 + nameFor x) / 64 < 68719476736
+  unfolding room
+  number-few = omega (arith, f .inside, name-low)
+
+  number-gives : (ρ : List ℕ) → length ρ ≤ 32 → map (set ρ x) sets ≡ map (set ρ ((64 * packed sets 0 + nameFor x) % 64)) (setsOf ((64 * packed sets 0 + nameFor x) / 64))
+  unfolding setsOf
+  number-gives ρ few =
+      let low : (64 * packed sets 0 + nameFor x) % 64 ≡ nameFor x = omega (arith, name-low) in
+      let high : (64 * packed sets 0 + nameFor x) / 64 ≡ packed sets 0 = omega (arith, name-low) in
+      rw (low, high, f .back) (map-congr-left {l = sets} (λ s m. sym (name-for ρ few x s)))
+
+-- the abstract memory as it is: name 32 with one set, or with none
+as-it-is : (b : Bool) (ρ : List ℕ) → length ρ ≤ 32 → cond b (ρ ∷ []) [] ≡ map (set ρ (cond b 96 32 % 64)) (setsOf (cond b 96 32 / 64))
+unfolding setsOf digits
+as-it-is true ρ few = ap (λ (σ : List ℕ). σ ∷ []) (sym (set-out ρ 32 1 few))
+as-it-is false ρ few = refl
+
+as-few : (b : Bool) → cond b 96 32 / 64 < 68719476736
+as-few true = omega arith
+as-few false = omega arith
 
 -- the results of an action, from a name and its new sets
-module _ {lent : List ℕ} {r : Changes} where
-  pub no-results : Lists 0 (getD lent 0 0 ∷ []) r → ResultsIn lent nothing r
+module _ {lent : List ℕ} {r : ℕ} where
+  pub no-results : r ≡ cond true 96 32 → ResultsIn lent nothing r
   unfolding results
-  no-results l = record { few = l .few; gives = as-it-is lent r true l }
+  no-results e = rw e (record { few = as-few true; gives = λ ρ few alike. as-it-is true ρ few })
 
-  pub condition-results : (b : Boolean) → Lists 0 (cond (truthsIn lent b .holds) (getD lent 0 0 ∷ []) []) r → ResultsIn lent (condition b) r
+  pub condition-results : (b : Boolean) → r ≡ cond (truthsIn lent b .holds) 96 32 → ResultsIn lent (condition b) r
   unfolding results
-  condition-results b l =
-      record { few = l .few; gives = λ ρ alike. rw (truths-alike ρ lent alike b) (as-it-is lent r (truthsIn lent b .holds) l ρ alike) }
+  condition-results b e =
+      rw e
+      (record { few = as-few (truthsIn lent b .holds); gives = λ ρ few alike. rw (truths-alike ρ lent alike b) (as-it-is (truthsIn lent b .holds) ρ few) })
 
-  pub assign-results : (x : ℕ) (a : Arith) → Lists x (assignedSets (signsIn lent a)) r → ResultsIn lent (assigns x a) r
+  pub assign-results : (x : ℕ) (a : Arith) → r ≡ 64 * packed (assignedSets (signsIn lent a)) 0 + nameFor x → ResultsIn lent (assigns x a) r
   unfolding results
-  assign-results x a l = record { few = l .few; gives = λ ρ alike. rw (signs-alike ρ lent alike a, l .name, l .listed) }
+  assign-results x a e =
+      let f = assigned-few (signsIn lent a) in
+      rw e (record { few = number-few x _ f; gives = λ ρ few alike. rw (signs-alike ρ lent alike a) (number-gives x _ f ρ few) })
 
   -- a store whose index can be in the array, and one whose index cannot
   module _ (x : ℕ) (i a : Arith) where
-    pub store-results : mayIndex (signsIn lent i) ≡ true → Lists x (storedSets (getD lent x 0) (signsIn lent a)) r → ResultsIn lent (stores x i a) r
+    pub store-results : mayIndex (signsIn lent i) ≡ true → r ≡ 64 * packed (storedSets (getD lent x 0) (signsIn lent a)) 0 + nameFor x → ResultsIn lent (stores x i a) r
     unfolding results
-    store-results may l =
-        record { few = l .few; gives = λ ρ alike. rw (signs-alike ρ lent alike i, may, signs-alike ρ lent alike a, set-alike ρ lent alike x, l .name, l .listed) }
+    store-results may e =
+        let f = stored-few (getD lent x 0) (signsIn lent a) in
+        rw e
+        (record {
+          few = number-few x _ f;
+          gives = λ ρ few alike. rw (signs-alike ρ lent alike i, may, signs-alike ρ lent alike a, set-alike ρ lent alike x) (number-gives x _ f ρ few);
+        })
 
-    pub no-store : {y : ℕ} → mayIndex (signsIn lent i) ≡ false → Lists y [] r → ResultsIn lent (stores x i a) r
+    pub no-store : mayIndex (signsIn lent i) ≡ false → r ≡ cond false 96 32 → ResultsIn lent (stores x i a) r
     unfolding results
-    no-store may l = record { few = l .few; gives = λ ρ alike. rw (signs-alike ρ lent alike i, may, l .listed) }
+    no-store may e = rw e (record { few = as-few false; gives = λ ρ few alike. rw (signs-alike ρ lent alike i, may) (as-it-is false ρ few) })

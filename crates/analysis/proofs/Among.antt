@@ -41,7 +41,7 @@ module _ {A : Type 0} (p : A → Bool) where
   any-listed (x ∷ xs) d = ap (λ (b : Bool). p x || b) (any-listed xs d) ∙ sym (any-first (λ k. p (getD (x ∷ xs) k d)) (length xs))
 
 -- a record that gives a node and signs is the record of them
-same-word : (a b node : ℕ) → a < 256 → b < 256 → node < 65536 → eqb (a * 256 + b) node ≡ (eqb a (node / 256 % 256) && eqb b (node % 256))
+pub same-word : (a b node : ℕ) → a < 256 → b < 256 → node < 65536 → eqb (a * 256 + b) node ≡ (eqb a (node / 256 % 256) && eqb b (node % 256))
 same-word a b node ha hb hn =
     elim (ℕ-discrete a (node / 256 % 256)) [
       | yes p ↦
@@ -52,7 +52,7 @@ same-word a b node ha hb hn =
       | no d ↦ rw (ne-eqb a (node / 256 % 256) d) (ne-eqb (a * 256 + b) node (λ e. d (omega arith)))
     ]
 
-pub gives-same : (ns : List ℕ) (node : ℕ) (ρ r : List ℕ) → node < 65536 → length r ≡ recordWidth ns → getD r 0 0 < 256 → getD r 1 0 < 256
+gives-same : (ns : List ℕ) (node : ℕ) (ρ r : List ℕ) → node < 65536 → length r ≡ recordWidth ns → getD r 0 0 < 256 → getD r 1 0 < 256
     → gives ns node ρ r ≡ sameSigns r (recordFor node ρ)
 unfolding gives nodeOf memoryOf recordFor recordWidth wordBytes wordAt byteAt sameSigns
 gives-same ns node ρ [] hn l ha hb = absurd (omega arith)
@@ -109,19 +109,18 @@ module _ (width n : ℕ) (bytes bytes′ : List ℕ) (same : take (width * n) by
       up : (l : List ℕ) → take width (drop (width * k) l) ≡ drop (width * k) (take (width * k + width) (take (width * n) l))
       up l = take-of-drop width (width * k) l ∙ ap (drop (width * k)) (sym (take-take (width * k + width) (width * n) l (record-inside width k n (width * n) h (omega arith))))
 
-  pub indexed-kept : (fs heads next : List ℕ) → width * n ≤ length bytes′ → Indexed fs width bytes n heads next → Indexed fs width bytes′ n heads next
-  indexed-kept fs heads next room x =
+  pub indexed-kept : (index : List ℕ) → width * n ≤ length bytes′ → Indexed width bytes n index → Indexed width bytes′ n index
+  indexed-kept index room x =
       record {
         few = x .few;
         room = room;
+        factored = x .factored;
         chained =
             record {
-              heads-room = x .chained .heads-room;
-              next-room = x .chained .next-room;
               last = λ h l. x .chained .last h l ∙ last-same _ _ n (λ k b. ap (λ (j : ℕ). eqb j h) (hash-kept k b));
               lower = λ k b. x .chained .lower k b ∙ last-same _ _ k (λ j a. cc (hash-kept j (omega arith), hash-kept k b));
             };
       }
     where
-      hash-kept : (k : ℕ) → k < n → bucket fs (recordAt width bytes k) ≡ bucket fs (recordAt width bytes′ k)
-      hash-kept k h = ap (bucket fs) (record-kept k h)
+      hash-kept : (k : ℕ) → k < n → bucket (recordAt width bytes k) ≡ bucket (recordAt width bytes′ k)
+      hash-kept k h = ap bucket (record-kept k h)

@@ -5,65 +5,54 @@ use mathlib.Core.List.{List, [], _∷_, _++_, foldl, flatten, append-assoc, appe
 use Prim.Native.Nat.{ℕ, zero, suc, _+_, _*_, _/_, _≤_, min}
 use native.Mathlib.Nat.{mul-zero, mul-suc, mul-div-le, mul-le-mul-left}
 use native.Mathlib.Omega.{arith}
-use lib.ListN.{length, take, replicate, take-append-drop}
+use lib.ListN.{length, getD, take, take-append-drop}
 use lib.Seq.{length-take-le, take-add}
 use Rattle.signs.specs.Lists.{tabulate}
 use Rattle.program.specs.Asking.{ask, thenAsk}
-use Rattle.program.specs.Decoding.{decodedSizes}
 use Rattle.program.specs.Drawing.{over}
-use Rattle.program.specs.File.{nameCount, sizes}
+use Rattle.program.specs.File.{sizes}
 use Rattle.program.specs.Graph.{Graph, graph}
+use Rattle.program.specs.Prepared.{Coded, nameCountPlace}
 use Rattle.program.specs.Questions.{validity}
 use Rattle.program.specs.declared.Refusal.{Refusal}
 use Rattle.program.specs.declared.Validity.{Validity}
 use Rattle.program.specs.declared.Validity.the-variants.{Fit, Refused}
-use Rattle.program.proofs.Laws.{sizes-length}
 use Rattle.program.proofs.Lists.{length-tabulate}
-use Rattle.analysis.specs.RecordParts.{SizesIn}
+use Rattle.analysis.specs.Membership.{Indexed}
 use Rattle.analysis.specs.Records.{initialWidth, recordWidth, recordAt, recordsOf, wholeRecords, initialWhole, initialFormed, wrongByte}
 use Rattle.analysis.specs.Solver.{Found, offer, descend, solution, roomOf, finishedOr, solvedWith, bufferWith, initialValidity, solutionIn, solved, solvedBuffer, solvedNumbers}
-use Rattle.analysis.specs.Solving.{foundIn, Growing, Extended, Roomy, Wrote, Answered}
+use Rattle.analysis.specs.Solving.{foundIn, Growing, Extended, Answered}
 use Rattle.analysis.specs.declared.Records.the-variants.{Initial}
 use Rattle.analysis.specs.declared.Solved.{Solved}
 use Rattle.analysis.specs.declared.Solving.the-variants.{Refused as Refuses, Malformed}
 use Rattle.analysis.specs.declared.solver.Progress.{Progress}
-use Rattle.analysis.proofs.Chains.{indexed-none}
-use Rattle.analysis.proofs.Growing.{extended-more}
-use Rattle.analysis.proofs.Judged.{some-names}
-use Rattle.analysis.proofs.Laid.{sizes-in}
 
 -- ---- The list
 
--- before the first record; and from there on
-pub growing-none : (fs : List ℕ) {names room : ℕ} {buffer : List ℕ} → Roomy names room buffer
-    → Growing fs (2 + names) room buffer (replicate 8192 0) (replicate 4096 0) (record { count = 0; full = false })
-growing-none fs {names} {room} {buffer} y = record { wide = omega (arith, y .few); most = y .most; fits = y .fits; few = omega arith; indexed = indexed-none fs (2 + names) buffer }
-
-pub wrote : {fs : List ℕ} {width room : ℕ} {b₀ b₁ h₁ n₁ b₂ h₂ n₂ : List ℕ} {p₀ p₁ p₂ : Progress} → Extended fs width room b₀ p₀ b₁ h₁ n₁ p₁ → Extended fs width room b₁ p₁ b₂ h₂ n₂ p₂
-    → Wrote width room b₀ b₂ p₂
-wrote {fs} {width} {room} x y = let z = extended-more fs width room x y in record { few = z .growing .few; sized = z .sized; past = z .past }
-
-pub solution-found : (ns : List ℕ) (g : Graph) (initial : List ℕ) (room width : ℕ) (buffer : List ℕ) {f f′ : Found}
-    → f ≡ foldl (offer ns room 0) (foundIn width buffer (record { count = 0; full = false })) (recordsOf (initialWidth ns) initial) → f′ ≡ descend room ns g room 0 f
-    → f′ ≡ solution ns g initial room
-unfolding solution foundIn tabulate
-solution-found ns g initial room width buffer p q = q ∙ ap (descend room ns g room 0) p
-
--- room is the buffer's whole records, at most 4,096
-pub roomy : (s : List ℕ) → validity s ≡ Fit → {names room : ℕ} (buffer : List ℕ) → names ≡ nameCount s → room ≡ min 4096 (length buffer / (2 + names)) → Roomy names room buffer
-roomy s fit {names} {room} buffer e p =
+-- before the first record, in the buffer's whole records, at most 4,096; and from there on
+pub growing-none : {names : ℕ} (buffer : List ℕ) → names ≤ 32 → (index : List ℕ) → ((width : ℕ) (bytes : List ℕ) → Indexed width bytes 0 index)
+    → Growing (2 + names) buffer index (record { count = 0; room = min 4096 (length buffer / (2 + names)); full = false })
+growing-none {names} buffer few index none =
+    let room = min 4096 (length buffer / (2 + names)) in
     record {
-      some = some-names s fit names e .0;
-      few = some-names s fit names e .1;
+      wide = omega arith;
       most = omega arith;
       fits = omega (arith, mul-le-mul-left {m = room} {n = length buffer / (2 + names)} (2 + names) (omega arith), mul-div-le (length buffer) (2 + names));
+      few = omega arith;
+      indexed = none (2 + names) buffer;
     }
 
-pub solution-in : (s initial buffer : List ℕ) {names room : ℕ} → names ≡ nameCount s → room ≡ min 4096 (length buffer / (2 + names))
-    → solution (sizes s) (graph s) initial room ≡ solutionIn s initial buffer
-unfolding solutionIn roomOf recordWidth
-solution-in s initial buffer e p =
-    ap (solution (sizes s) (graph s) initial) (p ∙ ap (λ (n : ℕ). min 4096 (length buffer / (2 + n))) (e ∙ sym (sizes-length s)))
+pub solution-found : (ns : List ℕ) (g : Graph) (initial : List ℕ) (room width : ℕ) (buffer : List ℕ) (none : Progress) → none .count ≡ 0 → none .full ≡ false → {f f′ : Found}
+    → f ≡ foldl (offer ns room 0) (foundIn width buffer none) (recordsOf (initialWidth ns) initial) → f′ ≡ descend room ns g room 0 f → f′ ≡ solution ns g initial room
+unfolding solution foundIn tabulate
+solution-found ns g initial room width buffer none c d {f} {f′} p q =
+    q
+    ∙ ap (descend room ns g room 0)
+    (p ∙ rw (c, d))
+
+pub room-of : {ns code : List ℕ} → Coded ns code → (buffer : List ℕ) {names : ℕ} → names ≡ getD code nameCountPlace 0 → min 4096 (length buffer / (2 + names)) ≡ roomOf ns (length buffer)
+unfolding roomOf recordWidth
+room-of x buffer e = ap (λ (n : ℕ). min 4096 (length buffer / (2 + n))) (e ∙ x .count)
 
 -- the records that begin a buffer are its front
 flatten-more : (rs : List (List ℕ)) (r : List ℕ) → flatten (rs ++ (r ∷ [])) ≡ flatten rs ++ r
@@ -79,20 +68,20 @@ flatten-found width (suc n) buffer = flatten-more (tabulate n (recordAt width bu
 -- ---- The answer
 
 module _ {f : Found} {before : List ℕ} where
-  pub answered-found : (width room : ℕ) (buffer : List ℕ) (p : Progress) → Wrote width room before buffer p → width * room ≤ length before → foundIn width buffer p ≡ f
+  pub answered-found : (width : ℕ) (buffer : List ℕ) (p : Progress) {q : Progress} {index : List ℕ} → Extended width before q buffer index p → foundIn width buffer p ≡ f
       → {r : Solved} → r ≡ record { solving = finishedOr (p .full); count = p .count } → Answered Fit Fit f before buffer r
   unfolding solvedWith bufferWith foundIn over
-  answered-found width room buffer p w fits e {r} q =
+  answered-found width buffer p x e {r} same =
       record {
-        reply = q ∙ ap (λ (n : ℕ). record { solving = finishedOr (p .full); count = n }) (sym (length-tabulate (p .count) (recordAt width buffer))) ∙ ap (solvedWith Fit Fit) e;
+        reply = same ∙ ap (λ (n : ℕ). record { solving = finishedOr (p .full); count = n }) (sym (length-tabulate (p .count) (recordAt width buffer))) ∙ ap (solvedWith Fit Fit) e;
         buffer = laid ∙ ap (λ (v : Found). bufferWith Fit Fit v before) e;
       }
     where
       long : length (take (width * p .count) buffer) ≡ width * p .count
-      long = length-take-le (width * p .count) buffer (omega (arith, w .sized, fits, mul-le-mul-left {m = p .count} {n = room} width (w .few)))
+      long = length-take-le (width * p .count) buffer (omega (arith, x .growing .fits, mul-le-mul-left {m = p .count} {n = p .room} width (x .growing .few)))
 
       laid : buffer ≡ over (flatten (tabulate (p .count) (recordAt width buffer))) before
-      laid = rw (flatten-found width (p .count) buffer, long, ← w .past) (sym (take-append-drop (width * p .count) buffer))
+      laid = rw (flatten-found width (p .count) buffer, long, ← x .past) (sym (take-append-drop (width * p .count) buffer))
 
   -- by the answer to each question
   pub answered-formed : {asked formed : Validity} {buffer : List ℕ} {r : Solved} → formed ≡ Fit → Answered asked Fit f before buffer r → Answered asked formed f before buffer r
@@ -110,9 +99,10 @@ module _ {f : Found} {before : List ℕ} where
   answered-refused {asked} {formed} x {r} e p = subst (λ (v : Validity). Answered v formed f before before r) (sym e) (record { reply = p; buffer = refl })
 
 -- question 16 as code asks it, after questions 1 to 11
-pub whole-asked : (s initial : List ℕ) {names : ℕ} {b : Bool} {v : Validity} → names ≡ nameCount s → b ≡ wholeRecords names initial → v ≡ ask b 16 0 → initialWhole (sizes s) initial ≡ v
+pub whole-asked : {ns code : List ℕ} → Coded ns code → (initial : List ℕ) {names : ℕ} {b : Bool} {v : Validity} → names ≡ getD code nameCountPlace 0 → b ≡ wholeRecords names initial → v ≡ ask b 16 0
+    → initialWhole ns initial ≡ v
 unfolding initialWhole initialWidth
-whole-asked s initial e p q = sym (q ∙ ap (λ (b : Bool). ask b 16 0) p ∙ ap (λ (n : ℕ). ask (wholeRecords n initial) 16 0) (e ∙ sym (sizes-length s)))
+whole-asked x initial e p q = sym (q ∙ ap (λ (b : Bool). ask b 16 0) p ∙ ap (λ (n : ℕ). ask (wholeRecords n initial) 16 0) (e ∙ x .count))
 
 pub validity-fit : (s initial : List ℕ) → validity s ≡ Fit → initialValidity s initial ≡ initialWhole (sizes s) initial
 unfolding initialValidity thenAsk
@@ -122,13 +112,9 @@ pub validity-refused : (s initial : List ℕ) (x : Refusal) → validity s ≡ R
 unfolding initialValidity thenAsk
 validity-refused s initial x e = rw e
 
--- the sizes as code decodes and counts them
-pub sizes-read : (s : List ℕ) → validity s ≡ Fit → {szs : List ℕ} {names : ℕ} → szs ≡ decodedSizes s → names ≡ nameCount s → SizesIn (sizes s) szs names
-sizes-read s fit p e = rw (p, e) (sizes-in s fit)
-
 -- the clauses of the contract
 pub answered-all : (s initial buffer : List ℕ) {buffer′ : List ℕ} {r : Solved}
-    → Answered (initialValidity s initial) (initialFormed (sizes s) initial) (solutionIn s initial buffer) buffer buffer′ r
+    → Answered (initialValidity s initial) (initialFormed (sizes s) initial) (solution (sizes s) (graph s) initial (roomOf (sizes s) (length buffer))) buffer buffer′ r
     → ((r ≡ solved s initial buffer) × (buffer′ ≡ solvedBuffer s initial buffer)) × (solvedNumbers r ≡ solvedNumbers (solved s initial buffer))
-unfolding solved solvedBuffer
+unfolding solved solvedBuffer solutionIn
 answered-all s initial buffer a = ((a .reply, a .buffer), ap solvedNumbers (a .reply))

@@ -2,31 +2,27 @@
 use mathlib.Core.Path.{_≡_, refl, sym, ap, _∙_}
 use mathlib.Core.Bool.{Bool, true, false, cond}
 use mathlib.Core.List.{List, [], _∷_, _++_, foldl, map, foldl-append, append-nil}
-use Prim.Native.Nat.{ℕ, zero, suc, _+_, _*_, _-_, _<_, _≤_, min}
+use Prim.Native.Nat.{ℕ, zero, suc, _+_, _*_, _/_, _%_, _-_, _<_, _≤_, min}
+use native.Mathlib.Decide.{decLt}
 use native.Mathlib.Nat.{add-zero}
 use native.Mathlib.Omega.{arith}
 use borrow.Author.Tests.{eq-eqb, ne-eqb, lt-ltb, le-ltb}
 use lib.Dec.{eqb, ltb}
-use lib.ListN.{length, getD, set, take}
+use lib.ListN.{length, getD, set}
 use Rattle.signs.specs.Lists.{tabulate, passing, indices}
-use Rattle.program.specs.Decoding.{decodedEntry}
-use Rattle.program.specs.Drawing.{edgeRead}
-use Rattle.program.specs.File.{wordAt, sizes}
-use Rattle.program.specs.Graph.{Graph, graph, actionOf}
-use Rattle.program.specs.Links.{sourceIn, Followable, Followed}
-use Rattle.program.specs.declared.EdgeBytes.{EdgeBytes}
+use Rattle.program.specs.File.{wordAt}
+use Rattle.program.specs.Graph.{Graph, edgeAt}
+use Rattle.program.specs.Meaning.{meaning}
+use Rattle.program.specs.Prepared.{Prepared, Linked, Following, entriesIn, decodedMeaning, actionIn, sourceIn, targetIn, firstIn, nextIn, edgeCountPlace}
 use Rattle.program.proofs.Lists.{getD-tabulate}
-use Rattle.program.proofs.Laws.{next-beyond, first-followed, next-followed}
-use Rattle.semantics.specs.Action.{meaning}
-use Rattle.semantics.specs.Step.{edgeAt, leaves}
-use Rattle.semantics.proofs.Laws.{drawn-leaves, drawn-target, drawn-action, linkable}
-use Rattle.analysis.specs.Changing.{ResultsIn}
+use Rattle.program.proofs.Laws.{next-is-beyond, first-is-followed, next-is-followed}
+use Rattle.semantics.specs.Step.{leaves}
+use Rattle.analysis.specs.Changing.{setsOf, ResultsIn}
 use Rattle.analysis.specs.Judging.{ReadInto}
 use Rattle.analysis.specs.Records.{recordAt, nodeOf, memoryOf}
 use Rattle.analysis.specs.Results.{results}
 use Rattle.analysis.specs.Solver.{Found, offer, offerResults, offerSuccessors, descend}
-use Rattle.analysis.specs.Solving.{foundIn, along, Decoded}
-use Rattle.analysis.specs.declared.Changes.{Changes}
+use Rattle.analysis.specs.Solving.{foundIn, along}
 use Rattle.analysis.specs.declared.solver.Progress.{Progress}
 use Rattle.analysis.proofs.Growing.{offer-full}
 use Rattle.analysis.proofs.Laid.{node-reads}
@@ -34,15 +30,13 @@ use Rattle.analysis.proofs.Laid.{node-reads}
 -- ---- Along an edge
 
 -- the results of an edge, as the code reads it and offers them
-pub edge-offered : {s edges entries : List ℕ} {edge-count names : ℕ} (x : Decoded s edges entries edge-count names) (e : ℕ) → e < edge-count → (r : EdgeBytes) → r ≡ edgeRead edges e
-    → (ρ rho : List ℕ) → ReadInto ρ rho names → (c : Changes) → ResultsIn rho (meaning (actionOf (decodedEntry entries) (r .kind) (r .entry))) c → (room : ℕ) (f : Found) {f′ : Found}
-    → f′ ≡ foldl (offer (sizes s) room (r .target)) f (map (set ρ (c .name)) (take (c .count) (c .sets))) → f′ ≡ offerResults (sizes s) (graph s) room ρ f e
+pub edge-offered : {ns : List ℕ} {g : Graph} {code graph : List ℕ} (x : Prepared ns g code graph) (e : ℕ) → e < length (g .edges) → (ρ rho : List ℕ) → ReadInto ρ rho (length ns)
+    → (r : ℕ) → ResultsIn rho (decodedMeaning (entriesIn code graph) (actionIn graph e)) r → (room : ℕ) (f : Found) {f′ : Found}
+    → f′ ≡ foldl (offer ns room (targetIn graph e)) f (map (set ρ (r % 64)) (setsOf (r / 64))) → f′ ≡ offerResults ns g room ρ f e
 unfolding offerResults
-edge-offered {s} {edges} {entries} {edge-count} x e h r read ρ rho y c k room f p =
-    let same =
-    ap (λ (l : List ℕ). meaning (actionOf (decodedEntry l) (r .kind) (r .entry))) (x .entries-decoded) ∙ ap meaning (drawn-action s edges _ edge-count (x .drawn .drawing) e r h read)
-    in
-    rw (← drawn-target s edges _ edge-count (x .drawn .drawing) e r h read, ← same, k .gives ρ (y .alike)) p
+edge-offered x e h ρ rho y r k room f p =
+    let d = x .edge e h in
+    rw (← d .target, ← d .action, k .gives ρ (omega (arith, y .sized, x .coded .few)) (y .alike)) p
 
 -- ---- Along the edges out of a node
 
@@ -82,64 +76,78 @@ module _ (f : Found → ℕ → Found) (g : Graph) (node : ℕ) (z : Found) wher
       let whole : n + (m - n) ≡ m = omega arith in
       ap (λ (k : ℕ). along f g node k z) (sym whole) ∙ along-passed n (m - n) (λ i a b. h i a (omega arith))
 
-module _ {edges : List ℕ} {count : ℕ} {ls : List ℕ} (w : Followable edges count ls) (node : ℕ) where
+module _ {graph : List ℕ} (w : Linked graph) (node : ℕ) where
+  abbrev count : ℕ
+  count = getD graph edgeCountPlace 0
+
+  -- from a node past the last of 129 there is no edge
+  first-none : 129 ≤ node → firstIn graph node ≡ 255
+  unfolding firstIn
+  first-none h = rw (le-ltb node 129 h)
+
   -- following a link comes to an edge out of the node
-  pub first-leaves : node < 129 → getD ls node 0 < count → sourceIn edges (getD ls node 0) ≡ node
-  first-leaves h l = first-followed w node (λ k. ⊥) h .here l
+  pub first-leaves : firstIn graph node < count → sourceIn graph (firstIn graph node) ≡ node
+  first-leaves l =
+      elim (decLt node 129) [
+        | yes h ↦ first-is-followed w node (λ k. ⊥) h .here l
+        | no h ↦ absurd (omega (arith, first-none (omega arith), w .few))
+      ]
 
   abbrev Before : ℕ → ℕ → Type 0
   Before e k = k < suc e
 
-  next-passes : (e : ℕ) → e < count → sourceIn edges e ≡ node → Followed edges count node (Before e) (getD ls (129 + e) 0)
-  next-passes e h here = next-followed w node (Before e) e h (record { here = λ l. here; before = λ k l a b. omega arith }) (omega arith)
+  next-passes : (e : ℕ) → e < count → sourceIn graph e ≡ node → Following graph node (Before e) (nextIn graph e)
+  next-passes e h here = next-is-followed w node (Before e) e h (record { here = λ l. here; before = λ k l a b. omega arith }) (omega arith)
 
-  pub next-leaves : (e : ℕ) → e < count → sourceIn edges e ≡ node → getD ls (129 + e) 0 < count → sourceIn edges (getD ls (129 + e) 0) ≡ node
+  pub next-leaves : (e : ℕ) → e < count → sourceIn graph e ≡ node → nextIn graph e < count → sourceIn graph (nextIn graph e) ≡ node
   next-leaves e h here l = next-passes e h here .here l
 
-  module _ {s entries : List ℕ} {names : ℕ} (x : Decoded s edges entries count names) (f : Found → ℕ → Found) (z : Found) where
-    leaves-by : (k : ℕ) → k < count → leaves (graph s) k node ≡ eqb (sourceIn edges k) node
-    unfolding sourceIn
-    leaves-by k h = sym (drawn-leaves s edges _ count (x .drawn .drawing) k node (edgeRead edges k) h refl)
+  module _ {ns code : List ℕ} {g : Graph} (x : Prepared ns g code graph) (f : Found → ℕ → Found) (z : Found) where
+    leaves-by : (k : ℕ) → k < count → leaves g k node ≡ eqb (sourceIn graph k) node
+    unfolding leaves
+    leaves-by k h =
+        let l : k < length (g .edges) = omega (arith, x .edges) in
+        rw (lt-ltb k (length (g .edges)) l, x .edge k l .source)
 
     -- an edge before which something holds that does not hold of it is passed over
-    passed-over : (P : ℕ → Type 0) (e : ℕ) → Followed edges count node P e → (k : ℕ) → k < e → k < count → (P k → ⊥) → leaves (graph s) k node ≡ false
-    passed-over P e at k h l d = by (eqb (sourceIn edges k) node) refl
+    passed-over : (P : ℕ → Type 0) (e : ℕ) → Following graph node P e → (k : ℕ) → k < e → k < count → (P k → ⊥) → leaves g k node ≡ false
+    passed-over P e at k h l d = by (eqb (sourceIn graph k) node) refl
       where
-        by : (b : Bool) → eqb (sourceIn edges k) node ≡ b → leaves (graph s) k node ≡ false
+        by : (b : Bool) → eqb (sourceIn graph k) node ≡ b → leaves g k node ≡ false
         by true q = absurd (d (at .before k h l q))
         by false q = leaves-by k l ∙ q
 
-    pub first-along : node < 129 → z ≡ along f (graph s) node (min (getD ls node 0) count) z
-    first-along h =
-        sym
-        (along-between f (graph s) node z 0 (min (getD ls node 0) count) (omega arith)
-        (λ i a b. passed-over (λ k. ⊥) _ (first-followed w node (λ k. ⊥) h) i (omega arith) (omega arith) (λ v. v))
-        ∙ along-none f (graph s) node z)
+    -- none leaves a node past the last
+    none-leaves : 129 ≤ node → (k : ℕ) → k < count → leaves g k node ≡ false
+    none-leaves h k l =
+        let d = x .edge k (omega (arith, x .edges)) in
+        leaves-by k l ∙ ne-eqb (sourceIn graph k) node (λ q. omega (arith, d .source, d .from, x .few-nodes))
 
-    pub next-along : (e : ℕ) → e < count → sourceIn edges e ≡ node → {a b : Found} → a ≡ along f (graph s) node (min e count) z → b ≡ f a e
-        → b ≡ along f (graph s) node (min (getD ls (129 + e) 0) count) z
+    pub first-along : z ≡ along f g node (min (firstIn graph node) count) z
+    first-along =
+        sym
+        (along-between f g node z 0 (min (firstIn graph node) count) (omega arith)
+        (λ i a b. elim (decLt node 129) [
+          | yes h ↦ passed-over (λ k. ⊥) _ (first-is-followed w node (λ k. ⊥) h) i (omega arith) (omega arith) (λ v. v)
+          | no h ↦ none-leaves (omega arith) i (omega arith)
+        ])
+        ∙ along-none f g node z)
+
+    pub next-along : (e : ℕ) → e < count → sourceIn graph e ≡ node → {a b : Found} → a ≡ along f g node (min e count) z → b ≡ f a e
+        → b ≡ along f g node (min (nextIn graph e) count) z
     next-along e h here {a} {b} p q =
         let here-now : min e count ≡ e = omega arith in
-        q ∙ ap (λ (v : Found). f v e) (p ∙ ap (λ (n : ℕ). along f (graph s) node n z) here-now)
-        ∙ sym (along-taken f (graph s) node z e (leaves-by e h ∙ eq-eqb (sourceIn edges e) node here))
+        q ∙ ap (λ (v : Found). f v e) (p ∙ ap (λ (n : ℕ). along f g node n z) here-now)
+        ∙ sym (along-taken f g node z e (leaves-by e h ∙ eq-eqb (sourceIn graph e) node here))
         ∙ sym
-        (along-between f (graph s) node z (suc e) (min (getD ls (129 + e) 0) count) (omega (arith, next-beyond w e h))
+        (along-between f g node z (suc e) (min (nextIn graph e) count) (omega (arith, next-is-beyond w e h))
         (λ i a b. passed-over (Before e) _ (next-passes e h here) i (omega arith) (omega arith) (λ v. omega arith)))
 
-    -- all edges; and from a node past the last there is none
-    pub all-along : (e : ℕ) → count ≤ e → {a : Found} → a ≡ along f (graph s) node (min e count) z → a ≡ along f (graph s) node (length (graph s .edges)) z
+    -- all edges
+    pub all-along : (e : ℕ) → count ≤ e → {a : Found} → a ≡ along f g node (min e count) z → a ≡ along f g node (length (g .edges)) z
     all-along e h p =
-        let all : min e count ≡ length (graph s .edges) = omega (arith, x .drawn .drawing .edge-count) in
-        p ∙ ap (λ (n : ℕ). along f (graph s) node n z) all
-
-    pub none-along : 129 ≤ node → z ≡ along f (graph s) node (length (graph s .edges)) z
-    none-along h =
-        sym
-        (along-between f (graph s) node z 0 (length (graph s .edges)) (omega arith)
-        (λ i a b.
-        let l : i < count = omega (arith, x .drawn .drawing .edge-count) in
-        leaves-by i l ∙ ne-eqb (sourceIn edges i) node (λ q. omega (arith, linkable s edges _ count (x .drawn .drawing) .inside i l)))
-        ∙ along-none f (graph s) node z)
+        let all : min e count ≡ length (g .edges) = omega (arith, x .edges) in
+        p ∙ ap (λ (n : ℕ). along f g node n z) all
 
 -- ---- Down the list
 

@@ -15,12 +15,13 @@ use Rattle.signs.specs.Sign.{signOf, single, has, members, added, removed}
 use Rattle.signs.specs.Truth.{among}
 use Rattle.signs.specs.declared.Reason.the-variants.{IndexTooLarge}
 use Rattle.signs.proofs.Laws.{has-member}
-use Rattle.program.specs.File.{cellsOf, cellCount, firstCell}
-use Rattle.program.specs.Sorted.{isVariable, isArray, arithNamed, booleanNamed}
+use Rattle.program.specs.File.{cellsOf, cellCount, firstCell, isVariable, isArray}
+use Rattle.program.specs.Sorted.{meaningNamed, arithNamed, booleanNamed}
 use Rattle.program.specs.Syntax.{Arith, Boolean}
 use Rattle.program.proofs.Lists.{getD-tabulate}
 use Rattle.program.proofs.Tests.{is-true}
-use Rattle.semantics.specs.Action.{Meaning, nothing, assigns, stores, condition, pass, storeTo, effect, after, isDefined}
+use Rattle.program.specs.Meaning.{Meaning, nothing, assigns, stores, condition}
+use Rattle.semantics.specs.Action.{pass, storeTo, effect, after, isDefined}
 use Rattle.semantics.specs.Expression.{fault, cellValue, at, nowhere, placeOf, value, truthIn}
 use Rattle.semantics.specs.declared.Effect.{Effect}
 use Rattle.semantics.specs.declared.Evaluation.{Evaluation}
@@ -31,7 +32,6 @@ use Rattle.analysis.specs.Abstraction.{signsOf, nameValues, abstractMemo
 use Rattle.analysis.specs.Results.{assignedSets, setsWith, storedSets, results}
 use Rattle.analysis.specs.Signs.{mayIndex, signsIn, truthsIn}
 use Rattle.semantics.proofs.Laws.{variable-there, array-there}
-use Rattle.semantics.proofs.Named.{meaningNamed}
 use Rattle.analysis.proofs.Stores.{only-sign, stored-set, same-cell, other-cell, abstract-stored}
 use Rattle.analysis.proofs.Values.{may-index, cell-sign, value-sound, truth-sound}
 

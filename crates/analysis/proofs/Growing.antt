@@ -2,18 +2,19 @@
 use mathlib.Core.Logic.{_≢_}
 use mathlib.Core.Path.{_≡_, refl, sym, ap, subst, _∙_}
 use mathlib.Core.Bool.{Bool, true, false}
-use mathlib.Core.List.{List, [], _∷_, _++_, foldl, map, append-assoc, map-append, foldl-append}
-use Prim.Native.Nat.{ℕ, suc, _+_, _*_, _/_, _-_, _<_, _≤_}
+use mathlib.Core.List.{List, [], _∷_, _++_, foldl, map, append-assoc, foldl-append}
+use Prim.Native.Nat.{ℕ, suc, _+_, _*_, _/_, _%_, _-_, _<_, _≤_}
 use native.Mathlib.Nat.{mul-suc, mul-le-mul-left, le-refl}
 use native.Mathlib.Numerals.{add-one}
 use native.Mathlib.Omega.{arith}
 use borrow.Author.Tests.{lt-ltb, le-ltb}
 use lib.ListN.{length, getD, take, drop, length-append, length-drop}
-use lib.Seq.{length-take-le, take-suc, take-at, drop-at, drop-drop}
+use lib.Seq.{length-take-le, take-at, drop-at, drop-drop}
 use Rattle.signs.specs.Lists.{tabulate}
 use Rattle.program.specs.Drawing.{over}
 use Rattle.program.specs.DrawingParts.{overAt}
 use Rattle.program.proofs.Lists.{length-tabulate, tabulate-same}
+use Rattle.analysis.specs.Changing.{setsOf}
 use Rattle.analysis.specs.Membership.{among, bucket, Indexed}
 use Rattle.analysis.specs.Records.{initialWidth, recordWidth, recordCount, recordAt, recordsOf, recordFor, listed}
 use Rattle.analysis.specs.Solver.{Found, offer}
@@ -21,18 +22,19 @@ use Rattle.analysis.specs.Solving.{foundIn, Growing, Extended}
 use Rattle.analysis.specs.declared.solver.Progress.{Progress}
 use Rattle.analysis.proofs.Among.{listed-among, record-kept, indexed-kept}
 use Rattle.analysis.proofs.Chains.{record-inside}
+use Rattle.analysis.proofs.Digits.{sets-none, sets-next}
 
 -- ---- What offering does to a buffer
 
-module _ (fs : List ℕ) (width room : ℕ) where
+module _ (width : ℕ) where
   -- nothing, and one offering after another
-  pub extended-none : (buffer heads next : List ℕ) (p : Progress) → Growing fs width room buffer heads next p → Extended fs width room buffer p buffer heads next p
-  extended-none buffer heads next p g = record { growing = g; sized = refl; more = le-refl _; past = refl }
+  pub extended-none : (buffer index : List ℕ) (p : Progress) → Growing width buffer index p → Extended width buffer p buffer index p
+  extended-none buffer index p g = record { growing = g; room = refl; sized = refl; more = le-refl _; past = refl }
 
-  pub extended-more : {b₀ b₁ h₁ n₁ b₂ h₂ n₂ : List ℕ} {p₀ p₁ p₂ : Progress} → Extended fs width room b₀ p₀ b₁ h₁ n₁ p₁ → Extended fs width room b₁ p₁ b₂ h₂ n₂ p₂
-      → Extended fs width room b₀ p₀ b₂ h₂ n₂ p₂
-  extended-more {b₀} {b₁} {h₁} {n₁} {b₂} {h₂} {n₂} {p₀} {p₁} {p₂} x y =
-      record { growing = y .growing; sized = y .sized ∙ x .sized; more = omega (arith, x .more, y .more); past = y .past ∙ later }
+  pub extended-more : {b₀ b₁ i₁ b₂ i₂ : List ℕ} {p₀ p₁ p₂ : Progress} → Extended width b₀ p₀ b₁ i₁ p₁ → Extended width b₁ p₁ b₂ i₂ p₂
+      → Extended width b₀ p₀ b₂ i₂ p₂
+  extended-more {b₀} {b₁} {i₁} {b₂} {i₂} {p₀} {p₁} {p₂} x y =
+      record { growing = y .growing; room = y .room ∙ x .room; sized = y .sized ∙ x .sized; more = omega (arith, x .more, y .more); past = y .past ∙ later }
     where
       later : drop (width * p₂ .count) b₁ ≡ drop (width * p₂ .count) b₀
       later =
@@ -65,15 +67,15 @@ module _ (fs : List ℕ) (width room : ℕ) where
     put-sized = rw (laid, length-append, length-append, kept-length, length-drop) (omega (arith, mul-suc width n))
 
   -- where there is room for one more
-  module _ (buffer heads next : List ℕ) (p : Progress) (g : Growing fs width room buffer heads next p) (space : p .count ≢ room) where
+  module _ (buffer index : List ℕ) (p : Progress) (g : Growing width buffer index p) (space : p .count ≢ p .room) where
     pub put-fits : width * p .count + width ≤ length buffer
-    put-fits = record-inside width (p .count) room (length buffer) (omega (arith, g .few)) (g .fits)
+    put-fits = record-inside width (p .count) (p .room) (length buffer) (omega (arith, g .few)) (g .fits)
 
     module _ (buffer′ row : List ℕ) (long : length row ≡ width) (put : buffer′ ≡ overAt (width * p .count) row buffer) where
-      pub extended-put : (heads′ next′ : List ℕ) (h : ℕ) → h ≡ bucket fs row
-          → (Indexed fs width buffer′ (p .count) heads next → width * suc (p .count) ≤ length buffer′ → h ≡ bucket fs (recordAt width buffer′ (p .count)) → Indexed fs width buffer′ (suc (p .count)) heads′ next′)
-          → Extended fs width room buffer p buffer′ heads′ next′ (record { count = p .count + 1; full = false })
-      extended-put heads′ next′ h hashed enter =
+      pub extended-put : (index′ : List ℕ) (h : ℕ) → h ≡ bucket row
+          → (Indexed width buffer′ (p .count) index → width * suc (p .count) ≤ length buffer′ → h ≡ bucket (recordAt width buffer′ (p .count)) → Indexed width buffer′ (suc (p .count)) index′)
+          → Extended width buffer p buffer′ index′ (record { count = p .count + 1; room = p .room; full = false })
+      extended-put index′ h hashed enter =
           record {
             growing =
                 record {
@@ -83,9 +85,10 @@ module _ (fs : List ℕ) (width room : ℕ) where
                   few = omega (arith, g .few);
                   indexed =
                       rw add-one
-                      (enter (indexed-kept width (p .count) buffer buffer′ (sym (put-keeps buffer buffer′ row (p .count) long put-fits put)) fs heads next (omega (arith, sized, put-fits)) (g .indexed))
-                      (omega (arith, mul-suc width (p .count), sized, put-fits)) (hashed ∙ ap (bucket fs) (sym (put-record buffer buffer′ row (p .count) long put-fits put))));
+                      (enter (indexed-kept width (p .count) buffer buffer′ (sym (put-keeps buffer buffer′ row (p .count) long put-fits put)) index (omega (arith, sized, put-fits)) (g .indexed))
+                      (omega (arith, mul-suc width (p .count), sized, put-fits)) (hashed ∙ ap bucket (sym (put-record buffer buffer′ row (p .count) long put-fits put))));
                 };
+            room = refl;
             sized = sized;
             more = omega arith;
             past = rw add-one (put-past buffer buffer′ row (p .count) long put-fits put);
@@ -94,7 +97,7 @@ module _ (fs : List ℕ) (width room : ℕ) where
           sized : length buffer′ ≡ length buffer
           sized = put-sized buffer buffer′ row (p .count) long put-fits put
 
-      pub found-put : foundIn width buffer′ (record { count = p .count + 1; full = false }) ≡ record { records = foundIn width buffer p .records ++ (row ∷ []); full = false }
+      pub found-put : foundIn width buffer′ (record { count = p .count + 1; room = p .room; full = false }) ≡ record { records = foundIn width buffer p .records ++ (row ∷ []); full = false }
       unfolding foundIn tabulate
       found-put =
           rw (
@@ -126,7 +129,7 @@ module _ (ns : List ℕ) (room node : ℕ) (f : Found) (ρ : List ℕ) where
       offer-more r h = rw (e, l, lt-ltb (length (f .records)) room h, r)
 
 -- as the index answers it
-module _ {fs : List ℕ} {width room : ℕ} {buffer heads next : List ℕ} {p : Progress} (g : Growing fs width room buffer heads next p) where
+module _ {width : ℕ} {buffer index : List ℕ} {p : Progress} (g : Growing width buffer index p) where
   pub listed-told : ((i : ℕ) → getD buffer i 0 < 256) → (ns : List ℕ) (node : ℕ) (ρ row : List ℕ) → node < 65536 → recordWidth ns ≡ width → row ≡ recordFor node ρ
       → (b : Bool) → b ≡ among width buffer (p .count) row → listed ns (foundIn width buffer p .records) node ρ ≡ b
   unfolding foundIn
@@ -138,14 +141,14 @@ module _ {fs : List ℕ} {width room : ℕ} {buffer heads next : List ℕ} {p : 
   found-count = length-tabulate (p .count) (recordAt width buffer)
 
   -- a list found to be full is as it was
-  pub extended-full : Extended fs width room buffer p buffer heads next (record { count = p .count; full = true })
-  extended-full = record { growing = record { wide = g .wide; most = g .most; fits = g .fits; few = g .few; indexed = g .indexed }; sized = refl; more = le-refl _; past = refl }
+  pub extended-full : Extended width buffer p buffer index (record { count = p .count; room = p .room; full = true })
+  extended-full = record { growing = record { wide = g .wide; most = g .most; fits = g .fits; few = g .few; indexed = g .indexed }; room = refl; sized = refl; more = le-refl _; past = refl }
 
 pub found-full : (width : ℕ) (buffer : List ℕ) (p : Progress) → foundIn width buffer p .full ≡ p .full
 unfolding foundIn
 found-full width buffer p = refl
 
-pub found-none : (width : ℕ) (buffer : List ℕ) (p : Progress) → foundIn width buffer (record { count = p .count; full = true }) ≡ record { records = foundIn width buffer p .records; full = true }
+pub found-none : (width : ℕ) (buffer : List ℕ) (p : Progress) → foundIn width buffer (record { count = p .count; room = p .room; full = true }) ≡ record { records = foundIn width buffer p .records; full = true }
 unfolding foundIn
 found-none width buffer p = refl
 
@@ -156,15 +159,19 @@ width-of ns e = ap (λ (n : ℕ). 2 + n) e
 
 -- ---- One offer after another
 
+-- of what a function gives
 module _ {A : Type 0} (f : Found → A → Found) (z : Found) where
-  -- of the results of an edge, and of what a function gives
-  pub results-more : (change : ℕ → A) (sets : List ℕ) (j : ℕ) → j < length sets → {x y : Found} → y ≡ f x (change (getD sets j 0)) → x ≡ foldl f z (map change (take j sets))
-      → y ≡ foldl f z (map change (take (suc j) sets))
-  results-more change sets j h p q = rw (take-suc sets j 0 h, map-append, foldl-append f z (map change (take j sets)) (change (getD sets j 0) ∷ []), ← q) p
-
   pub tabulated-more : (g : ℕ → A) (k : ℕ) {x y : Found} → y ≡ f x (g k) → x ≡ foldl f z (tabulate k g) → y ≡ foldl f z (tabulate (suc k) g)
   unfolding tabulate
   tabulated-more g k p q = rw (foldl-append f z (tabulate k g) (g k ∷ []), ← q) p
+
+-- of the sets of a result: the others are left
+pub sets-more : {A : Type 0} (f : Found → A → Found) (change : ℕ → A) (n : ℕ) → 0 < n → n < 68719476736 → {x y z : Found} → y ≡ f x (change (n % 8))
+    → z ≡ foldl f x (map change (setsOf n)) → z ≡ foldl f y (map change (setsOf (n / 8)))
+sets-more f change n some few p q = rw p (q ∙ rw (sets-next n some few))
+
+pub sets-end : {A : Type 0} (f : Found → A → Found) (change : ℕ → A) (n : ℕ) → n ≤ 0 → {x z : Found} → z ≡ foldl f x (map change (setsOf n)) → x ≡ z
+sets-end f change n none {x} q = let e : n ≡ 0 = omega arith in sym (q ∙ rw (e, sets-none))
 
 -- all records of a start list
 pub starts-all : (ns : List ℕ) {names : ℕ} → length ns ≡ names → (bytes : List ℕ) (room : ℕ) (x : Found) {y : Found}

@@ -1,44 +1,39 @@
 -- How records lie in their lists.
 use mathlib.Core.Path.{_≡_, refl, ap, sym, _∙_}
 use mathlib.Core.Bool.{Bool, true, false, cond, not, _&&_, _||_, false≢true}
-use mathlib.Core.List.{List, [], _∷_, _++_, append-assoc, append-nil}
+use mathlib.Core.List.{List, [], _∷_, _++_, append-assoc}
 use Prim.Native.Nat.{ℕ, zero, suc, _+_, _*_, _/_, _≤_, _<_}
 use native.Mathlib.Decide.{ℕ-discrete, decLt}
-use native.Mathlib.Nat.{le-refl, zero-add, add-zero, suc-add, mul-suc, mul-le-mul-left, mul-div-le}
+use native.Mathlib.Nat.{le-refl, zero-add, add-zero, add-assoc, suc-add, mul-suc, mul-le-mul-left, mul-div-le}
 use native.Mathlib.Omega.{arith}
-use lib.ListN.{length, getD, set, take, drop, length-set, length-take, length-drop, drop-of-length-le, List·getD-eq-default}
-use lib.Seq.{paste, length-take-le, take-length, take-take, take-nil, drop-drop, getD-set-same, getD-set-other, getD-take, getD-drop, take-append-add, ext-getD}
-use borrow.Author.Tests.{ltb-true, lt-ltb, le-ltb, ne-eqb}
+use lib.ListN.{length, getD, set, take, drop, length-set, length-take, length-drop, length-append, List·getD-eq-default}
+use lib.Seq.{paste, length-take-le, take-take, take-nil, drop-drop, getD-take, take-at, drop-at, set-out, sets-eq, ext-getD}
+use borrow.Author.Tests.{ltb-true, ne-eqb}
 use lib.Dec.{eqb, leb}
-use Rattle.signs.specs.Lists.{tabulate}
 use Rattle.program.specs.Asking.{ask, askEach, isRefused}
-use Rattle.program.specs.Decoding.{decodedSizes}
 use Rattle.program.specs.Drawing.{over}
 use Rattle.program.specs.DrawingParts.{overAt}
-use Rattle.program.specs.File.{byteAt, wordAt, nameCount, sizes}
+use Rattle.program.specs.File.{byteAt, wordAt}
 use Rattle.program.specs.Graph.{Graph, wordBytes}
-use Rattle.program.specs.Questions.{validity}
+use Rattle.program.specs.Prepared.{Coded, sizeIn, nameCountPlace}
 use Rattle.program.specs.declared.Validity.{Validity}
 use Rattle.program.specs.declared.Validity.the-variants.{Fit}
 use Rattle.program.proofs.Asking.{then-first, then-second}
 use Rattle.signs.proofs.Lists.{or-false}
-use Rattle.program.proofs.Laws.{ask-fit, each-fit, each-goes-on, each-same, sizes-length, names-decoded}
-use Rattle.program.proofs.Lists.{length-tabulate, getD-tabulate}
+use Rattle.program.proofs.Laws.{ask-fit, each-fit, each-goes-on, each-same}
 use Rattle.analysis.specs.Abstraction.{wellFormed}
 use Rattle.analysis.specs.Changing.{Alike}
 use Rattle.analysis.specs.Judging.{ReadInto}
-use Rattle.analysis.specs.RecordParts.{paddedByte, padded, SizesIn, recordFormed}
+use Rattle.analysis.specs.Membership.{Front, changed}
+use Rattle.analysis.specs.RecordParts.{padded, SizesIn, recordFormed}
 use Rattle.analysis.specs.Records.{initialWidth, recordWidth, recordCount, recordAt, nodeOf, memoryOf, recordFor, memoryFormed, initialFormed, solutionFormed}
+use Rattle.analysis.specs.declared.Change.{Change}
+use Rattle.analysis.proofs.Hashes.{part-at, padded-at, padded-past}
 
--- all of a row's bytes are over a buffer
-pub pasted : (buffer : List ℕ) (at : ℕ) (row : List ℕ) (n : ℕ) → n ≡ length row → paste buffer at row n ≡ overAt at row buffer
+-- the front of a row is over a buffer
+pub pasted : (buffer : List ℕ) (at : ℕ) (row : List ℕ) (n m : ℕ) → n ≡ m → m ≤ length row → paste buffer at row n ≡ overAt at (take m row) buffer
 unfolding over overAt
-pasted buffer at row n e = rw (e, take-length row, drop-drop, append-assoc)
-
--- a row over as many bytes
-pub over-all : (row buffer : List ℕ) → length buffer ≡ length row → over row buffer ≡ row
-unfolding over
-over-all row buffer e = rw (drop-of-length-le buffer {i = length row} (omega arith), append-nil row)
+pasted buffer at row n m e h = rw (e, length-take-le m row h, drop-drop, append-assoc)
 
 -- a record that is counted is inside its list
 pub record-inside : (n width k : ℕ) → k < n / width → width * k + width ≤ n
@@ -48,9 +43,9 @@ or-known : (a b : Bool) → (a ≡ true → b ≡ true) → (a || b) ≡ b
 or-known true b k = sym (k refl)
 or-known false b k = refl
 
--- question 17 of the byte of name i, by the decoded sizes
+-- question 17 of the byte of name i, by the sizes in the code
 abbrev pub byteAsked : List ℕ → List ℕ → ℕ → ℕ → Validity
-byteAsked szs bytes at i = ask (wellFormed (getD szs i 0) (byteAt bytes (at + i))) 17 (at + i)
+byteAsked code bytes at i = ask (wellFormed (sizeIn code i) (byteAt bytes (at + i))) 17 (at + i)
 
 -- by tests of which none is left out; and with one byte more
 pub formed-by-tests : (size b : ℕ) → ((eqb b 1 || eqb b 2 || eqb b 4) || (not (eqb size 0) && (leb 1 b && leb b 7))) ≡ wellFormed size b
@@ -77,18 +72,18 @@ formed-by-tests size b = by (eqb size 0) one-known
     by true k = or-false (eqb b 1 || eqb b 2 || eqb b 4)
     by false k = or-known (eqb b 1 || eqb b 2 || eqb b 4) (leb 1 b && leb b 7) k
 
-pub byte-passed : (szs bytes : List ℕ) (at i : ℕ) → askEach i (byteAsked szs bytes at) ≡ Fit → wellFormed (getD szs i 0) (byteAt bytes (at + i)) ≡ true
-    → askEach (suc i) (byteAsked szs bytes at) ≡ Fit
+pub byte-passed : (code bytes : List ℕ) (at i : ℕ) → askEach i (byteAsked code bytes at) ≡ Fit → wellFormed (sizeIn code i) (byteAt bytes (at + i)) ≡ true
+    → askEach (suc i) (byteAsked code bytes at) ≡ Fit
 unfolding ask isRefused
-byte-passed szs bytes at i e p = each-goes-on (byteAsked szs bytes at) i _ _ e refl refl (rw p)
+byte-passed code bytes at i e p = each-goes-on (byteAsked code bytes at) i _ _ e refl refl (rw p)
 
 -- of a memory, of a start list and of a solution
-module _ {ns szs : List ℕ} {names : ℕ} (y : SizesIn ns szs names) (bytes : List ℕ) where
-  pub memory-asked : (at : ℕ) → askEach names (byteAsked szs bytes at) ≡ memoryFormed ns bytes at
+module _ {ns code : List ℕ} {names : ℕ} (y : SizesIn ns code names) (bytes : List ℕ) where
+  pub memory-asked : (at : ℕ) → askEach names (byteAsked code bytes at) ≡ memoryFormed ns bytes at
   unfolding memoryFormed
   memory-asked at =
       each-same names _ _ (λ k h. ap (λ (size : ℕ). ask (wellFormed size (byteAt bytes (at + k))) 17 (at + k)) (sym (y .size k h)))
-      ∙ ap (λ (n : ℕ). askEach n (byteAsked ns bytes at)) (sym (y .count))
+      ∙ ap (λ (n : ℕ). askEach n (λ i. ask (wellFormed (getD ns i 0) (byteAt bytes (at + i))) 17 (at + i))) (sym (y .count))
 
   pub initial-asked : askEach (length bytes / names) (λ k. memoryFormed ns bytes (names * k)) ≡ initialFormed ns bytes
   unfolding initialFormed recordCount initialWidth
@@ -108,23 +103,12 @@ part-taken zero m l = ap (λ (k : ℕ). take k l) (zero-add m)
 part-taken (suc n) m [] = rw (take-nil (suc n + m), take-nil m)
 part-taken (suc n) m (x ∷ l) = rw suc-add (part-taken n m l)
 
-part-at : (bytes : List ℕ) (at n i : ℕ) → i < n → getD (take n (drop at bytes)) i 0 ≡ getD bytes (at + i) 0
-part-at bytes at n i h = getD-take n (drop at bytes) i 0 h ∙ getD-drop at bytes i 0
-
 -- it reads like the array that its bytes are read into
 part-padded : (bytes : List ℕ) (at names : ℕ) → names ≤ 32 → (x : ℕ) → getD (take names (drop at bytes)) x 0 ≡ getD (padded bytes at names) x 0
-unfolding padded paddedByte byteAt
 part-padded bytes at names few x =
-    let byte = paddedByte bytes at names in
     elim (decLt x names) [
-      | yes h ↦ part-at bytes at names x h ∙ sym (getD-tabulate 32 byte x 0 (omega arith) ∙ rw (lt-ltb x names h))
-      | no h ↦
-          List·getD-eq-default (take names (drop at bytes)) 0 (omega (arith, length-take names (drop at bytes)))
-          ∙ sym
-          (elim (decLt x 32) [
-            | yes l ↦ getD-tabulate 32 byte x 0 l ∙ rw (le-ltb x names (omega arith))
-            | no l ↦ List·getD-eq-default (tabulate 32 byte) 0 (omega (arith, length-tabulate 32 byte))
-          ])
+      | yes h ↦ part-at bytes at names x h ∙ sym (padded-at bytes at names x few h)
+      | no h ↦ List·getD-eq-default (take names (drop at bytes)) 0 (omega (arith, length-take names (drop at bytes))) ∙ sym (padded-past bytes at names x (omega arith))
     ]
 
 part-length : (bytes : List ℕ) (at names : ℕ) → at + names ≤ length bytes → length (take names (drop at bytes)) ≡ names
@@ -150,53 +134,73 @@ module _ (bytes : List ℕ) (k names : ℕ) where
 
 -- ---- Records as they are written
 
--- the front of a longer list
-abbrev Front : List ℕ → List ℕ → Type 0
-Front ρ rho = (length ρ ≤ length rho) × ((x : ℕ) → x < length ρ → getD ρ x 0 ≡ getD rho x 0)
-
-front-changed : (ρ rho : List ℕ) (x b : ℕ) → Front ρ rho → Front (set ρ x b) (set rho x b)
-front-changed ρ rho x b h =
-    let size = length-set ρ x b in (
-      omega (arith, h .0, size, length-set rho x b),
-      λ y l. elim (ℕ-discrete y x) [
-        | yes e ↦ rw e (getD-set-same ρ x b 0 (omega arith) ∙ sym (getD-set-same rho x b 0 (omega (arith, h .0))))
-        | no d ↦ getD-set-other ρ x y b 0 d ∙ h .1 y (omega arith) ∙ sym (getD-set-other rho x y b 0 d)
-      ],
-    )
-
 set-past : {A : Type 0} (xs ys : List A) (i : ℕ) (a : A) → set (xs ++ ys) (length xs + i) a ≡ xs ++ set ys i a
 set-past [] ys i a = rw zero-add
 set-past (x ∷ xs) ys i a = rw (suc-add (length xs) i) (ap (λ l. x ∷ l) (set-past xs ys i a))
 
--- the record of an abstract memory is in front of the array's
-record-taken : (node : ℕ) (ρ rho : List ℕ) → Front ρ rho → take (2 + length ρ) (wordBytes node ++ rho) ≡ recordFor node ρ
-unfolding recordFor wordBytes
-record-taken node ρ rho h =
-    let long = length-take-le (length ρ) rho (h .0) in
-    take-append-add (wordBytes node) rho (length ρ)
-    ∙ ap (λ l. wordBytes node ++ l) (ext-getD 0 (take (length ρ) rho) ρ long (λ x l. getD-take (length ρ) rho x 0 (omega arith) ∙ sym (h .1 x (omega arith))))
+set-front : {A : Type 0} (xs ys : List A) (i : ℕ) (a : A) → i < length xs → set (xs ++ ys) i a ≡ set xs i a ++ ys
+set-front [] ys i a h = absurd (omega arith)
+set-front (x ∷ xs) ys zero a h = refl
+set-front (x ∷ xs) ys (suc i) a h = ap (λ l. x ∷ l) (set-front xs ys i a (omega arith))
 
--- also where a name has another set; where there is no such name, both are unchanged
-record-changed : (node : ℕ) (ρ rho : List ℕ) → Front ρ rho → (x b : ℕ) → take (2 + length ρ) (set (wordBytes node ++ rho) (2 + x) b) ≡ recordFor node (set ρ x b)
-unfolding wordBytes
-record-changed node ρ rho h x b =
-    ap (take (2 + length ρ)) (set-past (wordBytes node) rho x b)
-    ∙ ap (λ (n : ℕ). take (2 + n) (wordBytes node ++ set rho x b)) (sym (length-set ρ x b))
-    ∙ record-taken node (set ρ x b) (set rho x b) (front-changed ρ rho x b h)
+-- an abstract memory is the front of the array that it was read into, so its record, changed, is the one that the code looks for and writes
+pub changed-record : {ρ rho : List ℕ} {names : ℕ} → ReadInto ρ rho names → Front names rho → (c : Change) → changed names rho c ≡ recordFor (c .node) (set ρ (c .name) (c .set))
+unfolding changed Alike
+changed-record {ρ} {rho} {names} y f c =
+    let sized = length-take-le names rho (omega (arith, f .few, f .long)) in
+    ap (λ (σ : List ℕ). recordFor (c .node) (set σ (c .name) (c .set)))
+    (ext-getD 0 (take names rho) ρ (sized ∙ sym (y .sized)) (λ x l. getD-take names rho x 0 (omega (arith, sized)) ∙ sym (y .alike x)))
 
--- the record of an abstract memory, and of one with a name changed, is in front of the row that is made of its array
-module _ {ρ rho : List ℕ} {names : ℕ} (y : ReadInto ρ rho names) (few : 2 + names ≤ 34) (node : ℕ) (row : List ℕ) (long : length row ≡ 34) where
-  pub row-read : row ≡ wordBytes node ++ rho → take (2 + names) row ≡ recordFor node ρ
-  unfolding Alike wordBytes
-  row-read e =
-      ap (take (2 + names)) e ∙ ap (λ (n : ℕ). take (2 + n) (wordBytes node ++ rho)) (sym (y .sized))
-      ∙ record-taken node ρ rho (omega (arith, y .sized, long, ap length e), λ k l. y .alike k)
+pub changed-sized : {names : ℕ} {rho : List ℕ} → Front names rho → (c : Change) → length (changed names rho c) ≡ 2 + names
+unfolding changed recordFor wordBytes
+changed-sized {names} {rho} f c = omega (arith, length-set (take names rho) (c .name) (c .set), length-take-le names rho (omega (arith, f .few, f .long)))
 
-  pub row-changed : (name signs : ℕ) → row ≡ set (wordBytes node ++ rho) (2 + name) signs → take (2 + names) row ≡ recordFor node (set ρ name signs)
-  unfolding Alike wordBytes
-  row-changed name signs e =
-      ap (take (2 + names)) e ∙ ap (λ (n : ℕ). take (2 + n) (set (wordBytes node ++ rho) (2 + name) signs)) (sym (y .sized))
-      ∙ record-changed node ρ rho (omega (arith, y .sized, long, ap length e, length-set (wordBytes node ++ rho) (2 + name) signs), λ k l. y .alike k) name signs
+-- two bytes stored are over a buffer
+pub two-over : (at a b : ℕ) (buffer : List ℕ) → at + 2 ≤ length buffer → set (set buffer at a) (suc at) b ≡ overAt at (a ∷ b ∷ []) buffer
+unfolding over overAt
+two-over at a b buffer h = sets-eq (a ∷ b ∷ []) buffer at h ∙ rw (drop-drop 2 at buffer) (append-assoc (take at buffer) (a ∷ b ∷ []) (drop (at + 2) buffer))
+
+-- two rows, one after the other, are one; and another byte of a row
+over-then : (at : ℕ) (xs ys buffer : List ℕ) → at + length xs ≤ length buffer → overAt (at + length xs) ys (overAt at xs buffer) ≡ overAt at (xs ++ ys) buffer
+unfolding over overAt
+over-then at xs ys buffer h =
+    let front = take at buffer ++ xs in
+    let rest = drop (at + length xs) buffer in
+    let long : length front ≡ at + length xs = length-append (take at buffer) xs ∙ ap (λ n. n + length xs) (length-take-le at buffer (omega arith)) in
+    let whole : take at buffer ++ (xs ++ drop (length xs) (drop at buffer)) ≡ front ++ rest = rw (drop-drop (length xs) at buffer) (sym (append-assoc (take at buffer) xs rest)) in
+    let past : drop (length ys) (drop (at + length xs) (front ++ rest)) ≡ drop (length (xs ++ ys)) (drop at buffer) =
+    ap (drop (length ys)) (drop-at front rest (at + length xs) long) ∙ drop-drop (length ys) (at + length xs) buffer
+    ∙ ap (λ (n : ℕ). drop n buffer) (add-assoc at (length xs) (length ys) ∙ ap (λ (n : ℕ). at + n) (sym (length-append xs ys))) ∙ sym (drop-drop (length (xs ++ ys)) at buffer) in
+    rw (whole, take-at front rest (at + length xs) long, past)
+    (append-assoc (take at buffer) xs (ys ++ drop (length (xs ++ ys)) (drop at buffer)) ∙ ap (λ (r : List ℕ). take at buffer ++ r) (sym (append-assoc xs ys (drop (length (xs ++ ys)) (drop at buffer)))))
+
+over-set : (at : ℕ) (row buffer : List ℕ) (i b : ℕ) → i < length row → at ≤ length buffer → set (overAt at row buffer) (at + i) b ≡ overAt at (set row i b) buffer
+unfolding over overAt
+over-set at row buffer i b h l =
+    ap (λ (n : ℕ). set (take at buffer ++ (row ++ drop (length row) (drop at buffer))) (n + i) b) (sym (length-take-le at buffer l))
+    ∙ set-past (take at buffer) (row ++ drop (length row) (drop at buffer)) i b
+    ∙ ap (λ (r : List ℕ). take at buffer ++ r) (set-front row (drop (length row) (drop at buffer)) i b h ∙ ap (λ (n : ℕ). set row i b ++ drop n (drop at buffer)) (sym (length-set row i b)))
+
+-- a changed record over a buffer: its node, the memory, and the changed byte, where there is such a name
+module _ (at names : ℕ) (rho : List ℕ) (c : Change) (f : Front names rho) (buffer : List ℕ) (room : at + (2 + names) ≤ length buffer) (b1 b2 : List ℕ)
+    (node : b1 ≡ overAt at (wordBytes (c .node)) buffer) (memory : b2 ≡ overAt (at + 2) (take names rho) b1) where
+  both-over : b2 ≡ overAt at (wordBytes (c .node) ++ take names rho) buffer
+  unfolding wordBytes
+  both-over = rw (memory, node) (over-then at (wordBytes (c .node)) (take names rho) buffer (omega arith))
+
+  sized : length (take names rho) ≡ names
+  sized = length-take-le names rho (omega (arith, f .few, f .long))
+
+  pub wrote-changed : c .name < names → set b2 (at + 2 + c .name) (c .set) ≡ overAt at (changed names rho c) buffer
+  unfolding wordBytes changed recordFor
+  wrote-changed h =
+      ap (λ (i : ℕ). set b2 i (c .set)) (add-assoc at 2 (c .name)) ∙ ap (λ (b : List ℕ). set b (at + (2 + c .name)) (c .set)) both-over
+      ∙ over-set at (wordBytes (c .node) ++ take names rho) buffer (2 + c .name) (c .set) (omega (arith, sized)) (omega arith)
+      ∙ ap (λ (r : List ℕ). overAt at r buffer) (set-past (wordBytes (c .node)) (take names rho) (c .name) (c .set))
+
+  pub wrote-kept : names ≤ c .name → b2 ≡ overAt at (changed names rho c) buffer
+  unfolding changed recordFor
+  wrote-kept h = both-over ∙ ap (λ (m : List ℕ). overAt at (wordBytes (c .node) ++ m) buffer) (sym (set-out (take names rho) (c .name) (c .set) (omega (arith, sized))))
 
 -- ---- What question 17 says of a list where it is answered yes
 
@@ -219,6 +223,6 @@ pub byte-formed : (ns bytes : List ℕ) (at : ℕ) → memoryFormed ns bytes at 
 unfolding memoryFormed
 byte-formed ns bytes at fit i h = ask-fit _ 17 _ (each-fit _ _ fit i h)
 
--- the sizes of a well-formed file, decoded
-pub sizes-in : (s : List ℕ) → validity s ≡ Fit → SizesIn (sizes s) (decodedSizes s) (nameCount s)
-sizes-in s fit = record { count = sizes-length s; size = λ x h. sym (names-decoded s fit .size x (omega (arith, sizes-length s))) }
+-- the sizes in a program's code
+pub sizes-in : {ns code : List ℕ} → Coded ns code → (names : ℕ) → names ≡ getD code nameCountPlace 0 → SizesIn ns code names
+sizes-in x names e = record { count = sym (e ∙ x .count); size = λ i h. sym (x .size i (omega (arith, e, x .count))) }

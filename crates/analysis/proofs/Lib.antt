@@ -1,7 +1,7 @@
+pub mod Filling
 pub mod Open
 pub mod Tabulated
 pub mod Laid
-pub mod Padding
 pub mod Doubling
 pub mod Searching
 pub mod Judged
@@ -11,10 +11,12 @@ pub mod Meanings
 pub mod Stores
 pub mod Effects
 pub mod Accepted
+pub mod Digits
 pub mod Alike
 pub mod Widest
-pub mod Writing
 pub mod Chains
+pub mod Hashes
+pub mod Agreeing
 pub mod Among
 pub mod Growing
 pub mod Descending

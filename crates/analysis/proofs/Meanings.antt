@@ -9,10 +9,11 @@ use lib.IntN.{ℤ}
 use mir.Facts.{and-yes}
 use Rattle.signs.specs.Number.{reasonNumber}
 use Rattle.signs.specs.declared.Reason.the-variants.{ConditionFalse}
-use Rattle.program.specs.File.{firstCell}
-use Rattle.program.specs.Sorted.{isVariable, isArray, arithNamed, booleanNamed}
+use Rattle.program.specs.File.{firstCell, isVariable, isArray}
+use Rattle.program.specs.Sorted.{meaningNamed, arithNamed, booleanNamed}
 use Rattle.program.specs.Syntax.{Arith, Boolean}
-use Rattle.semantics.specs.Action.{Meaning, nothing, assigns, stores, condition, pass, storeTo, effect}
+use Rattle.program.specs.Meaning.{Meaning, nothing, assigns, stores, condition}
+use Rattle.semantics.specs.Action.{pass, storeTo, effect}
 use Rattle.semantics.specs.Expression.{fault, faultNumber, Place, at, nowhere, placeOf, value, truthIn}
 use Rattle.semantics.specs.declared.Effect.the-variants.{Undefined as Fails, Unchanged, Stored}
 use Rattle.semantics.specs.declared.Evaluation.{Evaluation}
@@ -24,7 +25,6 @@ use Rattle.analysis.specs.Abstraction.{abstractMemory}
 use Rattle.analysis.specs.Index.{arithIndexes, booleanIndexes, indexSets, mayBeNegative}
 use Rattle.analysis.specs.Signs.{signsIn}
 use Rattle.analysis.specs.Soundness.{isNegativeIndex}
-use Rattle.semantics.proofs.Named.{meaningNamed}
 use Rattle.analysis.proofs.Negative.{SomeMinus, first-minus, second-minus, place-minus, value-minus, truth-minus}
 
 -- an effect that is defined is no fault

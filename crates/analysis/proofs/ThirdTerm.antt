@@ -11,23 +11,23 @@ use lib.ListN.{length}
 use mir.Facts.{and-yes, yes-and, not-T}
 use Rattle.signs.specs.Lists.{allOf, indices}
 use Rattle.program.specs.File.{cellCount, sizes}
-use Rattle.program.specs.Graph.{Graph, graph, edges, edgeCount}
+use Rattle.program.specs.Graph.{Graph, graph, edges, edgeCount, edgeAt}
 use Rattle.program.specs.Questions.{validity}
-use Rattle.program.specs.Sorted.{actionNamed}
+use Rattle.program.specs.Sorted.{meaningNamed, actionNamed}
 use Rattle.program.specs.declared.Validity.{Validity}
 use Rattle.program.specs.declared.Validity.the-variants.{Fit, Refused}
-use Rattle.program.proofs.Laws.{ask-fit, turn-fit, edge-faithful}
+use Rattle.program.proofs.Laws.{ask-fit, turn-fit, edge-faithful, meaning-named}
 use Rattle.program.proofs.Tests.{passed}
-use Rattle.semantics.specs.Action.{meaning, effect, isDefined}
+use Rattle.program.specs.Meaning.{meaning}
+use Rattle.semantics.specs.Action.{effect, isDefined}
 use Rattle.semantics.specs.Budget.{runFrom, budgeted}
 use Rattle.semantics.specs.Replay.{replay, outcomes}
-use Rattle.semantics.specs.Step.{Configuration, fresh, begun, edgeAt, leaves, edgeEffect, memoryValidity, stepValidity, outcomeBy, unlessRefused, outcome, along, step}
+use Rattle.semantics.specs.Step.{Configuration, fresh, begun, leaves, edgeEffect, memoryValidity, stepValidity, outcomeBy, unlessRefused, outcome, along, step}
 use Rattle.semantics.specs.declared.Effect.{Effect}
 use Rattle.semantics.specs.declared.Outcome.{Outcome}
 use Rattle.semantics.specs.declared.Outcome.the-variants.{Taken, Undefined as Stays, Refused as Refuses}
 use Rattle.semantics.specs.declared.Effect.the-variants.{Undefined as Fails, Unchanged, Stored}
-use Rattle.semantics.proofs.Laws.{memory-fit, leaves-below, taken-takable, taken-step, untaken-step, along-length, lowest-found, run-ends, budgeted-run, refused-run, action-named}
-use Rattle.semantics.proofs.Named.{meaningNamed}
+use Rattle.semantics.proofs.Laws.{memory-fit, leaves-below, taken-takable, taken-step, untaken-step, along-length, lowest-found, run-ends, budgeted-run, refused-run}
 use Rattle.analysis.specs.Abstraction.{abstractMemory}
 use Rattle.analysis.specs.Soundness.{isNegativeIndex, meetsInCall, meetsInEffect, hasConfiguration, noEdgeMeets, Sound, ThirdTermFor, ThirdTerm}
 use Rattle.analysis.specs.Verdict.{judged, verdict}
@@ -45,7 +45,7 @@ module _ (ns : List ℕ) (g : Graph) (named : (e : ℕ) → e < length (g .edges
   Covered c = T (hasConfiguration ns solution c)
 
   edge-named : (e node : ℕ) → T (leaves g e node) → T (meaningNamed ns (meaning (edgeAt g e .action)))
-  edge-named e node l = action-named ns (edgeAt g e .action) (named e (leaves-below g e node l))
+  edge-named e node l = meaning-named ns (edgeAt g e .action) (named e (leaves-below g e node l))
 
   -- along a defined edge out of the node
   covered-along : (c : Configuration) (e : ℕ) → length (c .memory) ≡ cellCount ns → Covered c → T (leaves g e (c .run .node)) → T (isDefined (edgeEffect ns g (c .memory) e)) → Covered (along ns g c e)

@@ -14,22 +14,21 @@ use Rattle.signs.specs.declared.Sign.the-variants.{Minus, Zero, Plus}
 use Rattle.signs.proofs.Laws.{has-empty, operate-monotone}
 use Rattle.signs.proofs.Lists.{or-mono}
 use Rattle.signs.proofs.Membership.{Within}
-use Rattle.program.specs.Drawing.{edgeRead}
-use Rattle.program.specs.File.{sizes}
-use Rattle.program.specs.Graph.{graph}
+use Rattle.program.specs.Graph.{Graph}
+use Rattle.program.specs.Prepared.{Prepared, edgeCountPlace}
 use Rattle.program.specs.Syntax.{Arith, number, variable, element, operator, Boolean, truth, comparison, conjunction, shortCircuit, negation}
 use Rattle.program.proofs.Laws.{none-such}
-use Rattle.semantics.specs.Action.{Meaning, nothing, assigns, stores, condition}
+use Rattle.program.specs.Meaning.{Meaning, nothing, assigns, stores, condition}
 use Rattle.semantics.specs.Step.{leaves}
 use Rattle.analysis.specs.Index.{arithIndexes, booleanIndexes, indexSets, anyNegative, mayBeNegative}
-use Rattle.analysis.specs.Judging.{picks, firstPicked, spotOf, Searched, widest, NeverNegative}
-use Rattle.analysis.specs.Records.{recordWidth, recordAt, nodeOf, memoryOf}
+use Rattle.analysis.specs.Judging.{picks, firstPicked, spotOf, widest, NeverNegative}
+use Rattle.analysis.specs.Records.{recordWidth, recordCount, recordAt, nodeOf, memoryOf}
 use Rattle.analysis.specs.Signs.{mayIndex, signsIn}
 use Rattle.analysis.specs.Verdict.{isHere, spotAt, firstSpot}
 use Rattle.analysis.specs.declared.Spot.the-variants.{Nowhere}
 use Rattle.analysis.specs.declared.judging.Query.the-variants.{NegativeIndex}
 use Rattle.analysis.proofs.Negative.{SomeMinus, any-append}
-use Rattle.analysis.proofs.Searching.{NowhereTo, nowhere-none, spot-beyond, spot-nowhere, meaning-read}
+use Rattle.analysis.proofs.Searching.{NowhereTo, nowhere-none, spot-beyond, spot-nowhere}
 
 -- the set of an element, by a wider index's
 element-wider : (i j u v : ℕ) → Within i j → Within u v → Within (cond (mayIndex i) u 0) (cond (mayIndex j) v 0)
@@ -109,30 +108,30 @@ never ρ m few e = by (mayBeNegative ρ m) refl
     by false p = refl
 
 -- so where no edge has an index that may be negative there, no record is picked for one
-module _ {s edges entries : List ℕ} {edge-count names count : ℕ} {solution fs heads next : List ℕ} (x : Searched s edges entries edge-count names count solution fs heads next)
-    (few : names ≤ 32) (none : (e : ℕ) → e < edge-count → NeverNegative edges entries e) where
-  unpicked : (e : ℕ) → e < edge-count → (ρ : List ℕ) → length ρ ≤ 32 → picks (sizes s) (graph s) solution NegativeIndex ρ e ≡ false
+module _ {ns : List ℕ} {g : Graph} {code graph : List ℕ} (p : Prepared ns g code graph) (solution : List ℕ)
+    (none : (e : ℕ) → e < getD graph edgeCountPlace 0 → NeverNegative code graph e) where
+  unpicked : (e : ℕ) → e < length (g .edges) → (ρ : List ℕ) → length ρ ≤ 32 → picks ns g solution NegativeIndex ρ e ≡ false
   unfolding picks NeverNegative
-  unpicked e h ρ small = never ρ _ small (ap (mayBeNegative widest) (sym (meaning-read x e h (edgeRead edges e) refl)) ∙ none e h)
+  unpicked e h ρ small = never ρ _ small (ap (mayBeNegative widest) (sym (p .edge e h .action)) ∙ none e (omega (arith, p .edges)))
 
-  nowhere-at : (k : ℕ) → spotOf (sizes s) (graph s) solution NegativeIndex k ≡ Nowhere
+  nowhere-at : (k : ℕ) → spotOf ns g solution NegativeIndex k ≡ Nowhere
   unfolding spotOf spotAt firstPicked memoryOf
-  nowhere-at k = ap (spotAt k) (none-such (length (graph s .edges)) _ (λ e h. and-false (leaves (graph s) e (nodeOf r)) (unpicked e (omega (arith, x .drawn .drawing .edge-count)) (memoryOf (sizes s) r) short)))
+  nowhere-at k = ap (spotAt k) (none-such (length (g .edges)) _ (λ e h. and-false (leaves g e (nodeOf r)) (unpicked e h (memoryOf ns r) short)))
     where
       r : List ℕ
-      r = recordAt (recordWidth (sizes s)) solution k
+      r = recordAt (recordWidth ns) solution k
 
-      short : length (memoryOf (sizes s) r) ≤ 32
-      short = omega (arith, length-take (length (sizes s)) (drop 2 r), x .searchable .names-are)
+      short : length (memoryOf ns r) ≤ 32
+      short = omega (arith, length-take (length ns) (drop 2 r), p .coded .few)
 
       and-false : (a : Bool) {b : Bool} → b ≡ false → (a && b) ≡ false
       and-false true p = p
       and-false false p = refl
 
-  nowhere-to : (k : ℕ) → NowhereTo x NegativeIndex k
+  nowhere-to : (k : ℕ) → NowhereTo ns g solution NegativeIndex k
   unfolding isHere
-  nowhere-to zero = nowhere-none x NegativeIndex
-  nowhere-to (suc k) = spot-beyond x NegativeIndex k (nowhere-to k) Nowhere (sym (nowhere-at k)) refl
+  nowhere-to zero = nowhere-none ns g solution NegativeIndex
+  nowhere-to (suc k) = spot-beyond ns g solution NegativeIndex k (nowhere-to k) Nowhere (sym (nowhere-at k)) refl
 
-  pub none-negative : firstSpot (sizes s) (graph s) solution (picks (sizes s) (graph s) solution NegativeIndex) ≡ Nowhere
-  none-negative = sym (spot-nowhere x NegativeIndex count refl (nowhere-to count))
+  pub none-negative : firstSpot ns g solution (picks ns g solution NegativeIndex) ≡ Nowhere
+  none-negative = sym (spot-nowhere ns g solution NegativeIndex (recordCount (recordWidth ns) solution) refl (nowhere-to _))

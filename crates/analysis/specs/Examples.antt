@@ -9,7 +9,7 @@ use Rattle.program.specs.Examples.{factorial, field, fileOf, entryOf, cases as 
 use Rattle.program.specs.File.{sizes}
 use Rattle.program.specs.Graph.{perform}
 use Rattle.program.specs.Syntax.{number, store}
-use Rattle.semantics.specs.Action.{meaning}
+use Rattle.program.specs.Meaning.{meaning}
 use Rattle.semantics.specs.Examples.{cases as semanticCases}
 use Rattle.analysis.specs.Results.{results}
 use Rattle.analysis.specs.Sheet.{printedRows}

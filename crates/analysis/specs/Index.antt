@@ -6,7 +6,7 @@ use Rattle.signs.specs.Lists.{anyOf}
 use Rattle.signs.specs.Sign.{has}
 use Rattle.signs.specs.declared.Sign.the-variants.{Minus}
 use Rattle.program.specs.Syntax.{Arith, number, variable, element, operator, Boolean, truth, comparison, conjunction, shortCircuit, negation}
-use Rattle.semantics.specs.Action.{Meaning, nothing, assigns, stores, condition}
+use Rattle.program.specs.Meaning.{Meaning, nothing, assigns, stores, condition}
 use Rattle.analysis.specs.Signs.{signsIn}
 
 -- those of an arithmetic expression, and of a boolean one

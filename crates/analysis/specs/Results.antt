@@ -6,7 +6,7 @@ use mathlib.Core.List.{List, [], _∷_, map, flatMap}
 use lib.ListN.{getD, set}
 use Rattle.signs.specs.Sign.{single, members, added, removed}
 use Rattle.signs.specs.declared.Sign.{Sign}
-use Rattle.semantics.specs.Action.{Meaning, nothing, assigns, stores, condition}
+use Rattle.program.specs.Meaning.{Meaning, nothing, assigns, stores, condition}
 use Rattle.analysis.specs.Signs.{mayIndex, signsIn, truthsIn}
 
 -- the sets that a variable can have after an assignment, by its value's signs: "one record per possible sign, minus first"

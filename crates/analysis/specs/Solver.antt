@@ -8,12 +8,12 @@ use Rattle.signs.specs.Lists.{passing, indices}
 use Rattle.program.specs.Asking.{thenAsk}
 use Rattle.program.specs.Drawing.{over}
 use Rattle.program.specs.File.{sizes}
-use Rattle.program.specs.Graph.{Graph, graph}
+use Rattle.program.specs.Graph.{Graph, graph, edgeAt}
 use Rattle.program.specs.Questions.{validity}
 use Rattle.program.specs.declared.Validity.{Validity}
 use Rattle.program.specs.declared.Validity.the-variants.{Fit, Refused}
-use Rattle.semantics.specs.Action.{meaning}
-use Rattle.semantics.specs.Step.{edgeAt, leaves}
+use Rattle.program.specs.Meaning.{meaning}
+use Rattle.semantics.specs.Step.{leaves}
 use Rattle.analysis.specs.Records.{initialWidth, recordWidth, recordsOf, recordFor, nodeOf, memoryOf, listed, initialWhole, initialFormed, wrongByte, wrongByteNumbers}
 use Rattle.analysis.specs.Results.{results}
 use Rattle.analysis.specs.declared.Records.the-variants.{Initial}

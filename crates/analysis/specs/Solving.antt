@@ -1,14 +1,11 @@
 -- How the solver's list lies in the buffer that is lent. No public contract cites these.
 use mathlib.Core.Path.{_≡_}
 use mathlib.Core.List.{List, foldl}
-use Prim.Native.Nat.{ℕ, _+_, _*_, _<_, _≤_}
+use Prim.Native.Nat.{ℕ, _*_, _≤_}
 use lib.ListN.{length, drop}
 use Rattle.signs.specs.Lists.{tabulate, passing, indices}
-use Rattle.program.specs.Decoding.{decodedEntries}
-use Rattle.program.specs.File.{sizes}
 use Rattle.program.specs.Graph.{Graph}
 use Rattle.program.specs.declared.Validity.{Validity}
-use Rattle.semantics.specs.Running.{DrawnEdges}
 use Rattle.semantics.specs.Step.{leaves}
 use Rattle.analysis.specs.Membership.{Indexed}
 use Rattle.analysis.specs.Records.{recordAt}
@@ -21,42 +18,24 @@ unfoldable pub foundIn : ℕ → List ℕ → Progress → Found
 foundIn width buffer p = record { records = tabulate (p .count) (recordAt width buffer); full = p .full }
 
 -- a buffer with room for so many records, of which those found are indexed
-pub record Growing (fs : List ℕ) (width room : ℕ) (buffer heads next : List ℕ) (p : Progress) : Type 0 where
+pub record Growing (width : ℕ) (buffer index : List ℕ) (p : Progress) : Type 0 where
   pub wide : width ≤ 34
-  pub most : room ≤ 4096
-  pub fits : width * room ≤ length buffer
-  pub few : p .count ≤ room
-  pub indexed : Indexed fs width buffer (p .count) heads next
+  pub most : p .room ≤ 4096
+  pub fits : width * p .room ≤ length buffer
+  pub few : p .count ≤ p .room
+  pub indexed : Indexed width buffer (p .count) index
 
 -- what offering does to it: it may hold more records, and the bytes past them are as before
-pub record Extended (fs : List ℕ) (width room : ℕ) (before : List ℕ) (q : Progress) (buffer heads next : List ℕ) (p : Progress) : Type 0 where
-  pub growing : Growing fs width room buffer heads next p
+pub record Extended (width : ℕ) (before : List ℕ) (q : Progress) (buffer index : List ℕ) (p : Progress) : Type 0 where
+  pub growing : Growing width buffer index p
+  pub room : p .room ≡ q .room
   pub sized : length buffer ≡ length before
   pub more : q .count ≤ p .count
-  pub past : drop (width * p .count) buffer ≡ drop (width * p .count) before
-
--- room for records of so many names in a buffer
-pub record Roomy (names room : ℕ) (buffer : List ℕ) : Type 0 where
-  pub some : 0 < names
-  pub few : names ≤ 32
-  pub most : room ≤ 4096
-  pub fits : (2 + names) * room ≤ length buffer
-
--- records found from none on, at most so many: the bytes past them are as before
-pub record Wrote (width room : ℕ) (before buffer : List ℕ) (p : Progress) : Type 0 where
-  pub few : p .count ≤ room
-  pub sized : length buffer ≡ length before
   pub past : drop (width * p .count) buffer ≡ drop (width * p .count) before
 
 -- what is done in turn along those of the first n edges that leave a node
 unfoldable pub along : (Found → ℕ → Found) → Graph → ℕ → ℕ → Found → Found
 along f g node n found = foldl f found (passing (λ e. leaves g e node) (indices n))
-
--- a well-formed program as it is solved: drawn and decoded
-pub record Decoded (s edges entries : List ℕ) (edge-count names : ℕ) : Type 0 where
-  pub drawn : DrawnEdges s edges edge-count
-  pub entries-decoded : entries ≡ decodedEntries s
-  pub names-are : length (sizes s) ≡ names
 
 -- the reply and the buffer afterwards of a list found, where the questions of the program and those of the start list were answered so
 pub record Answered (asked formed : Validity) (f : Found) (before after : List ℕ) (r : Solved) : Type 0 where

@@ -7,14 +7,14 @@ use Rattle.signs.specs.Lists.{anyOf}
 use Rattle.program.specs.Asking.{askPlain, thenAsk}
 use Rattle.program.specs.File.{sizes}
 use Rattle.program.specs.FirstSuch.{firstOf, firstSuch}
-use Rattle.program.specs.Graph.{Graph, graph}
+use Rattle.program.specs.Graph.{Graph, graph, edgeAt}
 use Rattle.program.specs.Questions.{validity}
 use Rattle.program.specs.declared.First.{First}
 use Rattle.program.specs.declared.First.the-variants.{At, Nothing}
 use Rattle.program.specs.declared.Validity.{Validity}
 use Rattle.program.specs.declared.Validity.the-variants.{Fit, Refused}
-use Rattle.semantics.specs.Action.{meaning}
-use Rattle.semantics.specs.Step.{edgeAt, leaves}
+use Rattle.program.specs.Meaning.{meaning}
+use Rattle.semantics.specs.Step.{leaves}
 use Rattle.analysis.specs.Index.{mayBeNegative}
 use Rattle.analysis.specs.Records.{initialWidth, recordWidth, recordCount, recordAt, nodeOf, memoryOf, hasAt, wholeRecords, bothWhole, initialFormed, solutionFormed, wrongByte, wrongByteNumbers}
 use Rattle.analysis.specs.Results.{results}

@@ -1,4 +1,4 @@
-// The sign analysis over a decoded program, in an abstract memory that is lent as an array: zeros after the last name's set.
+// The sign analysis over a prepared program, in an abstract memory that is lent as an array: zeros after the last name's set.
 mod arithmetic;
 mod condition;
 pub(crate) mod index;

@@ -1,20 +1,20 @@
 // A solution computed.
 
 ghost use mathlib.Core.Path.{_≡_};
+ghost use mathlib.Core.Bool.{false};
 ghost use mathlib.Core.List.{List, [], foldl, map};
-ghost use Prim.Native.Nat.{ℕ, _+_, _/_, _<_, _≤_, min};
-ghost use lib.ListN.{length, getD, set, take};
-ghost use Rattle.signs.specs.Grid;
-ghost use Rattle.program.specs.File;
-ghost use Rattle.program.specs.Graph;
-ghost use Rattle.program.specs.Links;
+ghost use Prim.Native.Nat.{ℕ, _+_, _/_, _%_, _<_, _≤_, min};
+ghost use lib.ListN.{length, getD, set};
+ghost use Rattle.program.specs.Graph.{Graph};
+ghost use Rattle.program.specs.Prepared.{Prepared, Linked};
 ghost use Rattle.program.specs.declared.Validity.the-variants.{Fit};
-ghost use Rattle.semantics.specs.Running;
-ghost use Rattle.analysis.specs.Judging;
+ghost use Rattle.analysis.specs.Changing.{digitsEnd, setsOf};
+ghost use Rattle.analysis.specs.Judging.{Ready, ReadInto, namesIn};
+ghost use Rattle.analysis.specs.Membership.{Weighed};
 ghost use Rattle.analysis.specs.Records as records;
 ghost use Rattle.analysis.specs.Solver as spec;
 ghost use Rattle.analysis.specs.Solving as parts;
-use crate::Changes;
+use crate::Change;
 use crate::Records;
 use crate::Solved;
 use crate::Solving;
@@ -22,329 +22,248 @@ use crate::WrongByte;
 use crate::evaluator::results;
 use crate::lists;
 use crate::membership;
+use crate::membership::INDEX;
 use program::Refusal;
 use program::Validity;
-use program::adjacency;
-use program::decoding;
-use program::drawing;
 use program::file;
+use program::prepared;
+use program::prepared::CODE;
+use program::prepared::GRAPH;
+use program::prepared::NAMES_MOST;
 use program::validation;
-use signs::grid;
 
-// How far the list has come: how many records were found, and whether one had no room.
+// How far the list has come: how many records were found, how many there is room for, and whether one had none.
 struct Progress {
     count: usize,
+    room: usize,
     full: bool,
 }
 
-// A record offered: appended, where it isn't listed yet and there is room.
+// A changed record offered: appended, where it isn't listed yet and there is room.
 fn offer(
-    factors: &[u16; 34],
-    heads: &mut [u16; 8192],
-    next: &mut [u16; 4096],
+    index: &mut [u16; INDEX],
     buffer: &mut [u8],
-    room: usize,
-    width: usize,
-    row: &[u8],
+    names: usize,
+    rho: &[u8; 32],
+    weight: u32,
+    change: Change,
     p: Progress,
 ) -> Progress
-    requires { ⌜ parts.Growing (now factors) width room (now buffer) (now heads) (now next) p ⌝ }
-    requires { ⌜ length (now row) ≡ width ⌝ }
-    ensures { λ r. ⌜ parts.Extended (now (factors .entry)) width room (now (buffer .entry)) p (now (buffer .exit)) (now (heads .exit)) (now (next .exit)) r ⌝ }
-    ensures { λ r. ⌜ ((ns : List ℕ) (node : ℕ) (ρ : List ℕ) → node < 65536 → records.recordWidth ns ≡ width → now (row .entry) ≡ records.recordFor node ρ
-        → parts.foundIn width (now (buffer .exit)) r ≡ spec.offer ns room node (parts.foundIn width (now (buffer .entry)) p) ρ) ⌝ }
+    requires { ⌜ parts.Growing (2 + names) (now buffer) (now index) p × Weighed names (now rho) weight ⌝ }
+    ensures { λ r. ⌜ parts.Extended (2 + names) (now (buffer .entry)) p (now (buffer .exit)) (now (index .exit)) r ⌝ }
+    ensures { λ r. ⌜ ((ns ρ : List ℕ) (room : ℕ) → length ns ≡ names → ReadInto ρ (now (rho .entry)) names → p .room ≡ room → change .node < 65536
+        → parts.foundIn (2 + names) (now (buffer .exit)) r
+        ≡ spec.offer ns room (change .node) (parts.foundIn (2 + names) (now (buffer .entry)) p) (set ρ (change .name) (change .set))) ⌝ }
 {
     if p.full {
         return p;
     }
-    let h = membership::hash(factors, row);
-    if membership::follow(heads, next, buffer, width, row, h) {
+    let h = membership::hash_changed(index, names, rho, weight, change);
+    if membership::find(index, buffer, names, rho, change, h) {
         return p;
     }
-    if p.count == room {
+    if p.count == p.room {
         return Progress {
             count: p.count,
+            room: p.room,
             full: true,
         };
     }
-    lists::put(buffer, width * p.count, row);
-    membership::enter(heads, next, p.count, h);
+    lists::put_changed(buffer, (2 + names) * p.count, names, rho, change);
+    membership::enter(index, p.count, h);
     Progress {
         count: p.count + 1,
+        room: p.room,
         full: false,
     }
 }
 
 // The results of an edge offered at its target, result by result.
 fn offer_results(
-    factors: &[u16; 34],
-    heads: &mut [u16; 8192],
-    next: &mut [u16; 4096],
+    index: &mut [u16; INDEX],
     buffer: &mut [u8],
-    room: usize,
     names: usize,
     rho: &[u8; 32],
+    weight: u32,
     node: u16,
-    changes: Changes,
+    found: u64,
     p: Progress,
 ) -> Progress
-    requires { ⌜ parts.Growing (now factors) (2 + names) room (now buffer) (now heads) (now next) p ⌝ }
-    requires { ⌜ changes .count ≤ 12 ⌝ }
-    ensures { λ r. ⌜ parts.Extended (now (factors .entry)) (2 + names) room (now (buffer .entry)) p (now (buffer .exit)) (now (heads .exit)) (now (next .exit)) r ⌝ }
-    ensures { λ r. ⌜ ((ns ρ : List ℕ) → length ns ≡ names → Judging.ReadInto ρ (now (rho .entry)) names
+    requires { ⌜ parts.Growing (2 + names) (now buffer) (now index) p × Weighed names (now rho) weight × (found / 64 < digitsEnd) ⌝ }
+    ensures { λ r. ⌜ parts.Extended (2 + names) (now (buffer .entry)) p (now (buffer .exit)) (now (index .exit)) r ⌝ }
+    ensures { λ r. ⌜ ((ns ρ : List ℕ) (room : ℕ) → length ns ≡ names → ReadInto ρ (now (rho .entry)) names → p .room ≡ room
         → parts.foundIn (2 + names) (now (buffer .exit)) r
-        ≡ foldl (spec.offer ns room node) (parts.foundIn (2 + names) (now (buffer .entry)) p) (map (set ρ (changes .name)) (take (changes .count) (changes .sets)))) ⌝ }
+        ≡ foldl (spec.offer ns room node) (parts.foundIn (2 + names) (now (buffer .entry)) p) (map (set ρ (found % 64)) (setsOf (found / 64)))) ⌝ }
 {
-    let count = changes.count;
-    let name = changes.name;
-    let sets = changes.sets;
-    let width = 2 + names;
-    let mut found = p;
-    let mut j: usize = 0;
-    while j < count {
-        let row = lists::record_with(node, rho, name, sets[j]);
-        found = offer(
-            factors,
-            heads,
-            next,
-            buffer,
-            room,
-            width,
-            &row[..width],
-            found,
-        );
-        j += 1;
+    let name = results::name_of(found);
+    let mut progress = p;
+    let mut sets = results::sets_of(found);
+    while 0 < sets {
+        let change = Change {
+            node,
+            name,
+            set: results::first_set(sets),
+        };
+        progress = offer(index, buffer, names, rho, weight, change, progress);
+        sets = results::other_sets(sets);
     }
-    found
-}
-
-// The records of a start list offered at node 0.
-fn offer_initial(
-    factors: &[u16; 34],
-    heads: &mut [u16; 8192],
-    next: &mut [u16; 4096],
-    buffer: &mut [u8],
-    room: usize,
-    names: usize,
-    initial: &[u8],
-    p: Progress,
-) -> Progress
-    requires { ⌜ parts.Growing (now factors) (2 + names) room (now buffer) (now heads) (now next) p ⌝ }
-    requires { ⌜ 0 < names ⌝ }
-    ensures { λ r. ⌜ parts.Extended (now (factors .entry)) (2 + names) room (now (buffer .entry)) p (now (buffer .exit)) (now (heads .exit)) (now (next .exit)) r ⌝ }
-    ensures { λ r. ⌜ ((ns : List ℕ) → length ns ≡ names
-        → parts.foundIn (2 + names) (now (buffer .exit)) r
-        ≡ foldl (spec.offer ns room 0) (parts.foundIn (2 + names) (now (buffer .entry)) p) (records.recordsOf (records.initialWidth ns) (now (initial .entry)))) ⌝ }
-{
-    let width = 2 + names;
-    let count = initial.len() / names;
-    let mut found = p;
-    let mut k: usize = 0;
-    while k < count {
-        let mut rho = [0u8; 32];
-        lists::read_memory(&mut rho, initial, names * k, names);
-        let row = lists::record_for(0, &rho);
-        found = offer(
-            factors,
-            heads,
-            next,
-            buffer,
-            room,
-            width,
-            &row[..width],
-            found,
-        );
-        k += 1;
-    }
-    found
+    progress
 }
 
 // What follows an abstract memory along an edge, offered.
 fn offer_edge(
-    entries: &[u16; 4096],
-    table: &[[[u8; 8]; 8]; 5],
-    edges: &[u8],
-    factors: &[u16; 34],
-    heads: &mut [u16; 8192],
-    next: &mut [u16; 4096],
+    code: &[u16; CODE],
+    graph: &[u16; GRAPH],
+    index: &mut [u16; INDEX],
     buffer: &mut [u8],
-    room: usize,
-    names: usize,
     rho: &[u8; 32],
+    weight: u32,
     e: u16,
     p: Progress,
 ) -> Progress
-    requires { ⌜ parts.Growing (now factors) (2 + names) room (now buffer) (now heads) (now next) p ⌝ }
-    requires { ⌜ now table ≡ Grid.setTable ⌝ }
-    ensures { λ r. ⌜ parts.Extended (now (factors .entry)) (2 + names) room (now (buffer .entry)) p (now (buffer .exit)) (now (heads .exit)) (now (next .exit)) r ⌝ }
-    ensures { λ r. ⌜ ((s : List ℕ) (edge-count : ℕ) (ρ : List ℕ) → parts.Decoded s (now (edges .entry)) (now (entries .entry)) edge-count names
-        → Judging.ReadInto ρ (now (rho .entry)) names → e < edge-count
-        → parts.foundIn (2 + names) (now (buffer .exit)) r ≡ spec.offerResults (File.sizes s) (Graph.graph s) room ρ (parts.foundIn (2 + names) (now (buffer .entry)) p) e) ⌝ }
+    requires { ⌜ parts.Growing (2 + namesIn (now code)) (now buffer) (now index) p × Weighed (namesIn (now code)) (now rho) weight ⌝ }
+    ensures { λ r. ⌜ parts.Extended (2 + namesIn (now (code .entry))) (now (buffer .entry)) p (now (buffer .exit)) (now (index .exit)) r ⌝ }
+    ensures { λ r. ⌜ ((ns : List ℕ) (g : Graph) (ρ : List ℕ) (room : ℕ) → Prepared ns g (now (code .entry)) (now (graph .entry)) → ReadInto ρ (now (rho .entry)) (length ns)
+        → p .room ≡ room → e < length (g .edges)
+        → parts.foundIn (2 + namesIn (now (code .entry))) (now (buffer .exit)) r ≡ spec.offerResults ns g room ρ (parts.foundIn (2 + namesIn (now (code .entry))) (now (buffer .entry)) p) e) ⌝ }
 {
-    let drawn = drawing::edge_at(edges, e);
-    let changes = results::changes(entries, table, rho, drawn.kind, drawn.entry);
+    let names = prepared::name_count(code);
+    let found = results::results(code, graph, rho, prepared::action(graph, e));
     offer_results(
-        factors,
-        heads,
-        next,
+        index,
         buffer,
-        room,
         names,
         rho,
-        drawn.target,
-        changes,
+        weight,
+        prepared::edge_target(graph, e),
+        found,
         p,
     )
 }
 
-// What follows an abstract memory at a node, offered edge by edge; from a node past the last of 129 there is no edge.
+// What follows an abstract memory along the edges out of a node, offered edge by edge.
 fn offer_successors(
-    entries: &[u16; 4096],
-    table: &[[[u8; 8]; 8]; 5],
-    edges: &[u8],
-    links: &[u16; 384],
-    edge_count: u16,
-    factors: &[u16; 34],
-    heads: &mut [u16; 8192],
-    next: &mut [u16; 4096],
+    code: &[u16; CODE],
+    graph: &[u16; GRAPH],
+    index: &mut [u16; INDEX],
     buffer: &mut [u8],
-    room: usize,
-    names: usize,
     rho: &[u8; 32],
+    weight: u32,
     node: u16,
     p: Progress,
 ) -> Progress
-    requires { ⌜ parts.Growing (now factors) (2 + names) room (now buffer) (now heads) (now next) p ⌝ }
-    requires { ⌜ now table ≡ Grid.setTable ⌝ }
-    requires { ⌜ Links.Followable (now edges) «edge_count» (now links) ⌝ }
-    ensures { λ r. ⌜ parts.Extended (now (factors .entry)) (2 + names) room (now (buffer .entry)) p (now (buffer .exit)) (now (heads .exit)) (now (next .exit)) r ⌝ }
-    ensures { λ r. ⌜ ((s ρ : List ℕ) → parts.Decoded s (now (edges .entry)) (now (entries .entry)) «edge_count» names → Judging.ReadInto ρ (now (rho .entry)) names
-        → parts.foundIn (2 + names) (now (buffer .exit)) r
-        ≡ parts.along (spec.offerResults (File.sizes s) (Graph.graph s) room ρ) (Graph.graph s) node (length (Graph.graph s .edges)) (parts.foundIn (2 + names) (now (buffer .entry)) p)) ⌝ }
+    requires { ⌜ Linked (now graph) × parts.Growing (2 + namesIn (now code)) (now buffer) (now index) p × Weighed (namesIn (now code)) (now rho) weight ⌝ }
+    ensures { λ r. ⌜ parts.Extended (2 + namesIn (now (code .entry))) (now (buffer .entry)) p (now (buffer .exit)) (now (index .exit)) r ⌝ }
+    ensures { λ r. ⌜ ((ns : List ℕ) (g : Graph) (ρ : List ℕ) (room : ℕ) → Prepared ns g (now (code .entry)) (now (graph .entry)) → ReadInto ρ (now (rho .entry)) (length ns)
+        → p .room ≡ room
+        → parts.foundIn (2 + namesIn (now (code .entry))) (now (buffer .exit)) r
+        ≡ parts.along (spec.offerResults ns g room ρ) g node (length (g .edges)) (parts.foundIn (2 + namesIn (now (code .entry))) (now (buffer .entry)) p)) ⌝ }
 {
-    if 129 <= node {
-        return p;
+    let count = prepared::edge_count(graph);
+    let mut progress = p;
+    let mut e = prepared::first_edge(graph, node);
+    while e < count {
+        progress = offer_edge(code, graph, index, buffer, rho, weight, e, progress);
+        e = prepared::next_edge(graph, e);
     }
-    let mut found = p;
-    let mut e = adjacency::first_edge(links, node);
-    while e < edge_count {
-        found = offer_edge(
-            entries,
-            table,
-            edges,
-            factors,
-            heads,
-            next,
-            buffer,
-            room,
-            names,
-            rho,
-            e,
-            found,
-        );
-        e = adjacency::next_edge(links, e);
-    }
-    found
+    progress
 }
 
 // What follows record k of the list, offered.
 fn offer_from(
-    entries: &[u16; 4096],
-    table: &[[[u8; 8]; 8]; 5],
-    edges: &[u8],
-    links: &[u16; 384],
-    edge_count: u16,
-    factors: &[u16; 34],
-    heads: &mut [u16; 8192],
-    next: &mut [u16; 4096],
+    code: &[u16; CODE],
+    graph: &[u16; GRAPH],
+    index: &mut [u16; INDEX],
     buffer: &mut [u8],
-    room: usize,
-    names: usize,
     k: usize,
     p: Progress,
 ) -> Progress
-    requires { ⌜ parts.Growing (now factors) (2 + names) room (now buffer) (now heads) (now next) p × (k < p .count) ⌝ }
-    requires { ⌜ now table ≡ Grid.setTable ⌝ }
-    requires { ⌜ Links.Followable (now edges) «edge_count» (now links) ⌝ }
-    ensures { λ r. ⌜ parts.Extended (now (factors .entry)) (2 + names) room (now (buffer .entry)) p (now (buffer .exit)) (now (heads .exit)) (now (next .exit)) r ⌝ }
-    ensures { λ r. ⌜ ((s : List ℕ) → parts.Decoded s (now (edges .entry)) (now (entries .entry)) «edge_count» names
-        → parts.foundIn (2 + names) (now (buffer .exit)) r
-        ≡ spec.offerSuccessors (File.sizes s) (Graph.graph s) room (getD (parts.foundIn (2 + names) (now (buffer .entry)) p .records) k []) (parts.foundIn (2 + names) (now (buffer .entry)) p)) ⌝ }
+    requires { ⌜ Linked (now graph) × parts.Growing (2 + namesIn (now code)) (now buffer) (now index) p × (k < p .count) ⌝ }
+    ensures { λ r. ⌜ parts.Extended (2 + namesIn (now (code .entry))) (now (buffer .entry)) p (now (buffer .exit)) (now (index .exit)) r ⌝ }
+    ensures { λ r. ⌜ ((ns : List ℕ) (g : Graph) (room : ℕ) → Prepared ns g (now (code .entry)) (now (graph .entry)) → p .room ≡ room
+        → parts.foundIn (2 + namesIn (now (code .entry))) (now (buffer .exit)) r
+        ≡ spec.offerSuccessors ns g room (getD (parts.foundIn (2 + namesIn (now (code .entry))) (now (buffer .entry)) p .records) k []) (parts.foundIn (2 + namesIn (now (code .entry))) (now (buffer .entry)) p)) ⌝ }
 {
+    let names = prepared::name_count(code);
     let at = (2 + names) * k;
     let node = file::word_at(buffer, at);
     let mut rho = [0u8; 32];
     lists::read_memory(&mut rho, buffer, at + 2, names);
-    offer_successors(
-        entries,
-        table,
-        edges,
-        links,
-        edge_count,
-        factors,
-        heads,
-        next,
-        buffer,
-        room,
-        names,
-        &rho,
-        node,
-        p,
-    )
+    let weight = membership::weight(index, buffer, at + 2, names);
+    offer_successors(code, graph, index, buffer, &rho, weight, node, p)
 }
 
 // Down the list: what follows each record is offered, until one has no room.
 fn descend(
-    entries: &[u16; 4096],
-    table: &[[[u8; 8]; 8]; 5],
-    edges: &[u8],
-    links: &[u16; 384],
-    edge_count: u16,
-    factors: &[u16; 34],
-    heads: &mut [u16; 8192],
-    next: &mut [u16; 4096],
+    code: &[u16; CODE],
+    graph: &[u16; GRAPH],
+    index: &mut [u16; INDEX],
     buffer: &mut [u8],
-    room: usize,
-    names: usize,
     p: Progress,
 ) -> Progress
-    requires { ⌜ parts.Growing (now factors) (2 + names) room (now buffer) (now heads) (now next) p ⌝ }
-    requires { ⌜ now table ≡ Grid.setTable ⌝ }
-    requires { ⌜ Links.Followable (now edges) «edge_count» (now links) ⌝ }
-    ensures { λ r. ⌜ parts.Extended (now (factors .entry)) (2 + names) room (now (buffer .entry)) p (now (buffer .exit)) (now (heads .exit)) (now (next .exit)) r ⌝ }
-    ensures { λ r. ⌜ ((s : List ℕ) → parts.Decoded s (now (edges .entry)) (now (entries .entry)) «edge_count» names
-        → parts.foundIn (2 + names) (now (buffer .exit)) r ≡ spec.descend room (File.sizes s) (Graph.graph s) room 0 (parts.foundIn (2 + names) (now (buffer .entry)) p)) ⌝ }
+    requires { ⌜ Linked (now graph) × parts.Growing (2 + namesIn (now code)) (now buffer) (now index) p ⌝ }
+    ensures { λ r. ⌜ parts.Extended (2 + namesIn (now (code .entry))) (now (buffer .entry)) p (now (buffer .exit)) (now (index .exit)) r ⌝ }
+    ensures { λ r. ⌜ ((ns : List ℕ) (g : Graph) (room : ℕ) → Prepared ns g (now (code .entry)) (now (graph .entry)) → p .room ≡ room
+        → parts.foundIn (2 + namesIn (now (code .entry))) (now (buffer .exit)) r ≡ spec.descend room ns g room 0 (parts.foundIn (2 + namesIn (now (code .entry))) (now (buffer .entry)) p)) ⌝ }
 {
-    let mut found = p;
+    let mut progress = p;
     let mut k: usize = 0;
-    while k < found.count && !found.full {
-        found = offer_from(
-            entries,
-            table,
-            edges,
-            links,
-            edge_count,
-            factors,
-            heads,
-            next,
-            buffer,
-            room,
-            names,
-            k,
-            found,
-        );
+    while k < progress.count && !progress.full {
+        progress = offer_from(code, graph, index, buffer, k, progress);
         k += 1;
     }
-    found
+    progress
 }
 
-// Room: a buffer's whole records, at most 4,096.
-fn room_of(bytes: usize, names: usize) -> usize
+// The records of a start list offered at node 0.
+fn offer_initial(
+    index: &mut [u16; INDEX],
+    buffer: &mut [u8],
+    names: usize,
+    initial: &[u8],
+    p: Progress,
+) -> Progress
+    requires { ⌜ parts.Growing (2 + names) (now buffer) (now index) p × (0 < names) ⌝ }
+    ensures { λ r. ⌜ parts.Extended (2 + names) (now (buffer .entry)) p (now (buffer .exit)) (now (index .exit)) r ⌝ }
+    ensures { λ r. ⌜ ((ns : List ℕ) (room : ℕ) → length ns ≡ names → p .room ≡ room
+        → parts.foundIn (2 + names) (now (buffer .exit)) r
+        ≡ foldl (spec.offer ns room 0) (parts.foundIn (2 + names) (now (buffer .entry)) p) (records.recordsOf (records.initialWidth ns) (now (initial .entry)))) ⌝ }
+{
+    let count = initial.len() / names;
+    let mut progress = p;
+    let mut k: usize = 0;
+    while k < count {
+        let at = names * k;
+        let mut rho = [0u8; 32];
+        lists::read_memory(&mut rho, initial, at, names);
+        let weight = membership::weight(index, initial, at, names);
+        let change = Change {
+            node: 0,
+            name: NAMES_MOST,
+            set: 0,
+        };
+        progress = offer(index, buffer, names, &rho, weight, change, progress);
+        k += 1;
+    }
+    progress
+}
+
+// Nothing found yet; there is room for a buffer's whole records, at most 4,096.
+fn nothing_in(bytes: usize, names: usize) -> Progress
     requires { ⌜ names ≤ 32 ⌝ }
-    ensures { λ r. ⌜ r ≡ min 4096 (bytes / (2 + names)) ⌝ }
+    ensures { λ r. ⌜ r ≡ record { count = 0; room = min 4096 (bytes / (2 + names)); full = false } ⌝ }
 {
     let whole = bytes / (2 + names);
-    if whole < 4096 { whole } else { 4096 }
+    let room = if whole < lists::MOST {
+        whole
+    } else {
+        lists::MOST
+    };
+    Progress {
+        count: 0,
+        room,
+        full: false,
+    }
 }
 
 // The reply of a list found.
@@ -366,83 +285,23 @@ fn replied(found: Progress) -> Solved
     }
 }
 
-// The list of a drawn and decoded program.
-fn find_all(
-    entries: &[u16; 4096],
-    edges: &[u8],
-    links: &[u16; 384],
-    edge_count: u16,
-    names: usize,
-    room: usize,
-    initial: &[u8],
-    buffer: &mut [u8],
-) -> Progress
-    requires { ⌜ Links.Followable (now edges) «edge_count» (now links) ⌝ }
-    requires { ⌜ parts.Roomy names room (now buffer) ⌝ }
-    ensures { λ r. ⌜ parts.Wrote (2 + names) room (now (buffer .entry)) (now (buffer .exit)) r ⌝ }
-    ensures { λ r. ⌜ ((s : List ℕ) → parts.Decoded s (now (edges .entry)) (now (entries .entry)) «edge_count» names
-        → parts.foundIn (2 + names) (now (buffer .exit)) r ≡ spec.solution (File.sizes s) (Graph.graph s) (now (initial .entry)) room) ⌝ }
-{
-    let table = grid::set_table();
-    let factors = membership::factors();
-    let mut heads = [0u16; 8192];
-    let mut next = [0u16; 4096];
-    let none = Progress {
-        count: 0,
-        full: false,
-    };
-    let first = offer_initial(
-        &factors,
-        &mut heads,
-        &mut next,
-        buffer,
-        room,
-        names,
-        initial,
-        none,
-    );
-    descend(
-        entries,
-        &table,
-        edges,
-        links,
-        edge_count,
-        &factors,
-        &mut heads,
-        &mut next,
-        buffer,
-        room,
-        names,
-        first,
-    )
-}
-
-// A solution over a drawn graph.
-fn solve_drawn(
-    program: &[u8],
-    edges: &[u8],
-    edge_count: u16,
+// The list of a start list of whole, well-formed records, and its reply.
+fn solve_formed(
+    code: &[u16; CODE],
+    graph: &[u16; GRAPH],
     initial: &[u8],
     buffer: &mut [u8],
 ) -> Solved
-    requires { ⌜ Running.DrawnEdges (now program) (now edges) «edge_count» ⌝ }
-    ensures { λ r. ⌜ parts.Answered Fit Fit (spec.solutionIn (now (program .entry)) (now (initial .entry)) (now (buffer .entry))) (now (buffer .entry)) (now (buffer .exit)) r ⌝ }
+    requires { ⌜ Ready (now code) (now graph) ⌝ }
+    ensures { λ r. ⌜ ((ns : List ℕ) (g : Graph) → Prepared ns g (now (code .entry)) (now (graph .entry))
+        → parts.Answered Fit Fit (spec.solution ns g (now (initial .entry)) (spec.roomOf ns (length (now (buffer .entry))))) (now (buffer .entry)) (now (buffer .exit)) r) ⌝ }
 {
-    let entries = decoding::entries(program);
-    let links = adjacency::links(edges, edge_count);
-    let names = file::name_count(program) as usize;
-    let room = room_of(buffer.len(), names);
-    let found = find_all(
-        &entries,
-        edges,
-        &links,
-        edge_count,
-        names,
-        room,
-        initial,
-        buffer,
-    );
-    replied(found)
+    let names = prepared::name_count(code);
+    let mut index = [0u16; INDEX];
+    membership::put_factors(&mut index);
+    let none = nothing_in(buffer.len(), names);
+    let first = offer_initial(&mut index, buffer, names, initial, none);
+    replied(descend(code, graph, &mut index, buffer, first))
 }
 
 // The reply where question 17 is refused.
@@ -468,45 +327,27 @@ fn refused(x: Refusal) -> Solved
     }
 }
 
-// Question 17, then a solution.
-fn solve_whole(
-    program: &[u8],
-    edges: &[u8],
-    edge_count: u16,
+// Question 16, then 17, then a solution, over a prepared program.
+fn solve_prepared(
+    code: &[u16; CODE],
+    graph: &[u16; GRAPH],
     initial: &[u8],
     buffer: &mut [u8],
 ) -> Solved
-    requires { ⌜ Running.DrawnEdges (now program) (now edges) «edge_count» ⌝ }
-    ensures { λ r. ⌜ parts.Answered Fit (records.initialFormed (File.sizes (now (program .entry))) (now (initial .entry)))
-        (spec.solutionIn (now (program .entry)) (now (initial .entry)) (now (buffer .entry))) (now (buffer .entry)) (now (buffer .exit)) r ⌝ }
+    requires { ⌜ Ready (now code) (now graph) ⌝ }
+    ensures { λ r. ⌜ ((ns : List ℕ) (g : Graph) → Prepared ns g (now (code .entry)) (now (graph .entry))
+        → parts.Answered (records.initialWhole ns (now (initial .entry))) (records.initialFormed ns (now (initial .entry)))
+        (spec.solution ns g (now (initial .entry)) (spec.roomOf ns (length (now (buffer .entry))))) (now (buffer .entry)) (now (buffer .exit)) r) ⌝ }
 {
-    let sizes = decoding::name_sizes(program);
-    let names = file::name_count(program) as usize;
-    let v = lists::initial_formed(&sizes, names, initial);
-    match v {
-        Validity::Fit => solve_drawn(program, edges, edge_count, initial, buffer),
-        Validity::Refused(x) => malformed(x),
+    let names = prepared::name_count(code);
+    let whole = validation::ask(lists::whole(initial, names), 16, 0);
+    if let Validity::Refused(x) = whole {
+        return refused(x);
     }
-}
-
-// Question 16, then 17.
-fn solve_fit(
-    program: &[u8],
-    edges: &[u8],
-    edge_count: u16,
-    initial: &[u8],
-    buffer: &mut [u8],
-) -> Solved
-    requires { ⌜ Running.DrawnEdges (now program) (now edges) «edge_count» ⌝ }
-    ensures { λ r. ⌜ parts.Answered (records.initialWhole (File.sizes (now (program .entry))) (now (initial .entry)))
-        (records.initialFormed (File.sizes (now (program .entry))) (now (initial .entry)))
-        (spec.solutionIn (now (program .entry)) (now (initial .entry)) (now (buffer .entry))) (now (buffer .entry)) (now (buffer .exit)) r ⌝ }
-{
-    let names = file::name_count(program) as usize;
-    let v = validation::ask(lists::whole(initial, names), 16, 0);
-    match v {
-        Validity::Fit => solve_whole(program, edges, edge_count, initial, buffer),
-        Validity::Refused(x) => refused(x),
+    let formed = lists::initial_formed(code, initial);
+    match formed {
+        Validity::Fit => solve_formed(code, graph, initial, buffer),
+        Validity::Refused(x) => malformed(x),
     }
 }
 
@@ -516,11 +357,11 @@ pub fn solve(program: &[u8], initial: &[u8], buffer: &mut [u8]) -> Solved
         × (now (buffer .exit) ≡ spec.solvedBuffer (now (program .entry)) (now (initial .entry)) (now (buffer .entry))) ⌝ }
     ensures numbers { λ r. ⌜ spec.solvedNumbers r ≡ spec.solvedNumbers (spec.solved (now (program .entry)) (now (initial .entry)) (now (buffer .entry))) ⌝ }
 {
-    let mut edges = [0u8; 1785];
-    let drawn = drawing::draw_edges(program, &mut edges);
-    let v = drawn.validity;
+    let mut code = [0u16; CODE];
+    let mut graph = [0u16; GRAPH];
+    let v = prepared::prepare_linked(program, &mut code, &mut graph);
     match v {
-        Validity::Fit => solve_fit(program, &edges, drawn.edges, initial, buffer),
+        Validity::Fit => solve_prepared(&code, &graph, initial, buffer),
         Validity::Refused(x) => refused(x),
     }
 }

@@ -90,9 +90,9 @@ fn print_index(program: &[u8], list: &[u8]) {
 
 // The counts, the records and the index line, of a buffer whose first `count` records are the solver's list.
 fn print_listing(program: &[u8], buffer: &[u8], count: u16) {
-    let mut edges = [0u8; 1785];
+    let mut edges = [0u8; drawing::BYTES];
     let width = record_width(program);
-    print_counts(drawing::draw_edges(program, &mut edges), count);
+    print_counts(drawing::draw(program, &mut edges), count);
     print_records(buffer, width, count);
     print_index(program, validation::part(buffer, 0, bytes_of(width, count)));
 }

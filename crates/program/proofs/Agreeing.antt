@@ -5,7 +5,7 @@ use mathlib.Core.List.{List}
 use Prim.Native.Nat.{ℕ, zero, suc, _+_, _*_, _-_, _≤_, _<_}
 use native.Mathlib.Nat.{le-refl}
 use native.Mathlib.Omega.{arith}
-use lib.Dec.{eqb, ltb}
+use lib.Dec.{ltb}
 use borrow.Author.Tests.{ltb-true}
 use Rattle.program.specs.File.{layoutOf, spanOf, nameCount, sizeAt, sizes, entryCount, tableStart, entryOffset, entry}
 use Rattle.program.specs.Kind.{Role, Unused, Half, Variable, Array, To, Roles, Shape, Unknown, Known, shape, tableOf}
@@ -57,8 +57,8 @@ module _ (p s : List ℕ) (agree : Agree p s) where
   unfolding named
   same-named Unused x = refl
   same-named Half x = refl
-  same-named Variable x = rw same-names (and-same (ltb x (nameCount s)) (λ t. ap (λ (n : ℕ). eqb n 0) (agree .size x (ltb-true _ _ t))))
-  same-named Array x = rw same-names (and-same (ltb x (nameCount s)) (λ t. ap (ltb 0) (agree .size x (ltb-true _ _ t))))
+  same-named Variable x = rw same-sizes
+  same-named Array x = rw same-sizes
   same-named (To sort) x = refl
 
   -- question 9, of entry n of table t: a lower command exists

@@ -5,10 +5,12 @@ use Prim.Native.Nat.{ℕ, zero, suc, _+_, _≤_, _<_, min}
 use native.Mathlib.Decide.{ℕ-discrete, decLe}
 use native.Mathlib.Nat.{le-refl}
 use native.Mathlib.Omega.{arith}
+use mathlib.Core.Bool.{false}
+use lib.Dec.{eqb, ltb}
 use lib.ListN.{length, getD, take}
-use borrow.Author.Tests.{ne-eqb}
+use borrow.Author.Tests.{ne-eqb, lt-ltb, le-ltb}
 use lib.Seq.{take-suc, take-all}
-use Rattle.program.specs.File.{nameCount, sizeAt, sizes, cellsOf, cellCount, firstCell}
+use Rattle.program.specs.File.{nameCount, sizeAt, sizes, isVariable, isArray, cellsOf, cellCount, firstCell}
 use Rattle.program.proofs.Lists.{length-tabulate, getD-tabulate}
 
 -- a size has a cell at least
@@ -58,6 +60,24 @@ module _ (s : List ℕ) where
   pub size-at : (i : ℕ) → i < nameCount s → getD (sizes s) i 0 ≡ sizeAt s i
   unfolding sizes
   size-at i h = getD-tabulate (nameCount s) (sizeAt s) i 0 h
+
+  -- whether one is a variable's or an array's, by the number of names that is at hand
+  module _ (names i : ℕ) (all : names ≡ nameCount s) where
+    pub variable-at : i < names → isVariable (sizes s) i ≡ eqb (sizeAt s i) 0
+    unfolding isVariable
+    variable-at h = let there : i < nameCount s = omega arith in rw (sizes-length, size-at i there, lt-ltb i (nameCount s) there)
+
+    pub array-at : i < names → isArray (sizes s) i ≡ ltb 0 (sizeAt s i)
+    unfolding isArray
+    array-at h = let there : i < nameCount s = omega arith in rw (sizes-length, size-at i there, lt-ltb i (nameCount s) there)
+
+    pub no-variable : names ≤ i → isVariable (sizes s) i ≡ false
+    unfolding isVariable
+    no-variable h = rw (sizes-length, ← all, le-ltb i names h)
+
+    pub no-array : names ≤ i → isArray (sizes s) i ≡ false
+    unfolding isArray
+    no-array h = rw (sizes-length, ← all, le-ltb i names h)
 
   -- the first cells of its names
   pub first-cell-suc : (i : ℕ) → i < nameCount s → firstCell (sizes s) (suc i) ≡ firstCell (sizes s) i + cellsOf (sizeAt s i)

@@ -11,13 +11,11 @@ use Rattle.program.specs.Kind.{Role, Half, Roles, Unknown, Known, shape}
 use Rattle.program.specs.Questions.{named, points, sameTable, limit, eachOperand, shapeValidity, entryValidity, refersTo, shapeUses, entryUses}
 use Rattle.program.specs.declared.Entry.{Entry}
 use Rattle.program.specs.declared.Layout.{Layout}
-use Rattle.program.specs.declared.Layout.{Layout}
 use Rattle.program.specs.declared.Table.{Table}
 use Rattle.program.specs.declared.Table.the-variants.{Arithmetic, Boolean, Commands}
 use Rattle.program.specs.declared.Validity.{Validity}
 use Rattle.program.proofs.Asking.{ask-fit, turn-fit}
 use Rattle.program.proofs.Counting.{counted-none, counted-then}
-use Rattle.program.proofs.Reading.{laid-limit}
 use Rattle.program.proofs.Reading.{laid-limit}
 use Rattle.program.proofs.Tests.{three}
 

@@ -8,10 +8,10 @@ use native.Mathlib.Omega.{arith}
 use lib.ListN.{length, length-append}
 use Rattle.program.specs.File.{entryCount, entry}
 use Rattle.program.specs.Graph.{leave, edge, part, graph, edges, edgeCount, nodeCount}
-use Rattle.program.specs.Kind.{Role, Unused, Half, Variable, Array, To, Shape, Unknown, Known, kinds, shape, tableOf}
+use Rattle.program.specs.Kind.{Role, Unused, Half, Variable, Array, To, Shape, Unknown, Known, kinds, shape, tableOf, commandKind}
 use Rattle.program.specs.Questions.{sameTable, limit, refersTo, shapeUses, entryUses, tableUses, uses, lastCommand, validity}
 use Rattle.program.specs.Syntax.{Command, commandSize}
-use Rattle.program.specs.Tree.{commandNode, commandTrees, commandAt, script}
+use Rattle.program.specs.Tree.{commandNode, commandTrees, commandAt, script, commandMade}
 use Rattle.program.specs.declared.Entry.{Entry}
 use Rattle.program.specs.declared.Sort.the-variants.{Expression, Condition, Command as Commanding, Guarded}
 use Rattle.program.specs.declared.Table.{Table}
@@ -111,7 +111,7 @@ module _ (s : List ℕ) where
   -- a command's size: one more than what it has below it
   node-size : (n k p q r : ℕ) → Operands s Commands n (shape Commands k) (record { kind = k; p = p; q = q; r = r })
       → commandSize (commandNode (entry s) (commandTrees (entry s) n) n (record { kind = k; p = p; q = q; r = r })) ≡ 1 + weights (shape Commands k) (record { kind = k; p = p; q = q; r = r })
-  unfolding shape kinds limit sameTable tableOf commandNode commandSize size weight weights
+  unfolding shape kinds limit sameTable tableOf commandKind commandMade commandSize size weight weights
   node-size n =
       by-kind _
       (λ p q r h. refl)

@@ -7,11 +7,11 @@ use native.Mathlib.Omega.{arith}
 use lib.Dec.{ltb}
 use borrow.Author.Tests.{lt-ltb}
 use Rattle.program.specs.File.{sizes, entryCount, entry}
-use Rattle.program.specs.Kind.{kinds, shape, tableOf}
+use Rattle.program.specs.Kind.{kinds, shape, tableOf, arithKind, booleanKind}
 use Rattle.program.specs.Questions.{sameTable, limit, validity}
 use Rattle.program.specs.Sorted.{arithNamed, booleanNamed, arithPoints, booleanPoints}
 use Rattle.program.specs.Syntax.{Arith, arithEntry, Boolean, booleanEntry}
-use Rattle.program.specs.Tree.{arithBelow, arithNode, arithTrees, arithAt, booleanBelow, booleanNode, booleanTrees, booleanAt}
+use Rattle.program.specs.Tree.{arithBelow, arithNode, arithTrees, arithAt, booleanBelow, booleanNode, booleanTrees, booleanAt, arithMade, booleanMade}
 use Rattle.program.specs.declared.Sort.the-variants.{Expression, Condition}
 use Rattle.program.specs.declared.Table.the-variants.{Arithmetic, Boolean as Booleans}
 use Rattle.program.specs.declared.Validity.the-variants.{Fit}
@@ -42,7 +42,7 @@ module _ (s : List ℕ) (n : ℕ) (below : (m : ℕ) → m < n → ArithSorted (
 
   arith-node : (k p q r : ℕ) → Operands s Arithmetic n (shape Arithmetic k) (record { kind = k; p = p; q = q; r = r })
       → ArithSorted (sizes s) (arithNode (arithTrees (entry s) n) n (record { kind = k; p = p; q = q; r = r }))
-  unfolding shape kinds arithNode arithNamed arithPoints
+  unfolding shape kinds arithKind arithMade arithNamed arithPoints
   arith-node =
       by-kind _
       (λ p q r h. record { named = refl; points = refl })
@@ -77,7 +77,7 @@ module _ (s : List ℕ) (fit : validity s ≡ Fit) (n : ℕ) (below : (m : ℕ) 
 
   boolean-node : (k p q r : ℕ) → Operands s Booleans n (shape Booleans k) (record { kind = k; p = p; q = q; r = r })
       → BooleanSorted (sizes s) (booleanNode (entry s) (booleanTrees (entry s) n) n (record { kind = k; p = p; q = q; r = r }))
-  unfolding shape kinds booleanNode booleanNamed booleanPoints
+  unfolding shape kinds booleanKind booleanMade booleanNamed booleanPoints
   boolean-node =
       by-kind _
       (λ p q r h. record { named = refl; points = refl })

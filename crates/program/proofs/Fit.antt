@@ -2,14 +2,14 @@
 use mathlib.Core.Path.{_≡_, ap}
 use mathlib.Core.Bool.{true}
 use mathlib.Core.List.{List}
-use Prim.Native.Nat.{ℕ, suc, _+_, _-_, _/_, _%_, _≤_, _<_}
+use Prim.Native.Nat.{ℕ, suc, _+_, _*_, _-_, _/_, _%_, _≤_, _<_}
 use native.Mathlib.Decide.{decLt}
 use native.Mathlib.Omega.{arith}
 use lib.Dec.{leb, eqb}
 use lib.ListN.{length, getD, take, List·getD-eq-default}
 use lib.Seq.{take-all}
 use borrow.Author.Tests.{leb-true, eqb-true}
-use Rattle.program.specs.File.{wordAt, namesField, tableField, programFields, headFound, headAt, fieldStart, fieldHead, headSpan, layoutOf, spanOf, LaidOut, nameCount, sizeAt, sizes, entryCount, entry, cellCount}
+use Rattle.program.specs.File.{wordAt, namesField, tableField, programFields, headFound, headAt, fieldStart, fieldHead, headSpan, layoutOf, spanOf, LaidOut, nameCount, sizeAt, sizes, entryCount, tableStart, entry, cellCount}
 use Rattle.program.specs.Kind.{isCommand}
 use Rattle.program.specs.Questions.{wholeEntries, headValidity, headsValidity, nameValidity, entryValidity, tableValidity, uses, useValidity, toBeUsed, usedValidity, lastCommand, lastValidity, usesValidity, contentValidity, validity}
 use Rattle.program.specs.declared.Field.{Field}
@@ -21,6 +21,7 @@ use Rattle.program.specs.declared.Validity.the-variants.{Fit}
 use Rattle.program.proofs.Asking.{ask-fit, turn-fit, each-fit}
 use Rattle.program.proofs.Cells.{sizes-length, size-at}
 use Rattle.program.proofs.Heads.{whole, field-fit}
+use Rattle.program.proofs.Reading.{laid-count, laid-start}
 use Rattle.program.proofs.Tests.{two, three}
 
 -- a field that passes questions 1 to 4: it starts inside the file, and its number of entries is one that is allowed
@@ -56,6 +57,13 @@ module _ (s : List ℕ) (e : headsValidity s 0 programFields ≡ Fit) where
   table-allowed Arithmetic = head-fit s (fieldStart s 1) _ (field-fit s e 1 (omega arith))
   table-allowed Boolean = head-fit s (fieldStart s 2) _ (field-fit s e 2 (omega arith))
   table-allowed Commands = head-fit s (fieldStart s 3) _ (field-fit s e 3 (omega arith))
+
+  -- all bytes of a table's entries are there
+  entries-whole : (t : Table) → spanOf (layoutOf s) t .start + 7 * spanOf (layoutOf s) t .count ≤ length s
+  unfolding programFields layoutOf fieldHead spanOf headSpan headFound tableField
+  entries-whole Arithmetic = let w = whole s (fieldStart s 1) _ (field-fit s e 1 (omega arith)) in rw (w .found) (omega (arith, w .known .inside))
+  entries-whole Boolean = let w = whole s (fieldStart s 2) _ (field-fit s e 2 (omega arith)) in rw (w .found) (omega (arith, w .known .inside))
+  entries-whole Commands = let w = whole s (fieldStart s 3) _ (field-fit s e 3 (omega arith)) in rw (w .found) (omega (arith, w .known .inside))
 
   pub laid-out : (l : Layout) → l ≡ layoutOf s → LaidOut s l
   laid-out l same =
@@ -93,6 +101,13 @@ module _ (s : List ℕ) (fit : validity s ≡ Fit) where
   pub fit-laid-out : (l : Layout) → l ≡ layoutOf s → LaidOut s l
   unfolding validity
   fit-laid-out = laid-out s (turn-fit _ 0 fit)
+
+  pub table-whole : (t : Table) → tableStart s t + 7 * entryCount s t ≤ length s
+  unfolding validity tableStart entryCount
+  table-whole = entries-whole s (turn-fit _ 0 fit)
+
+  pub span-whole : (l : Layout) → l ≡ layoutOf s → (t : Table) → spanOf l t .start + 7 * spanOf l t .count ≤ length s
+  span-whole l e t = omega (arith, table-whole t, laid-start s l e t, laid-count s l e t)
 
   pub one-last : entryCount s Commands ≡ suc (lastCommand s)
   unfolding lastCommand

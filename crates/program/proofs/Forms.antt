@@ -5,8 +5,9 @@ use native.Mathlib.Decide.{decLe}
 use native.Mathlib.Omega.{arith}
 use lib.IntN.{pos}
 use borrow.Author.Tests.{lt-ltb, le-ltb}
-use Rattle.program.specs.Node.{arithKind, arithForm, arithTree, booleanKind, booleanForm, booleanTree, commandKind, commandForm, commandTree}
-use Rattle.program.specs.Tree.{Entries, arithBelow, arithNode, arithTrees, arithAt, booleanBelow, booleanNode, booleanTrees, booleanAt, commandBelow, commandNode, commandTrees, commandAt}
+use Rattle.program.specs.Kind.{arithKind, booleanKind, commandKind}
+use Rattle.program.specs.Node.{arithForm, arithTree, booleanForm, booleanTree, commandForm, commandTree}
+use Rattle.program.specs.Tree.{Entries, arithBelow, arithTrees, arithAt, booleanBelow, booleanTrees, booleanAt, commandBelow, commandTrees, commandAt, arithMade, booleanMade, commandMade}
 use Rattle.program.specs.declared.ArithNode.{ArithNode}
 use Rattle.program.specs.declared.ArithNode.the-variants.{Number, Variable, Element, Operator}
 use Rattle.program.specs.declared.BooleanNode.{BooleanNode}
@@ -72,54 +73,30 @@ module _ (k p q r : ℕ) where
   command-other h = from-eight (λ (k : ℕ). Skip ≡ commandKind (record { kind = k; p = p; q = q; r = r })) (λ k. refl) k (from-eight-on k h)
 
 module _ (es : Entries) where
-  arith-kind : (n k p q r : ℕ) → arithNode (arithTrees es n) n (record { kind = k; p = p; q = q; r = r }) ≡ arithTree es n (arithKind (record { kind = k; p = p; q = q; r = r }))
-  unfolding arithNode arithKind arithTree
-  arith-kind n =
-      by-kind _
-      (λ p q r. refl) (λ p q r. refl) (λ p q r. refl) (λ p q r. refl)
-      (λ p q r. refl) (λ p q r. refl) (λ p q r. refl) (λ p q r. refl)
-      (λ k p q r. refl)
-
-  boolean-kind : (n k p q r : ℕ) → booleanNode es (booleanTrees es n) n (record { kind = k; p = p; q = q; r = r }) ≡ booleanTree es n (booleanKind (record { kind = k; p = p; q = q; r = r }))
-  unfolding booleanNode booleanKind booleanTree
-  boolean-kind n =
-      by-kind _
-      (λ p q r. refl) (λ p q r. refl) (λ p q r. refl) (λ p q r. refl)
-      (λ p q r. refl) (λ p q r. refl) (λ p q r. refl) (λ p q r. refl)
-      (λ k p q r. refl)
-
-  command-kind : (n k p q r : ℕ) → commandNode es (commandTrees es n) n (record { kind = k; p = p; q = q; r = r }) ≡ commandTree es n (commandKind (record { kind = k; p = p; q = q; r = r }))
-  unfolding commandNode commandKind commandTree
-  command-kind n =
-      by-kind _
-      (λ p q r. refl) (λ p q r. refl) (λ p q r. refl) (λ p q r. refl)
-      (λ p q r. refl) (λ p q r. refl) (λ p q r. refl) (λ p q r. refl)
-      (λ k p q r. refl)
-
   module _ (bound n : ℕ) where
     -- the tree of entry n as a part of entry bound
     arith-form : arithBelow (arithTrees es bound) n ≡ arithTree es n (arithForm es bound n)
-    unfolding arithForm arithTree arithAt
+    unfolding arithForm arithMade arithAt
     arith-form =
         elim (decLe bound n) [
           | yes h ↦ rw (le-ltb n bound h) (arith-past es bound n h)
-          | no h ↦ rw (lt-ltb n bound (omega arith)) (arith-below es bound n (omega arith) ∙ arith-kind n _ _ _ _)
+          | no h ↦ rw (lt-ltb n bound (omega arith)) (arith-below es bound n (omega arith))
         ]
 
     boolean-form : booleanBelow (booleanTrees es bound) n ≡ booleanTree es n (booleanForm es bound n)
-    unfolding booleanForm booleanTree booleanAt
+    unfolding booleanForm booleanMade booleanAt
     boolean-form =
         elim (decLe bound n) [
           | yes h ↦ rw (le-ltb n bound h) (boolean-past es bound n h)
-          | no h ↦ rw (lt-ltb n bound (omega arith)) (boolean-below es bound n (omega arith) ∙ boolean-kind n _ _ _ _)
+          | no h ↦ rw (lt-ltb n bound (omega arith)) (boolean-below es bound n (omega arith))
         ]
 
     command-form : commandBelow (commandTrees es bound) n ≡ commandTree es n (commandForm es bound n)
-    unfolding commandForm commandTree commandAt
+    unfolding commandForm commandMade commandAt
     command-form =
         elim (decLe bound n) [
           | yes h ↦ rw (le-ltb n bound h) (command-past es bound n h)
-          | no h ↦ rw (lt-ltb n bound (omega arith)) (command-below es bound n (omega arith) ∙ command-kind n _ _ _ _)
+          | no h ↦ rw (lt-ltb n bound (omega arith)) (command-below es bound n (omega arith))
         ]
 
     -- where code has asked what the entry is, and was told

@@ -1,5 +1,5 @@
 -- The theorems on programs and their graphs for the crates above, on one page. Their proofs are in the modules that they cite.
-use mathlib.Core.Path.{_≡_, _∙_}
+use mathlib.Core.Path.{_≡_}
 use mathlib.Core.Bool.{Bool, true, false}
 use mathlib.Core.List.{List}
 use Prim.Native.Nat.{ℕ, suc, _+_, _*_, _/_, _%_, _≤_, _<_}
@@ -7,24 +7,23 @@ use lib.Dec.{T}
 use lib.IntN.{pos}
 use lib.ListN.{length, getD, take, drop}
 use Rattle.program.specs.Asking.{ask, thenAsk, isRefused, inTurn, askEach}
-use Rattle.program.specs.Counting.{capacity}
-use Rattle.program.specs.Decoding.{decodedEntries, decodedEntry, decodedSizes, decodedCells, NamesIn}
 use Rattle.program.specs.Drawing.{over, edgeRead, edgeNumbers}
 use Rattle.program.specs.File.{nameCount, sizeAt, sizes, entryCount, entry, cellsOf, cellCount, firstCell}
 use Rattle.program.specs.FirstSuch.{firstOf, firstSuch}
-use Rattle.program.specs.Graph.{Edge, edges, edgeCount, nodeCount, actionKind, actionEntry, actionTable, actionOf, graphBytes}
+use Rattle.program.specs.Graph.{Action, Edge, edges, edgeCount, nodeCount, graphBytes}
 use Rattle.program.specs.Kind.{isGuarded}
-use Rattle.program.specs.Links.{sourceIn, links, Linkable, Linked, Followable, Followed}
+use Rattle.program.specs.Meaning.{meaning}
 use Rattle.program.specs.Node.{arithForm, arithTree, booleanForm, booleanTree, commandForm, commandTree}
+use Rattle.program.specs.Prepared as Prepared
+use Rattle.program.specs.Prepared.{edgeCountPlace, entriesIn, firstIn, nextIn}
 use Rattle.program.specs.Questions.{validity, inputValidity, programPart, initialPart}
-use Rattle.program.specs.Sorted.{arithNamed, booleanNamed, commandNamed, arithPoints, booleanPoints, isGuardedTree, commandPoints}
+use Rattle.program.specs.Sorted.{arithNamed, booleanNamed, commandNamed, actionNamed, meaningNamed, arithPoints, booleanPoints, isGuardedTree, commandPoints}
 use Rattle.program.specs.Syntax.{number, arithEntry, truth, booleanEntry, skip, commandEntry}
 use Rattle.program.specs.Tree.{Entries, arithBelow, booleanBelow, commandBelow, arithNode, arithTrees, arithAt, booleanNode, booleanTrees, booleanAt, commandNode, commandTrees, commandAt, script}
 use Rattle.program.specs.declared.ArithNode.{ArithNode}
 use Rattle.program.specs.declared.BooleanNode.{BooleanNode}
 use Rattle.program.specs.declared.CommandNode.{CommandNode}
 use Rattle.program.specs.declared.First.the-variants.{At, Nothing}
-use Rattle.program.specs.declared.Table.{Table}
 use Rattle.program.specs.declared.Table.the-variants.{Arithmetic, Boolean, Commands}
 use Rattle.program.specs.declared.Validity.{Validity}
 use Rattle.program.specs.declared.Validity.the-variants.{Fit}
@@ -33,23 +32,23 @@ use Rattle.program.proofs.Actions.{Faithful}
 use Rattle.program.proofs.Asking
 use Rattle.program.proofs.Cells
 use Rattle.program.proofs.Counts
-use Rattle.program.proofs.Decoded
 use Rattle.program.proofs.EdgeReading
 use Rattle.program.proofs.Expressions
 use Rattle.program.proofs.FirstSuch
 use Rattle.program.proofs.FirstSuch.{Foremost, FirstPassing}
 use Rattle.program.proofs.Fit as Fitness
 use Rattle.program.proofs.Fit.{Counts as Allowed}
+use Rattle.program.proofs.Following
 use Rattle.program.proofs.Forms
 use Rattle.program.proofs.Forms.{ArithParts, BooleanParts, CommandParts}
 use Rattle.program.proofs.Inputs
-use Rattle.program.proofs.Links
 use Rattle.program.proofs.Made.{made}
 use Rattle.program.proofs.Nodes
 use Rattle.program.proofs.Nodes.{Inside}
 use Rattle.program.proofs.Places
 use Rattle.program.proofs.Places.{Placed}
-use Rattle.program.proofs.SameTrees
+use Rattle.program.proofs.Preparing
+use Rattle.program.proofs.Readings
 use Rattle.program.proofs.Sorting
 use Rattle.program.proofs.Tests.{passed}
 use Rattle.program.proofs.Trees
@@ -155,25 +154,36 @@ module _ (es : Entries) where
   pub command-lower : (bound n : ℕ) {x k : CommandNode} → x ≡ commandForm es bound n → x ≡ k → CommandParts k → n < bound
   command-lower = Forms.command-lower es
 
--- ---- Decoded entries
+-- ---- A prepared program
 
--- an entry that is there is decoded
-pub decoded-entry : (s : List ℕ) (t : Table) (n : ℕ) → n < entryCount s t → n < capacity t → decodedEntry (decodedEntries s) t n ≡ entry s t n
-decoded-entry = SameTrees.decoded-entry
+-- what an action means has the names of the action
+pub meaning-named : (ns : List ℕ) (x : Action) → T (actionNamed ns x) → T (meaningNamed ns (meaning x))
+meaning-named = Preparing.meaning-named
 
--- past a table's capacity every entry is a leaf, so the tree at an entry is the one below the capacity
-module _ (d : List ℕ) where
-  pub arith-any : (n : ℕ) → arithAt (decodedEntry d) n ≡ arithBelow (arithTrees (decodedEntry d) 512) n
-  arith-any = Decoded.arith-any d
+-- past what a table can have every entry is a leaf, so the tree at an entry is the one below that
+module _ (code graph : List ℕ) where
+  pub arith-whole : (n : ℕ) → arithAt (entriesIn code graph) n ≡ arithBelow (arithTrees (entriesIn code graph) 512) n
+  arith-whole = Readings.arith-any code graph
 
-  pub boolean-any : (n : ℕ) → booleanAt (decodedEntry d) n ≡ booleanBelow (booleanTrees (decodedEntry d) 256) n
-  boolean-any = Decoded.boolean-any d
+  pub boolean-whole : (n : ℕ) → booleanAt (entriesIn code graph) n ≡ booleanBelow (booleanTrees (entriesIn code graph) 256) n
+  boolean-whole = Readings.boolean-any code graph
 
-  pub command-any : (n : ℕ) → commandAt (decodedEntry d) n ≡ commandBelow (commandTrees (decodedEntry d) 256) n
-  command-any = Decoded.command-any d
+  pub command-whole : (n : ℕ) → commandAt (entriesIn code graph) n ≡ commandBelow (commandTrees (entriesIn code graph) 256) n
+  command-whole = Readings.command-any code graph
 
-  pub command-any-told : (n : ℕ) {x k : CommandNode} → x ≡ commandForm (decodedEntry d) 256 n → x ≡ k → commandAt (decodedEntry d) n ≡ commandTree (decodedEntry d) n k
-  command-any-told n e told = command-any n ∙ command-told (decodedEntry d) 256 n e told
+-- following the links of a node
+module _ {graph : List ℕ} (l : Prepared.Linked graph) where
+  -- a next edge is beyond the last
+  pub next-is-beyond : (e : ℕ) → e < getD graph edgeCountPlace 0 → e < nextIn graph e
+  next-is-beyond = Following.next-beyond l
+
+  -- the first edge of a node, and after one of which something holds the next
+  pub first-is-followed : (node : ℕ) (P : ℕ → Type 0) → node < 129 → Prepared.Following graph node P (firstIn graph node)
+  first-is-followed = Following.first-followed l
+
+  pub next-is-followed : (node : ℕ) (P : ℕ → Type 0) (e : ℕ) → e < getD graph edgeCountPlace 0 → Prepared.Following graph node P e → P e
+      → Prepared.Following graph node P (nextIn graph e)
+  next-is-followed = Following.next-followed l
 
 -- ---- First such
 
@@ -365,26 +375,6 @@ module _ (s : List ℕ) (fit : validity s ≡ Fit) where
   pub drawn-edge-read : (k : ℕ) (d : Edge) → k < edgeCount s → (buffer : List ℕ) → edgeRead (over (graphBytes s) buffer) k ≡ edgeNumbers (getD (edges s) k d)
   drawn-edge-read = EdgeReading.drawn-edge-read s fit
 
-  -- the decoded entries have the file's trees and actions, and the names are decoded
-  pub arith-decoded : (n : ℕ) → n < entryCount s Arithmetic → arithAt (decodedEntry (decodedEntries s)) n ≡ arithAt (entry s) n
-  arith-decoded = SameTrees.arith-decoded s fit
-
-  pub boolean-decoded : (n : ℕ) → n < entryCount s Boolean → booleanAt (decodedEntry (decodedEntries s)) n ≡ booleanAt (entry s) n
-  boolean-decoded = SameTrees.boolean-decoded s fit
-
-  pub command-decoded : (n : ℕ) → n < entryCount s Commands → commandAt (decodedEntry (decodedEntries s)) n ≡ commandAt (entry s) n
-  command-decoded = SameTrees.command-decoded s fit
-
-  pub action-decoded : (kind n : ℕ) → n < entryCount s (actionTable kind) → actionOf (decodedEntry (decodedEntries s)) kind n ≡ actionOf (entry s) kind n
-  action-decoded = SameTrees.action-decoded s fit
-
-  pub edge-decoded : (k : ℕ) (d : Edge) → k < edgeCount s
-      → getD (edges s) k d .action ≡ actionOf (decodedEntry (decodedEntries s)) (actionKind (getD (edges s) k d .action)) (actionEntry (getD (edges s) k d .action))
-  edge-decoded = SameTrees.edge-decoded s fit
-
-  pub names-decoded : NamesIn (sizes s) (decodedSizes s) (decodedCells s)
-  names-decoded = SameTrees.names-decoded s fit
-
 -- ---- The sheet program's input, where it passes questions 1 to 11
 
 module _ (s : List ℕ) (fit : inputValidity s ≡ Fit) where
@@ -417,20 +407,3 @@ module _ (s : List ℕ) (fit : inputValidity s ≡ Fit) where
 
   pub parts-fill : length (programPart s) + 3 + length (initialPart s) ≡ length s
   parts-fill = Inputs.parts-fill s fit
-
--- ---- The edges of a node
-
--- the links of edges that can be linked
-pub links-linked : (bytes : List ℕ) (count : ℕ) → Linkable bytes count → Linked (sourceIn bytes) count (links bytes count)
-links-linked = Links.links-linked
-
--- following them: a next edge is beyond the last; the first edge follows with nothing before it, and the next with what holds of this one
-module _ {bytes : List ℕ} {count : ℕ} {ls : List ℕ} (f : Followable bytes count ls) where
-  pub next-beyond : (e : ℕ) → e < count → e < getD ls (129 + e) 0
-  next-beyond = Links.next-beyond f
-
-  pub first-followed : (node : ℕ) (P : ℕ → Type 0) → node < 129 → Followed bytes count node P (getD ls node 0)
-  first-followed = Links.first-followed f
-
-  pub next-followed : (node : ℕ) (P : ℕ → Type 0) (e : ℕ) → e < count → Followed bytes count node P e → P e → Followed bytes count node P (getD ls (129 + e) 0)
-  next-followed = Links.next-followed f

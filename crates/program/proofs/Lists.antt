@@ -1,6 +1,6 @@
 -- Laws of lists: lists that grow at their end, and what holds of every element.
 use mathlib.Core.Path.{_≡_, refl, sym, _∙_, ap}
-use mathlib.Core.List.{List, [], _∷_, _++_}
+use mathlib.Core.List.{List, [], _∷_, _++_, append-assoc, flatMap}
 use Prim.Native.Nat.{ℕ, zero, suc, _≤_, _<_}
 use native.Mathlib.Nat.{le-of-suc-le-suc, not-suc-le-zero}
 use native.Mathlib.Omega.{arith}
@@ -62,3 +62,9 @@ module _ {A : Type 0} {P : A → Type 0} where
   each-at k d none l = absurd (not-suc-le-zero l)
   each-at zero d (more p h) l = p
   each-at (suc k) d (more p h) l = each-at k d h (le-of-suc-le-suc l)
+
+-- what the elements of two lists give, one after the other
+pub concat-append : {A B : Type 0} (f : A → List B) (xs ys : List A) → flatMap f (xs ++ ys) ≡ flatMap f xs ++ flatMap f ys
+unfolding flatMap
+concat-append f [] ys = refl
+concat-append f (x ∷ xs) ys = rw (concat-append f xs ys) (sym (append-assoc (f x) (flatMap f xs) (flatMap f ys)))

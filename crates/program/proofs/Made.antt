@@ -5,12 +5,11 @@ use mathlib.Core.List.{List}
 use Prim.Native.Nat.{ℕ, _<_}
 use native.Mathlib.Omega.{arith}
 use borrow.Author.Tests.{leb-true, lt-leb}
-use Rattle.program.specs.File.{sizes, entryCount, entry}
-use Rattle.program.specs.Kind.{kinds, shape, tableOf, isCommand, isGuarded}
+use Rattle.program.specs.File.{sizes, entryCount, entry, isVariable, isArray}
+use Rattle.program.specs.Kind.{kinds, shape, tableOf, isCommand, isGuarded, commandKind}
 use Rattle.program.specs.Questions.{sameTable, limit, ofSort, validity}
-use Rattle.program.specs.Sorted.{isVariable, isArray}
 use Rattle.program.specs.Syntax.{Arith, Command, skip, assign, store, sequence, conditional, iteration, guarded, choice}
-use Rattle.program.specs.Tree.{arithAt, booleanAt, commandBelow, commandNode, commandTrees, commandAt}
+use Rattle.program.specs.Tree.{arithAt, booleanAt, commandBelow, commandNode, commandTrees, commandAt, commandMade}
 use Rattle.program.specs.declared.Sort.the-variants.{Expression, Command as Commanding, Guarded}
 use Rattle.program.specs.declared.Table.the-variants.{Boolean as Booleans, Commands}
 use Rattle.program.specs.declared.Validity.the-variants.{Fit}
@@ -61,7 +60,7 @@ module _ (s : List ℕ) (fit : validity s ≡ Fit) (n : ℕ) (exists : n < entry
   command-node : (k p q r : ℕ) → Operands s Commands n (shape Commands k) (record { kind = k; p = p; q = q; r = r })
       → commandNode (entry s) (commandTrees (entry s) n) n (record { kind = k; p = p; q = q; r = r }) ≡ commandAt (entry s) n
       → Made s (isGuarded k) n (commandNode (entry s) (commandTrees (entry s) n) n (record { kind = k; p = p; q = q; r = r }))
-  unfolding shape kinds commandNode isGuarded limit sameTable tableOf
+  unfolding shape kinds commandKind commandMade isGuarded limit sameTable tableOf
   command-node =
       by-kind _
       (λ p q r h e. makeSkip (here exists e))

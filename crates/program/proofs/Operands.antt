@@ -3,18 +3,16 @@ use mathlib.Core.Path.{_≡_}
 use mathlib.Core.Bool.{true, false, false≢true}
 use mathlib.Core.List.{List}
 use Prim.Native.Nat.{ℕ, _<_}
-use lib.Dec.{ltb, eqb}
+use lib.Dec.{ltb}
 use borrow.Author.Tests.{ltb-true}
-use Rattle.program.specs.File.{nameCount, sizeAt, sizes, entryCount, entry}
+use Rattle.program.specs.File.{sizes, entryCount, entry, isVariable, isArray}
 use Rattle.program.specs.Kind.{Role, Unused, Half, Variable, Array, To, Shape, Unknown, Known, shape, tableOf}
 use Rattle.program.specs.Questions.{named, points, limit, ofSort, eachOperand, shapeValidity, entryValidity, validity}
-use Rattle.program.specs.Sorted.{isVariable, isArray}
 use Rattle.program.specs.declared.Entry.{Entry}
 use Rattle.program.specs.declared.Sort.{Sort}
 use Rattle.program.specs.declared.Table.{Table}
 use Rattle.program.specs.declared.Validity.the-variants.{Fit}
 use Rattle.program.proofs.Asking.{ask-fit, turn-fit}
-use Rattle.program.proofs.Cells.{sizes-length, size-at}
 use Rattle.program.proofs.Fit.{entry-fit}
 use Rattle.program.proofs.Tests.{two, three}
 
@@ -32,15 +30,11 @@ Operand s t n Array x = isArray (sizes s) x ≡ true
 Operand s t n (To sort) x = Reference s t n sort x
 
 operand-fit : (s : List ℕ) (t : Table) (n : ℕ) (role : Role) (x : ℕ) → named s role x ≡ true → points s t n role x ≡ true → Operand s t n role x
-unfolding named points isVariable isArray
+unfolding named points
 operand-fit s t n Unused x h k = tt
 operand-fit s t n Half x h k = tt
-operand-fit s t n Variable x h k =
-    let known = two (ltb x (nameCount s)) (eqb (sizeAt s x) 0) h in
-    rw (sizes-length s, size-at s x (ltb-true _ _ (known .0))) h
-operand-fit s t n Array x h k =
-    let known = two (ltb x (nameCount s)) (ltb 0 (sizeAt s x)) h in
-    rw (sizes-length s, size-at s x (ltb-true _ _ (known .0))) h
+operand-fit s t n Variable x h k = h
+operand-fit s t n Array x h k = h
 operand-fit s t n (To sort) x h k =
     let known = two (ltb x (limit s t n (tableOf sort))) (ofSort s sort x) k in
     record { lower = ltb-true _ _ (known .0); sorted = known .1 }

@@ -124,11 +124,7 @@ table-wide t e = omega (arith, ap (λ (x : Field). x .width) e, table-width t)
 pub asked-head : (end : ℕ) {h k : Head} {f g : Field} {v : Validity} → v ≡ headValidity end h f → h ≡ k → f ≡ g → v ≡ headValidity end k g
 asked-head end e p q = e ∙ (λ i. headValidity end (p i) (q i))
 
--- what stands after a field, and question 5 there
-pub next-field : (s : List ℕ) (k : ℕ) {h g : Head} → g ≡ headAt s (afterHead h) → h ≡ fieldHead s k → g ≡ fieldHead s (suc k)
-unfolding fieldHead placeAfter
-next-field s k e f = e ∙ ap (λ (h : Head). headAt s (afterHead h)) f
-
+-- question 5 where a field ends whose head was read
 pub asked-end : (s : List ℕ) (k : ℕ) {h : Head} {at : ℕ} {v : Validity} → v ≡ ask (eqb at (length s)) 5 at → at ≡ afterHead h → h ≡ fieldHead s k → v ≡ endValidity s (suc k)
 unfolding endValidity fieldHead placeAfter
 asked-end s k e f g = e ∙ ap (λ (at : ℕ). ask (eqb at (length s)) 5 at) (f ∙ ap afterHead g)

@@ -2,12 +2,18 @@
 use mathlib.Core.Path.{_≡_, refl}
 use Prim.Native.Nat.{ℕ, _≤_, _<_}
 use lib.IntN.{pos}
-use lib.ListN.{List·getD-map}
+use Rattle.program.specs.Kind.{arithKind, booleanKind, commandKind}
+use Rattle.program.specs.declared.ArithNode.{ArithNode}
+use Rattle.program.specs.declared.ArithNode.the-variants.{Number, Variable, Element, Operator}
+use Rattle.program.specs.declared.BooleanNode.{BooleanNode}
+use Rattle.program.specs.declared.BooleanNode.the-variants.{True, Comparison, Both, AndThen, Not}
+use Rattle.program.specs.declared.CommandNode.{CommandNode}
+use Rattle.program.specs.declared.CommandNode.the-variants.{Skip, Assign, Store, Sequence, Conditional, Iteration, Guarded, Choice}
 use Rattle.program.specs.declared.Table.the-variants.{Arithmetic, Boolean as Booleans, Commands}
 use Rattle.program.specs.Syntax.{number, truth, skip, arithEntry, booleanEntry, commandEntry}
-use Rattle.program.specs.Tree.{Entries, arithBelow, booleanBelow, commandBelow, arithNode, arithTrees, arithAt, booleanNode, booleanTrees, booleanAt, commandNode, commandTrees, commandAt}
+use Rattle.program.specs.Tree.{Entries, arithBelow, booleanBelow, commandBelow, arithNode, arithTrees, arithAt, booleanNode, booleanTrees, booleanAt, commandNode, commandTrees, commandAt, arithMade, booleanMade, commandMade}
 use Rattle.program.proofs.Induction.{from-seven, from-eight}
-use Rattle.program.proofs.Lists.{grown-at, grown-past, getD-same}
+use Rattle.program.proofs.Lists.{grown-at, grown-past}
 
 module _ (es : Entries) where
   -- the tree that a reference to an entry below leads to
@@ -51,32 +57,55 @@ module _ (es : Entries) where
 
   -- an unknown kind makes a leaf
   pub arith-unknown : (n : ℕ) → 8 ≤ es Arithmetic n .kind → arithAt es n ≡ number n (pos 0)
-  unfolding arithAt arithNode
+  unfolding arithAt arithKind arithMade
   arith-unknown n h =
       let e = es Arithmetic n in
       from-eight (λ (k : ℕ). arithNode (arithTrees es n) n (record { kind = k; p = e .p; q = e .q; r = e .r }) ≡ number n (pos 0)) (λ k. refl) (e .kind) h
 
   pub boolean-unknown : (n : ℕ) → 7 ≤ es Booleans n .kind → booleanAt es n ≡ truth n
-  unfolding booleanAt booleanNode
+  unfolding booleanAt booleanKind booleanMade
   boolean-unknown n h =
       let e = es Booleans n in
       from-seven (λ (k : ℕ). booleanNode es (booleanTrees es n) n (record { kind = k; p = e .p; q = e .q; r = e .r }) ≡ truth n) (λ k. refl) (e .kind) h
 
   pub command-unknown : (n : ℕ) → 8 ≤ es Commands n .kind → commandAt es n ≡ skip n
-  unfolding commandAt commandNode
+  unfolding commandAt commandKind commandMade
   command-unknown n h =
       let e = es Commands n in
       from-eight (λ (k : ℕ). commandNode es (commandTrees es n) n (record { kind = k; p = e .p; q = e .q; r = e .r }) ≡ skip n) (λ k. refl) (e .kind) h
 
   -- the tree at entry n has the number n
   pub arith-entry : (n : ℕ) → arithEntry (arithAt es n) ≡ n
-  unfolding arithAt arithNode arithEntry
-  arith-entry n = rw (← List·getD-map arithEntry) (getD-same 8 n (es Arithmetic n .kind))
+  unfolding arithAt arithMade arithEntry
+  arith-entry n = by (arithKind (es Arithmetic n))
+    where
+      by : (x : ArithNode) → arithEntry (arithMade (arithTrees es n) n x) ≡ n
+      by (Number z) = refl
+      by (Variable x) = refl
+      by (Element x i) = refl
+      by (Operator o p q) = refl
 
   pub boolean-entry : (n : ℕ) → booleanEntry (booleanAt es n) ≡ n
-  unfolding booleanAt booleanNode booleanEntry
-  boolean-entry n = rw (← List·getD-map booleanEntry) (getD-same 7 n (es Booleans n .kind))
+  unfolding booleanAt booleanMade booleanEntry
+  boolean-entry n = by (booleanKind (es Booleans n))
+    where
+      by : (x : BooleanNode) → booleanEntry (booleanMade es (booleanTrees es n) n x) ≡ n
+      by True = refl
+      by (Comparison o p q) = refl
+      by (Both p q) = refl
+      by (AndThen p q) = refl
+      by (Not p) = refl
 
   pub command-entry : (n : ℕ) → commandEntry (commandAt es n) ≡ n
-  unfolding commandAt commandNode commandEntry
-  command-entry n = rw (← List·getD-map commandEntry) (getD-same 8 n (es Commands n .kind))
+  unfolding commandAt commandMade commandEntry
+  command-entry n = by (commandKind (es Commands n))
+    where
+      by : (x : CommandNode) → commandEntry (commandMade es (commandTrees es n) n x) ≡ n
+      by Skip = refl
+      by (Assign x a) = refl
+      by (Store x i a) = refl
+      by (Sequence p q) = refl
+      by (Conditional p) = refl
+      by (Iteration p) = refl
+      by (Guarded g p) = refl
+      by (Choice p q) = refl

@@ -1,7 +1,7 @@
 -- The program file: numbers, fields and entries (document 01, "The script file"). All reading is total: a byte past the end is 0.
 use mathlib.Core.Path.{_≡_}
 use Prim.Native.Nat.{ℕ, zero, suc, _+_, _*_, _/_, _-_, _≤_}
-use mathlib.Core.Bool.{cond}
+use mathlib.Core.Bool.{Bool, cond, _&&_}
 use mathlib.Core.List.{List, [], _∷_, map, sum}
 use lib.Dec.{eqb, leb, ltb}
 use lib.ListN.{length, getD, take, drop}
@@ -103,9 +103,9 @@ layoutOf s =
       commands = headSpan (fieldHead s 3) (tableField Commands);
     }
 
--- the heads that it is worked out from
+-- the four heads that it is worked out from, and what stands after the four fields
 unfoldable pub headsOf : List ℕ → FieldHeads
-headsOf s = record { names = fieldHead s 0; arithmetic = fieldHead s 1; boolean = fieldHead s 2; commands = fieldHead s 3 }
+headsOf s = record { names = fieldHead s 0; arithmetic = fieldHead s 1; boolean = fieldHead s 2; commands = fieldHead s 3; initial = fieldHead s 4 }
 
 -- a table's part of a file
 unfoldable pub spanOf : Layout → Table → Span
@@ -131,6 +131,13 @@ sizeAt s i = wordAt s (nameOffset i)
 
 unfoldable pub sizes : List ℕ → List ℕ
 sizes s = tabulate (nameCount s) (sizeAt s)
+
+-- a name that is there, of a variable and of an array, where the names have the sizes ns
+unfoldable pub isVariable : List ℕ → ℕ → Bool
+isVariable ns x = ltb x (length ns) && eqb (getD ns x 0) 0
+
+unfoldable pub isArray : List ℕ → ℕ → Bool
+isArray ns x = ltb x (length ns) && ltb 0 (getD ns x 0)
 
 -- the number of entries of a table, where they start, and where entry n stands
 unfoldable pub entryCount : List ℕ → Table → ℕ

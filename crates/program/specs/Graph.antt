@@ -58,6 +58,10 @@ part (choice k c d) a b n =
     let second = part d a b (first .fresh) in
     record { edges = first .edges ++ second .edges; fresh = second .fresh }
 
+-- edge number e of a graph; past the last, a skip at node 0
+unfoldable pub edgeAt : Graph → ℕ → Edge
+edgeAt g e = getD (g .edges) e (edge 0 (perform (skip 0)) 0)
+
 -- "The exit action is ¬b of every guard of the loop, joined by ∧ left to right." (book: done)
 unfoldable pub done : Command → Boolean
 done (guarded k g c) = negation k g

@@ -1,9 +1,20 @@
--- What the operands of each kind of entry are: "Every entry is told apart by its kind byte" (document 01, "The script file").
-use Prim.Native.Nat.{ℕ}
+-- "Every entry is told apart by its kind byte" (document 01, "The script file"): what its operands are, and what the entry is.
+use Prim.Native.Nat.{ℕ, _+_, _*_}
 use mathlib.Core.Bool.{Bool, _&&_}
 use mathlib.Core.List.{List, [], _∷_}
 use lib.Dec.{leb}
+use lib.IntN.{pos}
 use lib.ListN.{getD}
+use Rattle.signs.specs.declared.Comparison.the-variants.{Equal, Greater, AtLeast}
+use Rattle.signs.specs.declared.Operator.the-variants.{Add, Sub, Mul, Div, Pow}
+use Rattle.program.specs.File.{signed32}
+use Rattle.program.specs.declared.ArithNode.{ArithNode}
+use Rattle.program.specs.declared.ArithNode.the-variants.{Number, Variable as VariableNode, Element, Operator}
+use Rattle.program.specs.declared.BooleanNode.{BooleanNode}
+use Rattle.program.specs.declared.BooleanNode.the-variants.{True, Comparison, Both, AndThen, Not}
+use Rattle.program.specs.declared.CommandNode.{CommandNode}
+use Rattle.program.specs.declared.CommandNode.the-variants.{Skip, Assign, Store, Sequence, Conditional, Iteration, Guarded as GuardedNode, Choice}
+use Rattle.program.specs.declared.Entry.{Entry}
 use Rattle.program.specs.declared.Sort.{Sort}
 use Rattle.program.specs.declared.Sort.the-variants.{Expression, Condition, Command, Guarded}
 use Rattle.program.specs.declared.Table.{Table}
@@ -95,3 +106,51 @@ isCommand kind = leb kind 5
 
 unfoldable pub isGuarded : ℕ → Bool
 isGuarded kind = leb 6 kind && leb kind 7
+
+-- what an entry is, by its kind, with its operands as references; an unknown kind is a leaf: the number 0, true, or skip
+-- "0 number (P and Q together, 32-bit two's complement); 1 variable P; 2 element of array P at index Q; 3 to 7 are P + Q, P − Q, P × Q, P / Q, P ^ Q"
+unfoldable pub arithKind : Entry → ArithNode
+arithKind e =
+    getD
+    (Number (signed32 (e .p * 65536 + e .q))
+    ∷ VariableNode (e .p)
+    ∷ Element (e .p) (e .q)
+    ∷ Operator Add (e .p) (e .q)
+    ∷ Operator Sub (e .p) (e .q)
+    ∷ Operator Mul (e .p) (e .q)
+    ∷ Operator Div (e .p) (e .q)
+    ∷ Operator Pow (e .p) (e .q)
+    ∷ [])
+    (e .kind)
+    (Number (pos 0))
+
+-- "0 true; 1 P = Q; 2 P > Q; 3 P ≥ Q; 4 P ∧ Q; 5 P && Q; 6 ¬P"
+unfoldable pub booleanKind : Entry → BooleanNode
+booleanKind e =
+    getD
+    (True
+    ∷ Comparison Equal (e .p) (e .q)
+    ∷ Comparison Greater (e .p) (e .q)
+    ∷ Comparison AtLeast (e .p) (e .q)
+    ∷ Both (e .p) (e .q)
+    ∷ AndThen (e .p) (e .q)
+    ∷ Not (e .p)
+    ∷ [])
+    (e .kind)
+    True
+
+-- "0 skip; 1 variable P := Q; 2 array P at Q := R; 3 P ; Q; 4 if P fi; 5 do P od; 6 guarded P → Q; 7 choice P [] Q"
+unfoldable pub commandKind : Entry → CommandNode
+commandKind e =
+    getD
+    (Skip
+    ∷ Assign (e .p) (e .q)
+    ∷ Store (e .p) (e .q) (e .r)
+    ∷ Sequence (e .p) (e .q)
+    ∷ Conditional (e .p)
+    ∷ Iteration (e .p)
+    ∷ GuardedNode (e .p) (e .q)
+    ∷ Choice (e .p) (e .q)
+    ∷ [])
+    (e .kind)
+    Skip

@@ -7,12 +7,14 @@ pub mod Counting
 pub mod Checking
 pub mod Syntax
 pub mod Tree
-pub mod Decoding
 pub mod Node
 pub mod Graph
+pub mod Meaning
 pub mod Sorted
 pub mod Drawing
+pub mod Prepared
 pub mod DrawingParts
-pub mod Links
-pub mod DecodingParts
+pub mod GraphingParts
+pub mod LinkingParts
+pub mod Preparing
 pub mod Examples

@@ -5,7 +5,7 @@ use mathlib.Core.List.{List, [], _∷_}
 use lib.Dec.{eqb, leb, ltb}
 use lib.ListN.{length, take}
 use Rattle.program.specs.Asking.{ask, thenAsk, inTurn, askEach}
-use Rattle.program.specs.File.{tableTag, programFields, initialField, fieldStart, fieldHead, headContent, nameCount, nameOffset, sizeAt, sizes, entryCount, entryOffset, entry, cellCount}
+use Rattle.program.specs.File.{tableTag, programFields, initialField, fieldStart, fieldHead, headContent, nameCount, nameOffset, sizeAt, sizes, entryCount, entryOffset, entry, cellCount, isVariable, isArray}
 use Rattle.program.specs.Kind.{Role, Unused, Half, Variable, Array, To, Roles, Shape, Unknown, Known, shape, tableOf, isCommand, isGuarded}
 use Rattle.program.specs.declared.Entry.{Entry}
 use Rattle.program.specs.declared.Field.{Field}
@@ -50,8 +50,8 @@ nameValidity s i = ask (leb (sizeAt s i) 64 && leb (cellCount (take (suc i) (siz
 unfoldable pub named : List ℕ → Role → ℕ → Bool
 named s Unused x = eqb x 0
 named s Half x = true
-named s Variable x = ltb x (nameCount s) && eqb (sizeAt s x) 0
-named s Array x = ltb x (nameCount s) && ltb 0 (sizeAt s x)
+named s Variable x = isVariable (sizes s) x
+named s Array x = isArray (sizes s) x
 named s (To sort) x = true
 
 unfoldable pub sameTable : Table → Table → Bool

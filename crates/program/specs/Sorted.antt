@@ -3,17 +3,11 @@
 use Prim.Native.Nat.{ℕ}
 use mathlib.Core.Bool.{Bool, true, false, not, _&&_}
 use mathlib.Core.List.{List}
-use lib.Dec.{eqb, ltb}
-use lib.ListN.{length, getD}
+use lib.Dec.{ltb}
+use Rattle.program.specs.File.{isVariable, isArray}
 use Rattle.program.specs.Graph.{Action, perform, test, leave, done}
+use Rattle.program.specs.Meaning.{Meaning, nothing, assigns, stores, condition}
 use Rattle.program.specs.Syntax.{Arith, number, variable, element, operator, arithEntry, Boolean, truth, comparison, conjunction, shortCircuit, negation, booleanEntry, Command, skip, assign, store, sequence, conditional, iteration, guarded, choice, commandEntry}
-
--- "0 is a variable, 1 to 64 an array of that size": a name that is there, of a variable and of an array, where the names have the sizes ns
-unfoldable pub isVariable : List ℕ → ℕ → Bool
-isVariable ns x = ltb x (length ns) && eqb (getD ns x 0) 0
-
-unfoldable pub isArray : List ℕ → ℕ → Bool
-isArray ns x = ltb x (length ns) && ltb 0 (getD ns x 0)
 
 -- "is a named name there and of the right sort?": every name of an arithmetic expression
 unfoldable pub arithNamed : List ℕ → Arith → Bool
@@ -46,6 +40,13 @@ unfoldable pub actionNamed : List ℕ → Action → Bool
 actionNamed ns (perform c) = commandNamed ns c
 actionNamed ns (test b) = booleanNamed ns b
 actionNamed ns (leave c) = booleanNamed ns (done c)
+
+-- and of what an action means
+unfoldable pub meaningNamed : List ℕ → Meaning → Bool
+meaningNamed ns nothing = true
+meaningNamed ns (assigns x a) = isVariable ns x && arithNamed ns a
+meaningNamed ns (stores x i a) = isArray ns x && (arithNamed ns i && arithNamed ns a)
+meaningNamed ns (condition b) = booleanNamed ns b
 
 -- "A reference inside one table goes to a lower entry": every reference of an arithmetic expression
 unfoldable pub arithPoints : Arith → Bool

@@ -1,13 +1,18 @@
 -- The tree at an entry, by what each table has at each number (document 01, "The script file"). The trees of the entries below are at hand; any
 -- other reference, and an unknown kind, makes a leaf: the number 0, true, or skip.
-use Prim.Native.Nat.{ℕ, zero, suc, _+_, _*_}
+use Prim.Native.Nat.{ℕ, zero, suc}
 use mathlib.Core.List.{List, [], _∷_, _++_}
 use lib.IntN.{pos}
 use lib.ListN.{getD}
-use Rattle.signs.specs.declared.Comparison.the-variants.{Equal, Greater, AtLeast}
-use Rattle.signs.specs.declared.Operator.the-variants.{Add, Sub, Mul, Div, Pow}
-use Rattle.program.specs.File.{signed32, entry}
+use Rattle.program.specs.File.{entry}
+use Rattle.program.specs.Kind.{arithKind, booleanKind, commandKind}
 use Rattle.program.specs.Questions.{lastCommand}
+use Rattle.program.specs.declared.ArithNode.{ArithNode}
+use Rattle.program.specs.declared.ArithNode.the-variants.{Number, Variable, Element, Operator}
+use Rattle.program.specs.declared.BooleanNode.{BooleanNode}
+use Rattle.program.specs.declared.BooleanNode.the-variants.{True, Comparison, Both, AndThen, Not}
+use Rattle.program.specs.declared.CommandNode.{CommandNode}
+use Rattle.program.specs.declared.CommandNode.the-variants.{Skip, Assign, Store, Sequence, Conditional, Iteration, Guarded, Choice}
 use Rattle.program.specs.declared.Entry.{Entry}
 use Rattle.program.specs.declared.Table.{Table}
 use Rattle.program.specs.declared.Table.the-variants.{Arithmetic, Boolean as Booleans, Commands}
@@ -27,21 +32,15 @@ booleanBelow below r = getD below r (truth r)
 unfoldable pub commandBelow : List Command → ℕ → Command
 commandBelow below r = getD below r (skip r)
 
--- "0 number (P and Q together, 32-bit two's complement); 1 variable P; 2 element of array P at index Q; 3 to 7 are P + Q, P − Q, P × Q, P / Q, P ^ Q"
-unfoldable pub arithNode : List Arith → ℕ → Entry → Arith
-arithNode below n e =
-    getD
-    (number n (signed32 (e .p * 65536 + e .q))
-    ∷ variable n (e .p)
-    ∷ element n (e .p) (arithBelow below (e .q))
-    ∷ operator n Add (arithBelow below (e .p)) (arithBelow below (e .q))
-    ∷ operator n Sub (arithBelow below (e .p)) (arithBelow below (e .q))
-    ∷ operator n Mul (arithBelow below (e .p)) (arithBelow below (e .q))
-    ∷ operator n Div (arithBelow below (e .p)) (arithBelow below (e .q))
-    ∷ operator n Pow (arithBelow below (e .p)) (arithBelow below (e .q))
-    ∷ [])
-    (e .kind)
-    (number n (pos 0))
+-- the tree of what entry n is, out of the trees of the entries below
+unfoldable pub arithMade : List Arith → ℕ → ArithNode → Arith
+arithMade below n (Number z) = number n z
+arithMade below n (Variable x) = variable n x
+arithMade below n (Element x i) = element n x (arithBelow below i)
+arithMade below n (Operator o p q) = operator n o (arithBelow below p) (arithBelow below q)
+
+abbrev pub arithNode : List Arith → ℕ → Entry → Arith
+arithNode below n e = arithMade below n (arithKind e)
 
 -- the trees of the first n arithmetic entries, and the tree at entry n
 unfoldable pub arithTrees : Entries → ℕ → List Arith
@@ -51,20 +50,15 @@ arithTrees es (suc n) = let below = arithTrees es n in below ++ (arithNode below
 unfoldable pub arithAt : Entries → ℕ → Arith
 arithAt es n = arithNode (arithTrees es n) n (es Arithmetic n)
 
--- "0 true; 1 P = Q; 2 P > Q; 3 P ≥ Q; 4 P ∧ Q; 5 P && Q; 6 ¬P"
-unfoldable pub booleanNode : Entries → List Boolean → ℕ → Entry → Boolean
-booleanNode es below n e =
-    getD
-    (truth n
-    ∷ comparison n Equal (arithAt es (e .p)) (arithAt es (e .q))
-    ∷ comparison n Greater (arithAt es (e .p)) (arithAt es (e .q))
-    ∷ comparison n AtLeast (arithAt es (e .p)) (arithAt es (e .q))
-    ∷ conjunction n (booleanBelow below (e .p)) (booleanBelow below (e .q))
-    ∷ shortCircuit n (booleanBelow below (e .p)) (booleanBelow below (e .q))
-    ∷ negation n (booleanBelow below (e .p))
-    ∷ [])
-    (e .kind)
-    (truth n)
+unfoldable pub booleanMade : Entries → List Boolean → ℕ → BooleanNode → Boolean
+booleanMade es below n True = truth n
+booleanMade es below n (Comparison o p q) = comparison n o (arithAt es p) (arithAt es q)
+booleanMade es below n (Both p q) = conjunction n (booleanBelow below p) (booleanBelow below q)
+booleanMade es below n (AndThen p q) = shortCircuit n (booleanBelow below p) (booleanBelow below q)
+booleanMade es below n (Not p) = negation n (booleanBelow below p)
+
+abbrev pub booleanNode : Entries → List Boolean → ℕ → Entry → Boolean
+booleanNode es below n e = booleanMade es below n (booleanKind e)
 
 unfoldable pub booleanTrees : Entries → ℕ → List Boolean
 booleanTrees es zero = []
@@ -73,21 +67,18 @@ booleanTrees es (suc n) = let below = booleanTrees es n in below ++ (booleanNode
 unfoldable pub booleanAt : Entries → ℕ → Boolean
 booleanAt es n = booleanNode es (booleanTrees es n) n (es Booleans n)
 
--- "0 skip; 1 variable P := Q; 2 array P at Q := R; 3 P ; Q; 4 if P fi; 5 do P od; 6 guarded P → Q; 7 choice P [] Q"
-unfoldable pub commandNode : Entries → List Command → ℕ → Entry → Command
-commandNode es below n e =
-    getD
-    (skip n
-    ∷ assign n (e .p) (arithAt es (e .q))
-    ∷ store n (e .p) (arithAt es (e .q)) (arithAt es (e .r))
-    ∷ sequence n (commandBelow below (e .p)) (commandBelow below (e .q))
-    ∷ conditional n (commandBelow below (e .p))
-    ∷ iteration n (commandBelow below (e .p))
-    ∷ guarded n (booleanAt es (e .p)) (commandBelow below (e .q))
-    ∷ choice n (commandBelow below (e .p)) (commandBelow below (e .q))
-    ∷ [])
-    (e .kind)
-    (skip n)
+unfoldable pub commandMade : Entries → List Command → ℕ → CommandNode → Command
+commandMade es below n Skip = skip n
+commandMade es below n (Assign x a) = assign n x (arithAt es a)
+commandMade es below n (Store x i a) = store n x (arithAt es i) (arithAt es a)
+commandMade es below n (Sequence p q) = sequence n (commandBelow below p) (commandBelow below q)
+commandMade es below n (Conditional p) = conditional n (commandBelow below p)
+commandMade es below n (Iteration p) = iteration n (commandBelow below p)
+commandMade es below n (Guarded g p) = guarded n (booleanAt es g) (commandBelow below p)
+commandMade es below n (Choice p q) = choice n (commandBelow below p) (commandBelow below q)
+
+abbrev pub commandNode : Entries → List Command → ℕ → Entry → Command
+commandNode es below n e = commandMade es below n (commandKind e)
 
 unfoldable pub commandTrees : Entries → ℕ → List Command
 commandTrees es zero = []

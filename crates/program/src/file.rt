@@ -148,22 +148,6 @@ fn head_span(head: Head, field: Field) -> Span
     }
 }
 
-// What stands at the four fields of a program: the reader goes through the file once.
-pub(crate) fn heads(s: &[u8]) -> FieldHeads
-    ensures { λ r. ⌜ r ≡ spec.headsOf (now (s .entry)) ⌝ }
-{
-    let names = reader::field_head(s, 0);
-    let arithmetic = reader::next_head(s, names);
-    let boolean = reader::next_head(s, arithmetic);
-    let commands = reader::next_head(s, boolean);
-    FieldHeads {
-        names,
-        arithmetic,
-        boolean,
-        commands,
-    }
-}
-
 // Where a file with these heads has its names and its tables.
 pub(crate) fn layout_by(h: FieldHeads) -> Layout
     ensures { λ r. ⌜ ((s : List ℕ) → h ≡ spec.headsOf s → r ≡ spec.layoutOf s) ⌝ }
@@ -184,7 +168,7 @@ pub(crate) fn layout_by(h: FieldHeads) -> Layout
 pub fn layout(s: &[u8]) -> Layout
     ensures { λ r. ⌜ r ≡ spec.layoutOf (now (s .entry)) ⌝ }
 {
-    layout_by(heads(s))
+    layout_by(reader::heads(s))
 }
 
 // A table's part of a file.

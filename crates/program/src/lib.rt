@@ -1,10 +1,10 @@
 // Script and graph: a program file read and validated, its syntax trees, and its program graph.
 
-pub mod adjacency;
 pub mod decoding;
 pub mod drawing;
 pub mod file;
 pub mod kinds;
+pub mod prepared;
 pub mod reader;
 pub mod validation;
 
@@ -102,6 +102,23 @@ pub enum CommandNode {
     Choice(u16, u16),
 }
 
+// What an arithmetic entry is in a memory that has the program's numbers behind it: the number 0 where it is none, a cell, an element of an array at an index entry, or an operator on two entries.
+pub enum CellNode {
+    Zero,
+    Cell(u16),
+    Element(u16, u16),
+    Operator(Operator, u16, u16),
+}
+
+// What an edge's action is: nothing, an assignment, a store, a condition that must hold, or the exit of the do whose operand is a command entry.
+pub enum ActionNode {
+    Nothing,
+    Assign(u16, u16),
+    Store(u16, u16, u16),
+    Holds(u16),
+    Exit(u16),
+}
+
 // The four numbers of an edge, as its bytes give them: source and target, the action's kind and its entry.
 pub struct EdgeBytes {
     pub source: u16,
@@ -133,12 +150,13 @@ pub enum Head {
     Found(FieldHead),
 }
 
-// What stands at the four fields of a program.
+// What stands at the four fields of a program and after them, where the sheet program's input has its start list.
 pub struct FieldHeads {
     pub names: Head,
     pub arithmetic: Head,
     pub boolean: Head,
     pub commands: Head,
+    pub initial: Head,
 }
 
 // The field reader: a file's bytes and a place in them.

@@ -3,6 +3,7 @@
 ghost use mathlib.Core.Path.{_≡_};
 ghost use Rattle.program.specs.File as spec;
 use crate::FieldHead;
+use crate::FieldHeads;
 use crate::FieldReader;
 use crate::Head;
 use crate::file;
@@ -35,13 +36,6 @@ pub(crate) fn after(head: Head) -> usize
         Head::Short(at) => at,
         Head::Found(field) => field.next,
     }
-}
-
-// What stands there.
-pub(crate) fn next_head(s: &[u8], head: Head) -> Head
-    ensures { λ r. ⌜ r ≡ spec.headAt (now (s .entry)) (spec.afterHead head) ⌝ }
-{
-    head_at(s, after(head))
 }
 
 // Where `k` fields from `at` on end, or the first place on the way where no head stands.
@@ -86,4 +80,37 @@ pub fn field_head(s: &[u8], k: u8) -> Head
     ensures { λ r. ⌜ r ≡ spec.fieldHead (now (s .entry)) k ⌝ }
 {
     head(advance(new(s), k))
+}
+
+// The reader where the field with this head ends, or at the place where no head stands.
+pub fn past<'a>(r: FieldReader<'a>, head: Head) -> FieldReader<'a>
+    ensures { λ q. ⌜ (q .bytes ≡ r .entry .bytes) × (q .at ≡ spec.afterHead head) ⌝ }
+{
+    FieldReader {
+        bytes: r.bytes,
+        at: after(head),
+    }
+}
+
+// What stands at the four fields of a program and after them: one reader goes through the file.
+pub(crate) fn heads(s: &[u8]) -> FieldHeads
+    ensures { λ r. ⌜ r ≡ spec.headsOf (now (s .entry)) ⌝ }
+{
+    let first = new(s);
+    let names = head(first);
+    let second = past(first, names);
+    let arithmetic = head(second);
+    let third = past(second, arithmetic);
+    let boolean = head(third);
+    let fourth = past(third, boolean);
+    let commands = head(fourth);
+    let fifth = past(fourth, commands);
+    let initial = head(fifth);
+    FieldHeads {
+        names,
+        arithmetic,
+        boolean,
+        commands,
+        initial,
+    }
 }

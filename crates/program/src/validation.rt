@@ -271,7 +271,7 @@ pub fn validate(s: &[u8]) -> Validity
     ensures { λ r. ⌜ r ≡ spec.validity (now (s .entry)) ⌝ }
     ensures numbers { λ r. ⌜ Asking.validityNumbers r ≡ Asking.validityNumbers (spec.validity (now (s .entry))) ⌝ }
 {
-    let h = file::heads(s);
+    let h = reader::heads(s);
     let heads = check_heads(s, h);
     if refused(heads) {
         return heads;
@@ -289,15 +289,14 @@ pub fn validate_input(s: &[u8]) -> Validity
     ensures { λ r. ⌜ r ≡ spec.inputValidity (now (s .entry)) ⌝ }
     ensures numbers { λ r. ⌜ Asking.validityNumbers r ≡ Asking.validityNumbers (spec.inputValidity (now (s .entry))) ⌝ }
 {
-    let h = file::heads(s);
+    let h = reader::heads(s);
     let heads = check_heads(s, h);
     if refused(heads) {
         return heads;
     }
     let l = file::layout_by(h);
     let spans = l.names;
-    let fourth = h.commands;
-    let fifth = reader::next_head(s, fourth);
+    let fifth = h.initial;
     let initial = check_head(s.len(), fifth, file::initial_field(spans.count));
     if refused(initial) {
         return initial;
@@ -313,14 +312,18 @@ pub fn validate_input(s: &[u8]) -> Validity
 pub fn program_part<'a>(s: &'a [u8]) -> &'a [u8]
     ensures { λ r. ⌜ now r ≡ spec.programPart (now (s .entry)) ⌝ }
 {
-    part(s, 0, reader::place_after(s, 0, 4))
+    let h = reader::heads(s);
+    let last = h.commands;
+    part(s, 0, reader::after(last))
 }
 
 // The start list in the sheet program's input: the content of its fifth field.
 pub fn initial_part<'a>(s: &'a [u8]) -> &'a [u8]
     ensures { λ r. ⌜ now r ≡ spec.initialPart (now (s .entry)) ⌝ }
 {
-    match reader::field_head(s, 4) {
+    let h = reader::heads(s);
+    let fifth = h.initial;
+    match fifth {
         Head::Short(_) => &s[..0],
         Head::Found(found) => part(s, found.content, file::long(found.length)),
     }

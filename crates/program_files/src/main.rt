@@ -57,7 +57,7 @@ fn print_edge(e: EdgeBytes) {
     printing::text(b"\n");
 }
 
-fn print_edges(edges: &[u8; 1785], count: u16) {
+fn print_edges(edges: &[u8; drawing::BYTES], count: u16) {
     let mut k: u16 = 0;
     while k < count {
         print_edge(drawing::edge_at(edges, k));
@@ -67,8 +67,8 @@ fn print_edges(edges: &[u8; 1785], count: u16) {
 
 // Mode 1: the graph, a line for each edge.
 fn answer_edges(s: &[u8]) {
-    let mut edges = [0u8; 1785];
-    let d = drawing::draw_edges(s, &mut edges);
+    let mut edges = [0u8; drawing::BYTES];
+    let d = drawing::draw(s, &mut edges);
     print_drawn(d);
     printing::text(b"\n");
     print_edges(&edges, d.edges);

@@ -1,52 +1,48 @@
--- The lowest defined edge out of a node is found by following the links.
-use mathlib.Core.Path.{_≡_, sym, ap, _∙_}
-use mathlib.Core.Bool.{true, false}
+-- The lowest defined edge out of a node is found and performed by following the links.
+use mathlib.Core.Path.{_≡_, sym, subst, _∙_}
+use mathlib.Core.Bool.{Bool, true, false}
 use mathlib.Core.List.{List}
-use Prim.Native.Nat.{ℕ, _-_, _<_, _≤_}
+use Prim.Native.Nat.{ℕ, _<_, _≤_}
+use native.Mathlib.Omega.{arith}
+use borrow.Author.Tests.{lt-ltb}
 use lib.IntN.{ℤ}
-use Rattle.program.specs.Decoding.{decodedEntry}
-use Rattle.program.specs.Drawing.{edgeRead}
-use Rattle.program.specs.File.{sizes}
-use Rattle.program.specs.Graph.{graph, actionOf}
-use Rattle.program.specs.Links.{Followed}
-use Rattle.program.specs.declared.EdgeBytes.{EdgeBytes}
-use Rattle.program.specs.declared.First.the-variants.{Nothing}
+use lib.ListN.{getD}
+use Rattle.program.specs.Graph.{Graph}
+use Rattle.program.specs.Prepared.{edgeCountPlace, entriesIn, actionIn, decodedMeaning, Prepared, Following}
 use Rattle.semantics.specs.Action.{isDefined}
 use Rattle.semantics.specs.Budget.{lowestDefined}
-use Rattle.semantics.specs.Coding.{Attempted}
-use Rattle.semantics.specs.Running.{Ready, Chosen}
+use Rattle.semantics.specs.Cells.{NumbersIn}
+use Rattle.semantics.specs.Coding.{Follows, Performs}
+use Rattle.semantics.specs.Running.{Lowest}
 use Rattle.semantics.specs.Step.{edgeEffect}
-use Rattle.semantics.specs.declared.Effect.{Effect}
-use Rattle.semantics.proofs.Drawn.{first-along, none-along, effect-read}
+use Rattle.semantics.proofs.Edges.{first-leaving, none-leaving, edge-performs}
+use Rattle.semantics.proofs.Effects.{undefined-after}
 
--- an edge is undefined in a memory, whatever program these bytes are decoded from
-abbrev pub Undefined : (edges entries szs cells : List ℕ) (count : ℕ) (m : List ℤ) (e : ℕ) → Type 0
-Undefined edges entries szs cells count m e = (s : List ℕ) → Ready s edges entries szs cells count → isDefined (edgeEffect (sizes s) (graph s) m e) ≡ false
+-- an edge out of a node is looked at: none before it is defined, and the memory is as it was
+pub record Looking (ns : List ℕ) (g : Graph) (graph : List ℕ) (node : ℕ) (start m : List ℤ) (e : ℕ) : Type 0 where
+  pub following : Following graph node (λ k. isDefined (edgeEffect ns g start k) ≡ false) e
+  pub memory : m ≡ start
 
-module _ (edges entries szs cells : List ℕ) (count node : ℕ) (m : List ℤ) (e : ℕ) (at : Followed edges count node (Undefined edges entries szs cells count m) e) where
-  -- of a program that these bytes are decoded from, no edge out of the node before is defined; and none is where there is no further one
-  undefined-before : (s : List ℕ) → Ready s edges entries szs cells count → Followed edges count node (λ k. isDefined (edgeEffect (sizes s) (graph s) m k) ≡ false) e
-  undefined-before s y = record { here = at .here; before = λ k h l t. at .before k h l t s y }
-
-  pub none-chosen : (s : List ℕ) → Ready s edges entries szs cells count → count ≤ e → lowestDefined (sizes s) (graph s) node m ≡ Nothing
+module _ {ns : List ℕ} {g : Graph} {code graph : List ℕ} (p : Prepared ns g code graph) {node : ℕ} {start m : List ℤ} {e : ℕ} (at : Looking ns g graph node start m e) where
+  -- there is none
+  pub none-taken : getD graph edgeCountPlace 0 ≤ e → Lowest ns g node start 255 m
   unfolding lowestDefined
-  none-chosen s y h = none-along s edges _ count (y .drawn .drawing) node _ e (undefined-before s y) h
+  none-taken h = record { lowest = none-leaving p node _ e (at .following) h; memory = at .memory }
 
-  -- as the code reads an edge and finds its effect
-  module _ (h : e < count) (r : EdgeBytes) (x : Effect) (read : r ≡ edgeRead edges e) (tried : Attempted szs cells m (actionOf (decodedEntry entries) (r .kind) (r .entry)) x) where
-    effect-there : (s : List ℕ) → Ready s edges entries szs cells count → tried .effect ≡ edgeEffect (sizes s) (graph s) m e
-    effect-there s y = effect-read s edges _ count (y .drawn .drawing) e h m entries szs cells r (tried .effect) (y .entries-decoded) (y .sizes-decoded) (y .cells-decoded) read (tried .found)
+  module _ (numbers : NumbersIn code start) (h : e < getD graph edgeCountPlace 0) {r : Bool} {m′ : List ℤ} (tried : Performs code m (decodedMeaning (entriesIn code graph) (actionIn graph e)) r m′) where
+    followed : Follows start (edgeEffect ns g start e) r m′
+    followed = edge-performs p e (omega (arith, p .edges)) numbers (subst (λ (l : List ℤ). Performs code l (decodedMeaning (entriesIn code graph) (actionIn graph e)) r m′) (at .memory) tried)
 
-    defined-there : (s : List ℕ) → Ready s edges entries szs cells count → isDefined (edgeEffect (sizes s) (graph s) m e) ≡ isDefined x
-    defined-there s y = ap isDefined (sym (effect-there s y)) ∙ sym (tried .alike .defined)
-
-    pub undefined-here : isDefined x ≡ false → Undefined edges entries szs cells count m e
-    undefined-here none s y = defined-there s y ∙ none
-
-    pub chosen-here : isDefined x ≡ true → (s : List ℕ) → Ready s edges entries szs cells count → Chosen (sizes s) (graph s) node m (record { edge = e; effect = x })
+    -- it is this one
+    pub taken-here : r ≡ true → Lowest ns g node start e m′
     unfolding lowestDefined
-    chosen-here defined s y =
-        record {
-          lowest = rw defined (first-along s edges _ count (y .drawn .drawing) node _ e (undefined-before s y) h (defined-there s y ∙ defined));
-          there = λ t. tried .alike .same defined ∙ effect-there s y;
-        }
+    taken-here t =
+        let few = lt-ltb e 255 (omega (arith, p .edges, p .few-edges)) in
+        record { lowest = rw few (first-leaving p node _ e (at .following) h (sym (followed .defined) ∙ t)); memory = rw few (followed .memory) }
+
+    -- or it is undefined, and the next one is looked at
+    pub undefined-here : r ≡ false → isDefined (edgeEffect ns g start e) ≡ false
+    undefined-here t = sym (followed .defined) ∙ t
+
+    pub unchanged-here : r ≡ false → m′ ≡ start
+    unchanged-here t = followed .memory ∙ sym (undefined-after start (edgeEffect ns g start e) (undefined-here t))

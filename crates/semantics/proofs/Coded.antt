@@ -8,7 +8,7 @@ use native.Mathlib.Omega.{arith}
 use borrow.Author.Tests.{lt-ltb, le-ltb, ltb-true, leb-true, leb-false, le-leb, lt-leb, eq-eqb, ne-eqb}
 use lib.Dec.{T, leb, leb→le}
 use lib.IntN.{ℤ, pos, negsuc, natAbs}
-use lib.ListN.{length, getD}
+use lib.ListN.{getD}
 use lib.Signed.{mag, nonNeg, leZ, ltZ}
 use mir.Facts.{or-yes, and-yes, sfits-widen}
 use mir.Syntax.{w32, w64}
@@ -19,8 +19,8 @@ use Rattle.signs.specs.Number.{inRange, equal, apply, compares}
 use Rattle.signs.specs.declared.Comparison.{Comparison}
 use Rattle.signs.specs.declared.Operator.{Operator}
 use Rattle.signs.specs.declared.Reason.the-variants.{IndexNegative, IndexTooLarge}
-use Rattle.program.specs.Decoding.{NamesIn}
-use Rattle.semantics.specs.Coding.{earlier, reasonNumbered, evaluated, decided, isCode}
+use Rattle.program.specs.File.{firstCell}
+use Rattle.semantics.specs.Coding.{earlier, reasonNumbered, evaluated, decided, isCode, placeBy, Indexed}
 use Rattle.semantics.specs.Expression.{fault, at, nowhere, placeOf, operated, combine, compareValues, conjoin, andThen, negate}
 use Rattle.semantics.specs.declared.Evaluation.the-variants.{Number, Undefined}
 use Rattle.semantics.specs.declared.Fault.{Fault}
@@ -235,23 +235,74 @@ fault-above (pos n) e = leb-true 4294967296 n e
 fault-above (negsuc n) e = absurd (true≢false (sym e))
 
 -- the place that an index gives
-module _ (ns : List ℕ) (x : ℕ) where
-  pub index-fault : (v : ℤ) → isFault v ≡ true → placeOf ns x (evaluated v) ≡ nowhere (faultIn v)
+module _ (ns : List ℕ) (x : ℕ) (r : ℤ) where
+  pub placed-fault : isFault r ≡ true → placeBy ns x r ≡ nowhere (faultIn r)
+  unfolding placeBy
+  placed-fault h = rw h
+
+  pub placed-at : isFault r ≡ false → placeBy ns x r ≡ at (firstCell ns x + natAbs r)
+  unfolding placeBy
+  placed-at h = rw h
+
+-- a number that stands for a fault is one
+undefined-fault : (r : ℤ) (f : Fault) → evaluated r ≡ Undefined f → (isFault r ≡ true) × (faultIn r ≡ f)
+undefined-fault r f e = by (isFault r) refl
+  where
+    by : (t : Bool) → isFault r ≡ t → (t ≡ true) × (faultIn r ≡ f)
+    by true h = (refl, let same : Undefined (faultIn r) ≡ Undefined f = sym (fault-evaluated r h) ∙ e in cc)
+    by false h = absurd (let same : Number r ≡ Undefined f = sym (number-evaluated r h) ∙ e in let z : _≡_ {A = ℕ} 0 1 = cc in omega arith)
+
+module _ (size : ℕ) (v : ℤ) where
+  -- a fault is handed on
+  pub index-fault : T (isCode v) → isFault v ≡ true → Indexed size v v
   unfolding placeOf
-  index-fault v h = rw (fault-evaluated v h)
+  index-fault c h =
+      record { code = c; below = λ k. absurd (true≢false (sym h ∙ k)); place = λ ns x s. rw (fault-evaluated v h, placed-fault ns x v h) }
 
-  pub index-negative : (v : ℤ) → isFault v ≡ false → ltZ v (pos 0) ≡ true → placeOf ns x (evaluated v) ≡ nowhere (fault IndexNegative)
+  -- one that is found: the number that stands for it
+  refused-index : (r : ℤ) (f : Fault) → T (isCode r) → evaluated r ≡ Undefined f
+      → ((ns : List ℕ) (x : ℕ) → getD ns x 0 ≡ size → placeOf ns x (evaluated v) ≡ nowhere f) → Indexed size v r
+  refused-index r f c e p =
+      let fault = undefined-fault r f e in
+      record {
+        code = c;
+        below = λ k. absurd (true≢false (sym (fault .0) ∙ k));
+        place = λ ns x s. p ns x s ∙ ap nowhere (sym (fault .1)) ∙ sym (placed-fault ns x r (fault .0));
+      }
+
+  negative-place : (z : ℤ) → isFault z ≡ false → ltZ z (pos 0) ≡ true → (ns : List ℕ) (x : ℕ) → placeOf ns x (evaluated z) ≡ nowhere (fault IndexNegative)
   unfolding placeOf
-  index-negative (pos n) h e = absurd (omega (arith, ltb-true n 0 e))
-  index-negative (negsuc n) h e = rw (number-evaluated (negsuc n) h)
+  negative-place (pos n) h e ns x = absurd (omega (arith, ltb-true n 0 e))
+  negative-place (negsuc n) h e ns x = rw (number-evaluated (negsuc n) h)
 
-  module _ (szs cells : List ℕ) (names : NamesIn ns szs cells) (there : x < length ns) where
-    pub index-large : (v : ℤ) → isFault v ≡ false → ltZ v (pos 0) ≡ false → getD szs x 0 ≤ natAbs v → placeOf ns x (evaluated v) ≡ nowhere (fault IndexTooLarge)
-    unfolding placeOf
-    index-large (pos n) h e k = rw (number-evaluated (pos n) h, le-ltb n (getD ns x 0) (rw (names .size x there) at k))
-    index-large (negsuc n) h e k = absurd (true≢false e)
+  pub index-negative : isFault v ≡ false → ltZ v (pos 0) ≡ true → (r : ℤ) → T (isCode r) → evaluated r ≡ Undefined (fault IndexNegative) → Indexed size v r
+  index-negative h e r c k = refused-index r (fault IndexNegative) c k (λ ns x s. negative-place v h e ns x)
 
-    pub index-inside : (v : ℤ) → isFault v ≡ false → ltZ v (pos 0) ≡ false → natAbs v < getD szs x 0 → placeOf ns x (evaluated v) ≡ at (getD cells x 0 + natAbs v)
-    unfolding placeOf
-    index-inside (pos n) h e k = rw (number-evaluated (pos n) h, lt-ltb n (getD ns x 0) (rw (names .size x there) at k), names .cell x there)
-    index-inside (negsuc n) h e k = absurd (true≢false e)
+  large-place : (z : ℤ) → isFault z ≡ false → ltZ z (pos 0) ≡ false → size ≤ natAbs z
+      → (ns : List ℕ) (x : ℕ) → getD ns x 0 ≡ size → placeOf ns x (evaluated z) ≡ nowhere (fault IndexTooLarge)
+  unfolding placeOf
+  large-place (pos n) h e k ns x s = rw (number-evaluated (pos n) h, le-ltb n (getD ns x 0) (rw s k))
+  large-place (negsuc n) h e k ns x s = absurd (true≢false e)
+
+  pub index-large : isFault v ≡ false → ltZ v (pos 0) ≡ false → size ≤ natAbs v → (r : ℤ) → T (isCode r) → evaluated r ≡ Undefined (fault IndexTooLarge) → Indexed size v r
+  index-large h e k r c d = refused-index r (fault IndexTooLarge) c d (large-place v h e k)
+
+  -- an index inside
+  inside-place : (z : ℤ) → isFault z ≡ false → ltZ z (pos 0) ≡ false → natAbs z < size
+      → T (nonNeg z) × ((ns : List ℕ) (x : ℕ) → getD ns x 0 ≡ size → placeOf ns x (evaluated z) ≡ at (firstCell ns x + natAbs z))
+  unfolding placeOf
+  inside-place (pos n) h e k = (tt, λ ns x s. rw (number-evaluated (pos n) h, lt-ltb n (getD ns x 0) (rw s k)))
+  inside-place (negsuc n) h e k = absurd (true≢false e)
+
+  pub index-inside : T (isCode v) → isFault v ≡ false → ltZ v (pos 0) ≡ false → natAbs v < size → Indexed size v v
+  index-inside c h e k =
+      let there = inside-place v h e k in
+      record { code = c; below = λ f. (there .0, k); place = λ ns x s. there .1 ns x s ∙ sym (placed-at ns x v h) }
+
+-- an index that is no fault is cast to a natural number
+pub whole-index : (z : ℤ) → SFits w64 z → T (nonNeg z) → T (nonNeg (toZ w64 (ofZ w64 z))) × Fits w64 (natAbs (toZ w64 (ofZ w64 z)))
+whole-index z f h = rw (toZ-ofZ w64 z f) (by z f h)
+  where
+    by : (z : ℤ) → SFits w64 z → T (nonNeg z) → T (nonNeg z) × Fits w64 (natAbs z)
+    by (pos n) f h = (tt, record { fits = omega (arith, f .sfits) })
+    by (negsuc n) f h = absurd h

@@ -7,39 +7,33 @@ use Prim.Native.Nat.{ℕ, _+_, _≤_, _<_, min}
 use lib.Dec.{T, eqb}
 use lib.IntN.{ℤ}
 use lib.ListN.{length, getD, replicate}
-use Rattle.program.specs.Decoding.{decodedEntries, decodedEntry}
-use Rattle.program.specs.Drawing.{drawnBy, drawnBufferBy, edgeRead}
-use Rattle.program.specs.File.{sizes, cellsOf, cellCount, firstCell}
+use Rattle.program.specs.File.{sizes, cellsOf, cellCount, firstCell, isVariable, isArray}
 use Rattle.program.specs.FirstSuch.{firstSuch}
-use Rattle.program.specs.Graph.{Graph, Action, graph, actionOf}
-use Rattle.program.specs.Links.{Linkable, Followed}
+use Rattle.program.specs.Graph.{Graph, edgeAt, graph}
+use Rattle.program.specs.Prepared.{edgeCountPlace, sourceIn, Prepared, Following}
 use Rattle.program.specs.Questions.{validity}
-use Rattle.program.specs.Sorted.{isVariable, isArray, arithNamed, booleanNamed, actionNamed}
+use Rattle.program.specs.Sorted.{arithNamed, booleanNamed, meaningNamed}
 use Rattle.program.specs.Syntax.{Arith, Boolean}
-use Rattle.program.specs.declared.Drawn.{Drawn as Reply}
-use Rattle.program.specs.declared.EdgeBytes.{EdgeBytes}
 use Rattle.program.specs.declared.First.the-variants.{At, Nothing}
 use Rattle.program.specs.declared.Refusal.{Refusal}
 use Rattle.program.specs.declared.Validity.the-variants.{Fit, Refused}
-use Rattle.semantics.specs.Action.{Meaning, meaning, effect, after, isDefined}
+use Rattle.program.specs.Meaning.{Meaning}
+use Rattle.semantics.specs.Action.{effect, after, isDefined}
 use Rattle.semantics.specs.Budget.{lowestDefined, Result, ends, runFrom, budgeted, programBudgeted}
 use Rattle.semantics.specs.Expression.{cellValue, at, placeOf, value, truthIn}
 use Rattle.semantics.specs.Replay.{replay, outcomes}
-use Rattle.semantics.specs.Step.{Configuration, begun, edgeAt, leaves, edgeEffect, memoryValidity, outcome, along, step, programOutcome, programStep}
-use Rattle.semantics.specs.Stepping.{DrawnInto}
+use Rattle.semantics.specs.Step.{Configuration, begun, leaves, edgeEffect, memoryValidity, outcome, along, step, programOutcome, programStep}
 use Rattle.semantics.specs.declared.Effect.{Effect}
 use Rattle.semantics.specs.declared.Effect.the-variants.{Stored}
 use Rattle.semantics.specs.declared.Ending.the-variants.{Arrived, Spent, Stuck, Refused as Ends}
 use Rattle.semantics.specs.declared.Evaluation.{Evaluation}
 use Rattle.semantics.specs.declared.Outcome.the-variants.{Taken, Refused as Refuses}
-use Rattle.semantics.proofs.Drawn
+use Rattle.semantics.proofs.Edges
 use Rattle.semantics.proofs.Named
-use Rattle.semantics.proofs.Named.{meaningNamed}
 use Rattle.semantics.proofs.Runs
 use Rattle.semantics.proofs.Runs.{Replayed, Stops}
 use Rattle.semantics.proofs.Steps
 use Rattle.semantics.proofs.Steps.{Takable}
-use Rattle.semantics.proofs.Turns
 
 -- ---- A step
 
@@ -150,10 +144,6 @@ module _ (ns : List ℕ) (g : Graph) where
 
 -- ---- Names: what is named is inside the memory
 
--- the names of an action are those of its meaning
-pub action-named : (ns : List ℕ) (x : Action) → T (actionNamed ns x) → T (meaningNamed ns (meaning x))
-action-named = Named.action-named
-
 module _ (ns : List ℕ) where
   -- a variable that is there has one cell, and an array as many as its size says
   pub variable-there : (x : ℕ) → T (isVariable ns x) → (x < length ns) × (cellsOf (getD ns x 0) ≡ 1)
@@ -219,39 +209,20 @@ module _ (s : List ℕ) where
   pub program-budgeted-length : (budget : ℕ) (m : List ℤ) → length (programBudgeted s budget m .final .memory) ≡ length m
   program-budgeted-length = Runs.program-budgeted-length s
 
--- ---- A drawn graph
+-- ---- A prepared graph
 
--- what drawing replied, and the graph drawn into an array where it is well formed
-pub drawn-validity : (s : List ℕ) (r : Reply) → r ≡ drawnBy s (validity s) → r .validity ≡ validity s
-drawn-validity = Drawn.drawn-validity
+module _ {ns : List ℕ} {g : Graph} {code graph : List ℕ} (p : Prepared ns g code graph) where
+  -- past the last edge there is none; an edge leaves the node that it comes from
+  pub no-edge : (e node : ℕ) → getD graph edgeCountPlace 0 ≤ e → false ≡ leaves g e node
+  no-edge = Edges.no-edge p
 
-pub drawn-into : (s before bytes : List ℕ) (r : Reply) → r ≡ drawnBy s (validity s) → bytes ≡ drawnBufferBy s before (validity s) → r .validity ≡ Fit
-    → DrawnInto s bytes (r .nodes) (r .edges)
-drawn-into = Drawn.drawn-into
-
-pub drawn-length : (s before bytes : List ℕ) → validity s ≡ Fit → bytes ≡ drawnBufferBy s before (validity s) → length before ≡ 1785 → length bytes ≡ 1785
-drawn-length = Drawn.drawn-length
-
-module _ (s bytes : List ℕ) (nodes count : ℕ) (d : DrawnInto s bytes nodes count) where
-  -- an edge of it leaves the node, has the target and the action that its bytes say
-  pub drawn-leaves : (e node : ℕ) (r : EdgeBytes) → e < count → r ≡ edgeRead bytes e → eqb (r .source) node ≡ leaves (graph s) e node
-  drawn-leaves = Drawn.drawn-leaves s bytes nodes count d
-
-  pub drawn-target : (e : ℕ) (r : EdgeBytes) → e < count → r ≡ edgeRead bytes e → r .target ≡ edgeAt (graph s) e .target
-  drawn-target = Drawn.drawn-target s bytes nodes count d
-
-  pub drawn-action : (e : ℕ) (r : EdgeBytes) → e < count → r ≡ edgeRead bytes e
-      → actionOf (decodedEntry (decodedEntries s)) (r .kind) (r .entry) ≡ edgeAt (graph s) e .action
-  drawn-action = Drawn.drawn-action s bytes nodes count d
+  pub edge-leaves : (e node : ℕ) → e < getD graph edgeCountPlace 0 → eqb (sourceIn graph e) node ≡ leaves g e node
+  edge-leaves = Edges.edge-leaves p
 
   -- the first edge out of a node that passes a test, as following the links finds it; and that there is none
-  module _ (node : ℕ) (q : ℕ → Bool) (e : ℕ) (at : Followed bytes count node (λ k. q k ≡ false) e) where
-    pub first-along : e < count → q e ≡ true → firstSuch (length (graph s .edges)) (λ k. leaves (graph s) k node && q k) ≡ At e
-    first-along = Drawn.first-along s bytes nodes count d node q e at
+  module _ (node : ℕ) (q : ℕ → Bool) (e : ℕ) (at : Following graph node (λ k. q k ≡ false) e) where
+    pub first-leaving : e < getD graph edgeCountPlace 0 → q e ≡ true → firstSuch (length (g .edges)) (λ k. leaves g k node && q k) ≡ At e
+    first-leaving = Edges.first-leaving p node q e at
 
-    pub none-along : count ≤ e → firstSuch (length (graph s .edges)) (λ k. leaves (graph s) k node && q k) ≡ Nothing
-    none-along = Drawn.none-along s bytes nodes count d node q e at
-
-  -- its edges can be linked
-  pub linkable : Linkable bytes count
-  linkable = Turns.linkable s bytes nodes count d
+    pub none-leaving : getD graph edgeCountPlace 0 ≤ e → firstSuch (length (g .edges)) (λ k. leaves g k node && q k) ≡ Nothing
+    none-leaving = Edges.none-leaving p node q e at

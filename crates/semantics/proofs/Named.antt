@@ -10,42 +10,18 @@ use lib.ListN.{length, getD}
 use borrow.Author.Tests.{ltb-true, ne-eqb}
 use mir.Facts.{and-yes}
 use Rattle.signs.specs.declared.Reason.the-variants.{IndexTooLarge}
-use Rattle.program.specs.File.{cellsOf, cellCount, firstCell}
-use Rattle.program.specs.Graph.{Action, perform, test, leave}
-use Rattle.program.specs.Sorted.{isVariable, isArray, arithNamed, booleanNamed, commandNamed, actionNamed}
-use Rattle.program.specs.Syntax.{Arith, number, variable, element, operator, Boolean, truth, comparison, conjunction, shortCircuit, negation, Command, skip, assign, store, sequence, conditional, iteration, guarded, choice}
+use Rattle.program.specs.File.{cellsOf, cellCount, firstCell, isVariable, isArray}
+use Rattle.program.specs.Sorted.{arithNamed, booleanNamed, meaningNamed}
+use Rattle.program.specs.Syntax.{Arith, number, variable, element, operator, Boolean, truth, comparison, conjunction, shortCircuit, negation}
 use Rattle.program.proofs.Laws.{cells-inside}
-use Rattle.semantics.specs.Action.{Meaning, nothing, assigns, stores, condition, performing, meaning, pass, storeTo, effect}
+use Rattle.program.specs.Meaning.{Meaning, nothing, assigns, stores, condition}
+use Rattle.semantics.specs.Action.{pass, storeTo, effect}
 use Rattle.semantics.specs.Expression.{fault, cellValue, Place, at, nowhere, placeOf, valueAt, value, truthIn}
 use Rattle.semantics.specs.declared.Effect.the-variants.{Stored}
 use Rattle.semantics.specs.declared.Evaluation.{Evaluation}
 use Rattle.semantics.specs.declared.Evaluation.the-variants.{Number, Undefined}
 use Rattle.semantics.specs.declared.Truth.{Truth}
 use Rattle.semantics.specs.declared.Truth.the-variants.{Known, Undefined as Unknown}
-
--- every name of a meaning is there and of the right sort
-unfoldable pub meaningNamed : List ℕ → Meaning → Bool
-meaningNamed ns nothing = true
-meaningNamed ns (assigns x a) = isVariable ns x && arithNamed ns a
-meaningNamed ns (stores x i a) = isArray ns x && (arithNamed ns i && arithNamed ns a)
-meaningNamed ns (condition b) = booleanNamed ns b
-
-performing-named : (ns : List ℕ) (c : Command) → T (commandNamed ns c) → T (meaningNamed ns (performing c))
-unfolding commandNamed performing meaningNamed
-performing-named ns (skip k) t = tt
-performing-named ns (assign k x a) t = t
-performing-named ns (store k x i a) t = t
-performing-named ns (sequence k c d) t = tt
-performing-named ns (conditional k c) t = tt
-performing-named ns (iteration k c) t = tt
-performing-named ns (guarded k b c) t = tt
-performing-named ns (choice k c d) t = tt
-
-pub action-named : (ns : List ℕ) (x : Action) → T (actionNamed ns x) → T (meaningNamed ns (meaning x))
-unfolding actionNamed meaning meaningNamed
-action-named ns (perform c) t = performing-named ns c t
-action-named ns (test b) t = t
-action-named ns (leave c) t = t
 
 module _ (ns : List ℕ) where
   -- a variable that is there has one cell, and an array as many as its size says

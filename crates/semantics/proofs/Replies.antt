@@ -1,21 +1,30 @@
 -- The reply of a step by the answer to its questions and the effect of its edge.
 use mathlib.Core.Path.{_≡_, _∙_, ap}
 use mathlib.Core.List.{List}
-use Prim.Native.Nat.{ℕ}
+use Prim.Native.Nat.{ℕ, _<_}
 use lib.IntN.{ℤ}
+use lib.ListN.{length}
 use Rattle.program.specs.File.{sizes}
-use Rattle.program.specs.Graph.{Graph, graph}
+use Rattle.program.specs.Graph.{Graph, graph, edgeAt}
 use Rattle.program.specs.Questions.{validity}
 use Rattle.program.specs.declared.Refusal.{Refusal}
 use Rattle.program.specs.declared.Validity.the-variants.{Fit, Refused}
 use Rattle.semantics.specs.Action.{after}
-use Rattle.semantics.specs.Step.{edgeAt, edgeEffect, stepValidity, outcomeBy, unlessRefused, outcome, along, next, step, programOutcome, programStep, stepReply}
+use Rattle.semantics.specs.Step.{edgeEffect, stepValidity, outcomeBy, unlessRefused, outcome, along, next, step, programOutcome, programStep, stepReply}
 use Rattle.semantics.specs.Stepping.{runAfter, Settled, StepsTo}
 use Rattle.semantics.specs.declared.Effect.{Effect}
 use Rattle.semantics.specs.declared.Effect.the-variants.{Undefined as Fails, Unchanged, Stored}
 use Rattle.semantics.specs.declared.Outcome.the-variants.{Refused as Refuses}
 use Rattle.semantics.specs.declared.Run.{Run}
 use Rattle.semantics.specs.declared.Stepped.{Stepped}
+use Rattle.program.proofs.Laws.{ask-fit, turn-fit}
+use Rattle.program.proofs.Tests.{passed}
+use Rattle.semantics.proofs.Steps.{leaves-below}
+
+-- where no question of a step is refused, the edge exists
+pub edge-exists : (ns : List ℕ) (g : Graph) (node : ℕ) (m : List ℤ) (e : ℕ) → stepValidity ns g node m e ≡ Fit → e < length (g .edges)
+unfolding stepValidity
+edge-exists ns g node m e p = leaves-below g e node (passed (ask-fit _ 15 0 (turn-fit _ 2 p)))
 
 module _ (ns : List ℕ) (g : Graph) (run : Run) (e : ℕ) (m : List ℤ) where
   -- a refused question: run and memory are as they were

@@ -11,7 +11,7 @@ use lib.ListN.{length, replicate}
 use borrow.Author.Tests.{eqb-true, eqb-false}
 use mir.Facts.{and-yes}
 use Rattle.program.specs.File.{sizes, cellCount}
-use Rattle.program.specs.Graph.{Graph, graph, edges, edgeCount, nodeCount}
+use Rattle.program.specs.Graph.{Graph, graph, edges, edgeCount, nodeCount, edgeAt}
 use Rattle.program.specs.Questions.{validity}
 use Rattle.program.specs.declared.First.{First}
 use Rattle.program.specs.declared.First.the-variants.{At, Nothing}
@@ -23,7 +23,7 @@ use Rattle.program.proofs.Tests.{passed}
 use Rattle.semantics.specs.Action.{isDefined}
 use Rattle.semantics.specs.Budget.{lowestDefined, Result, ends, goesOn, runFrom, endsUnlessRefused, budgeted, programBudgeted}
 use Rattle.semantics.specs.Replay.{replay, outcomes}
-use Rattle.semantics.specs.Step.{Configuration, fresh, begun, edgeAt, leaves, edgeEffect, memoryValidity, outcome, along, step}
+use Rattle.semantics.specs.Step.{Configuration, fresh, begun, leaves, edgeEffect, memoryValidity, outcome, along, step}
 use Rattle.semantics.specs.declared.Ending.{Ending}
 use Rattle.semantics.specs.declared.Ending.the-variants.{Arrived, Spent, Stuck, Refused as Refuses}
 use Rattle.semantics.specs.declared.Outcome.the-variants.{Taken}

@@ -11,7 +11,7 @@ use borrow.Author.Tests.{eqb-true, eq-eqb, ltb-true, lt-ltb}
 use mir.Facts.{and-yes}
 use Rattle.program.specs.Asking.{ask, thenAsk, inTurn}
 use Rattle.program.specs.File.{sizes, cellCount}
-use Rattle.program.specs.Graph.{Graph, graph}
+use Rattle.program.specs.Graph.{Graph, graph, edgeAt}
 use Rattle.program.specs.Questions.{validity}
 use Rattle.program.specs.declared.Refusal.{Refusal}
 use Rattle.program.specs.declared.Validity.{Validity}
@@ -20,7 +20,7 @@ use Rattle.program.proofs.Laws.{ask-fit, turn-fit}
 use Rattle.program.proofs.Tests.{passed, is-true}
 use Rattle.semantics.specs.Action.{after, isDefined}
 use Rattle.semantics.specs.Replay.{replay}
-use Rattle.semantics.specs.Step.{Configuration, edgeAt, leaves, edgeEffect, memoryValidity, stepValidity, outcomeBy, unlessRefused, outcome, along, next, step, programOutcome, programStep}
+use Rattle.semantics.specs.Step.{Configuration, leaves, edgeEffect, memoryValidity, stepValidity, outcomeBy, unlessRefused, outcome, along, next, step, programOutcome, programStep}
 use Rattle.semantics.specs.declared.Effect.{Effect}
 use Rattle.semantics.specs.declared.Effect.the-variants.{Undefined as Fails, Unchanged, Stored}
 use Rattle.semantics.specs.declared.Outcome.{Outcome}

@@ -1,32 +1,26 @@
 -- The turns of a budgeted run: as a loop takes them, one edge each.
-use mathlib.Core.Path.{_≡_, refl, sym, ap, _∙_}
+use mathlib.Core.Path.{_≡_, refl, sym, ap, subst, _∙_}
 use mathlib.Core.Logic.{_≢_, _⊎_, inl, inr}
 use mathlib.Core.Bool.{Bool, true, false, cond}
 use mathlib.Core.List.{List}
-use Prim.Native.Nat.{ℕ, zero, suc, _+_, _-_, _<_, min}
+use Prim.Native.Nat.{ℕ, zero, suc, _+_, _-_, _<_, _≤_, min}
 use native.Mathlib.Omega.{arith}
-use borrow.Author.Tests.{eq-eqb, ne-eqb}
+use borrow.Author.Tests.{eq-eqb, ne-eqb, lt-ltb, le-ltb}
 use lib.Dec.{eqb}
 use lib.IntN.{ℤ}
 use lib.ListN.{length}
-use Rattle.program.specs.Drawing.{edgeRead, edgeNumbers}
-use Rattle.program.specs.File.{sizes}
-use Rattle.program.specs.Graph.{Graph, graph, edges, edgeCount, nodeCount}
-use Rattle.program.specs.Links.{sourceIn, Linkable}
-use Rattle.program.specs.declared.EdgeBytes.{EdgeBytes}
+use Rattle.program.specs.Graph.{Graph, edgeAt}
+use Rattle.program.specs.Prepared.{targetIn, Prepared}
 use Rattle.program.specs.declared.First.the-variants.{At, Nothing}
-use Rattle.program.proofs.Laws.{few-nodes, few-edges, edge-inside}
-use Rattle.program.proofs.Tests.{passed}
-use Rattle.semantics.specs.Action.{after, isDefined}
+use Rattle.semantics.specs.Action.{after}
 use Rattle.semantics.specs.Budget.{lowestDefined, Result, ends, goesOn, runFrom}
-use Rattle.semantics.specs.Running.{Ready, Chosen, endingAt, Reached, EndsAs}
-use Rattle.semantics.specs.Step.{Configuration, fresh, begun, edgeAt, edgeEffect, along}
-use Rattle.semantics.specs.Stepping.{DrawnInto}
+use Rattle.semantics.specs.Cells.{NumbersIn}
+use Rattle.semantics.specs.Running.{Lowest, endingAt, Reached, EndsAs}
+use Rattle.semantics.specs.Step.{Configuration, fresh, begun, edgeEffect, along}
 use Rattle.semantics.specs.declared.Ended.{Ended}
 use Rattle.semantics.specs.declared.Ending.the-variants.{Arrived, Spent, Stuck}
 use Rattle.semantics.specs.declared.Run.{Run}
-use Rattle.semantics.specs.declared.running.Choice.{Choice}
-use Rattle.semantics.proofs.Drawn.{drawn-edge, drawn-target}
+use Rattle.semantics.proofs.Edges.{numbers-kept}
 use Rattle.semantics.proofs.Runs.{lowest-found}
 use Rattle.semantics.proofs.Steps.{leaves-below}
 
@@ -45,7 +39,7 @@ module _ (ns : List ℕ) (g : Graph) (c : Configuration) where
   unfolding goesOn
   run-along left e h d p = run-goes left h d ∙ rw p
 
-  pub run-stuck : (left : ℕ) → 0 < left → c .run .node ≢ 1 → lowestDefined ns g (c .run .node) (c .memory) ≡ Nothing → runFrom left ns g c ≡ ends Stuck c
+  run-stuck : (left : ℕ) → 0 < left → c .run .node ≢ 1 → lowestDefined ns g (c .run .node) (c .memory) ≡ Nothing → runFrom left ns g c ≡ ends Stuck c
   unfolding goesOn
   run-stuck left h d p = run-goes left h d ∙ rw p
 
@@ -61,65 +55,60 @@ module _ (ns : List ℕ) (g : Graph) (c : Configuration) where
   run-stops (suc left) (inr p) = absurd (omega arith)
 
 -- a run ends where it is reached with a result of its own
-pub ends-as : (ns : List ℕ) (g : Graph) (budget left : ℕ) (start : List ℤ) (run : Run) (m : List ℤ) (x : Ended) → Reached ns g budget left start run m
+ends-as : (ns : List ℕ) (g : Graph) (code : List ℕ) (budget left : ℕ) (start : List ℤ) (run : Run) (m : List ℤ) (x : Ended) → Reached ns g code budget left start run m
     → runFrom left ns g (record { run = run; memory = m }) ≡ ends (x .ending) (record { run = x .run; memory = m }) → EndsAs (runFrom budget ns g (begun start)) m x
-ends-as ns g budget left start run m x r p =
+ends-as ns g code budget left start run m x r p =
     let whole = r .same ∙ p in
     record {
       reply = ap (λ (y : Result). record { run = y .final .run; ending = y .ending }) (sym whole);
       memory = ap (λ (y : Result). y .final .memory) (sym whole);
     }
 
-pub stops-as : (ns : List ℕ) (g : Graph) (budget left : ℕ) (start : List ℤ) (run : Run) (m : List ℤ) (x : Ended) → Reached ns g budget left start run m
+pub stops-as : (ns : List ℕ) (g : Graph) (code : List ℕ) (budget left : ℕ) (start : List ℤ) (run : Run) (m : List ℤ) (x : Ended) → Reached ns g code budget left start run m
     → (run .node ≡ 1) ⊎ (left ≡ 0) → x ≡ record { run = run; ending = endingAt (run .node) } → EndsAs (runFrom budget ns g (begun start)) m x
-stops-as ns g budget left start run m x r p q = rw q (ends-as ns g budget left start run m _ r (run-stops ns g (record { run = run; memory = m }) left p))
+stops-as ns g code budget left start run m x r p q = rw q (ends-as ns g code budget left start run m _ r (run-stops ns g (record { run = run; memory = m }) left p))
 
 -- nothing is reached yet
-pub reached-start : (ns : List ℕ) (g : Graph) (budget : ℕ) (m : List ℤ) (run : Run) → run ≡ fresh → Reached ns g budget budget m run m
+pub reached-start : (ns : List ℕ) (g : Graph) (code : List ℕ) (budget : ℕ) (m : List ℤ) (run : Run) → run ≡ fresh → NumbersIn code m → Reached ns g code budget budget m run m
 unfolding fresh
-reached-start ns g budget m run p = record { same = rw p; inside = omega (arith, ap (λ (x : Run). x .node) p) }
+reached-start ns g code budget m run p n = record { same = rw p; inside = omega (arith, ap (λ (x : Run). x .node) p); numbers = n }
 
--- the edges of a drawn graph can be linked
-pub linkable : (s bytes : List ℕ) (nodes count : ℕ) → DrawnInto s bytes nodes count → Linkable bytes count
-unfolding edges edgeCount nodeCount edgeAt sourceIn edgeNumbers
-linkable s bytes nodes count d = record { few = omega (arith, d .edge-count, few-edges s (d .fit)); inside = at }
-  where
-    at : (e : ℕ) → e < count → edgeRead bytes e .source < 129
-    at e h =
-        let there : e < length (graph s .edges) = omega (arith, d .edge-count) in
-        let source : edgeAt (graph s) e .source < graph s .fresh = edge-inside s e _ there .source-inside in
-        omega (arith, ap (λ (x : EdgeBytes). x .source) (drawn-edge s bytes nodes count d e h), few-nodes s (d .fit))
-
--- one edge more, as the code chooses it and takes it
-module _ (s bytes entries szs cells : List ℕ) (count : ℕ) (y : Ready s bytes entries szs cells count) where
-  pub reached-more : (budget left : ℕ) (start : List ℤ) (run : Run) (m : List ℤ) → Reached (sizes s) (graph s) budget left start run m → 0 < left → run .node ≢ 1
-      → (x : Choice) → Chosen (sizes s) (graph s) (run .node) m x → isDefined (x .effect) ≡ true
-      → (r : EdgeBytes) → r ≡ edgeRead bytes (x .edge) → (run′ : Run) → run′ ≡ record { node = r .target; count = min (run .count + 1) 65535 } → (m′ : List ℤ) → m′ ≡ after m (x .effect)
-      → Reached (sizes s) (graph s) budget (left - 1) start run′ m′
-  unfolding edges edgeCount nodeCount edgeAt along
-  reached-more budget left start run m reached some far x chosen defined r read run′ p m′ q =
+-- one edge more, as the code takes it
+module _ {ns : List ℕ} {g : Graph} {code graph : List ℕ} (y : Prepared ns g code graph) where
+  pub reached-more : (budget left : ℕ) (start : List ℤ) (run : Run) (m : List ℤ) → Reached ns g code budget left start run m → 0 < left → run .node ≢ 1
+      → (e : ℕ) (m′ : List ℤ) → Lowest ns g (run .node) m e m′ → e < 255
+      → (target : ℕ) → target ≡ targetIn graph e → (run′ : Run) → run′ ≡ record { node = target; count = min (run .count + 1) 65535 }
+      → Reached ns g code budget (left - 1) start run′ m′
+  unfolding along
+  reached-more budget left start run m reached some far e m′ lowest h target read run′ p =
       record {
-        same = reached .same ∙ run-along _ _ (record { run = run; memory = m }) left (x .edge) some far found ∙ ap (runFrom (left - 1) (sizes s) (graph s)) moved;
-        inside = omega (arith, target, ap (λ (a : Run). a .node) p, few-nodes s (y .drawn .drawing .fit), inside);
+        same = reached .same ∙ run-along ns g (record { run = run; memory = m }) left e some far found ∙ ap (runFrom (left - 1) ns g) moved;
+        inside = omega (arith, to, ap (λ (a : Run). a .node) p, y .few-nodes, y .edge e there .to);
+        numbers = subst (NumbersIn code) to-memory (numbers-kept y e there m (reached .numbers));
       }
     where
-      found : lowestDefined (sizes s) (graph s) (run .node) m ≡ At (x .edge)
-      found = chosen .lowest ∙ rw defined
+      found : lowestDefined ns g (run .node) m ≡ At e
+      found = lowest .lowest ∙ rw (lt-ltb e 255 h)
 
-      there : x .edge < length (graph s .edges)
-      there = leaves-below (graph s) (x .edge) (run .node) (lowest-found (sizes s) (graph s) (run .node) m (x .edge) found .0)
+      there : e < length (g .edges)
+      there = leaves-below g e (run .node) (lowest-found ns g (run .node) m e found .0)
 
-      target : r .target ≡ edgeAt (graph s) (x .edge) .target
-      target = drawn-target s bytes _ count (y .drawn .drawing) (x .edge) r (omega (arith, there, y .drawn .drawing .edge-count)) read
+      to : target ≡ edgeAt g e .target
+      to = read ∙ y .edge e there .target
 
-      inside : edgeAt (graph s) (x .edge) .target < graph s .fresh
-      inside = edge-inside s (x .edge) _ there .target-inside
+      to-run : record { node = edgeAt g e .target; count = min (run .count + 1) 65535 } ≡ run′
+      to-run = rw (← to) (sym p)
 
-      to-run : record { node = edgeAt (graph s) (x .edge) .target; count = min (run .count + 1) 65535 } ≡ run′
-      to-run = rw (← target) (sym p)
+      to-memory : after m (edgeEffect ns g m e) ≡ m′
+      to-memory = sym (lowest .memory ∙ rw (lt-ltb e 255 h))
 
-      to-memory : after m (edgeEffect (sizes s) (graph s) m (x .edge)) ≡ m′
-      to-memory = ap (after m) (sym (chosen .there (passed defined))) ∙ sym q
-
-      moved : along (sizes s) (graph s) (record { run = run; memory = m }) (x .edge) ≡ record { run = run′; memory = m′ }
+      moved : along ns g (record { run = run; memory = m }) e ≡ record { run = run′; memory = m′ }
       moved = λ i. record { run = to-run i; memory = to-memory i }
+
+-- where none is defined the run is stuck, and the memory as it was
+pub reached-stuck : (ns : List ℕ) (g : Graph) (code : List ℕ) (budget left : ℕ) (start : List ℤ) (run : Run) (m : List ℤ) → Reached ns g code budget left start run m → 0 < left → run .node ≢ 1
+    → (e : ℕ) (m′ : List ℤ) → Lowest ns g (run .node) m e m′ → 255 ≤ e → EndsAs (runFrom budget ns g (begun start)) m′ (record { run = run; ending = Stuck })
+reached-stuck ns g code budget left start run m reached some far e m′ lowest h =
+    let kept : m′ ≡ m = lowest .memory ∙ rw (le-ltb e 255 h) in
+    rw kept
+    (ends-as ns g code budget left start run m _ reached (run-stuck ns g (record { run = run; memory = m }) left some far (lowest .lowest ∙ rw (le-ltb e 255 h))))

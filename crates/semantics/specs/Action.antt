@@ -1,4 +1,4 @@
--- What an action means, and what it does to a memory (document 01, "The step"; book, Definition 2.17 and Exercise 2.20).
+-- What an action does to a memory, by its meaning (document 01, "The step"; book, Definition 2.17 and Exercise 2.20).
 use Prim.Native.Nat.{ℕ}
 use mathlib.Core.Bool.{Bool, true, false}
 use mathlib.Core.List.{List, [], _∷_}
@@ -6,8 +6,7 @@ use lib.ListN.{set}
 use lib.IntN.{ℤ, pos}
 use Rattle.signs.specs.declared.Reason.the-variants.{ConditionFalse}
 use Rattle.program.specs.File.{firstCell}
-use Rattle.program.specs.Graph.{Action, perform, test, leave, done}
-use Rattle.program.specs.Syntax.{Arith, Boolean, Command, skip, assign, store, sequence, conditional, iteration, guarded, choice}
+use Rattle.program.specs.Meaning.{Meaning, nothing, assigns, stores, condition}
 use Rattle.semantics.specs.Expression.{fault, Place, at, nowhere, placeOf, value, truthIn, faultNumber}
 use Rattle.semantics.specs.declared.Effect.{Effect}
 use Rattle.semantics.specs.declared.Effect.the-variants.{Undefined as Fails, Unchanged, Stored}
@@ -15,30 +14,6 @@ use Rattle.semantics.specs.declared.Evaluation.{Evaluation}
 use Rattle.semantics.specs.declared.Evaluation.the-variants.{Number, Undefined}
 use Rattle.semantics.specs.declared.Truth.{Truth}
 use Rattle.semantics.specs.declared.Truth.the-variants.{Known, Undefined as Unknown}
-
--- what an action means: nothing, x := a, A[i] := a, or that a condition holds
-pub data Meaning : Type 0 where
-  nothing : Meaning
-  assigns : ℕ → Arith → Meaning
-  stores : ℕ → Arith → Arith → Meaning
-  condition : Boolean → Meaning
-
--- skip, an assignment or a store; no other command is performed by an edge, and none means anything here
-unfoldable pub performing : Command → Meaning
-performing (skip k) = nothing
-performing (assign k x a) = assigns x a
-performing (store k x i a) = stores x i a
-performing (sequence k c d) = nothing
-performing (conditional k c) = nothing
-performing (iteration k c) = nothing
-performing (guarded k b c) = nothing
-performing (choice k c d) = nothing
-
--- "Action kind 1 is the command entry itself, 2 a boolean entry, 3 the exit of the do whose operand is that command entry."
-unfoldable pub meaning : Action → Meaning
-meaning (perform c) = performing c
-meaning (test b) = condition b
-meaning (leave c) = condition (done c)
 
 -- a condition: "31 condition false"
 unfoldable pub pass : Truth → Effect

@@ -1,7 +1,7 @@
 pub mod Expression
 pub mod Action
-pub mod Coding
 pub mod Cells
+pub mod Coding
 pub mod Step
 pub mod Budget
 pub mod Replay

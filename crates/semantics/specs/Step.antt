@@ -4,16 +4,16 @@ use Prim.Native.Nat.{ℕ, _+_, min}
 use mathlib.Core.Bool.{Bool, _&&_}
 use mathlib.Core.List.{List, [], _∷_, _++_}
 use lib.Dec.{eqb, ltb}
-use lib.ListN.{length, getD}
+use lib.ListN.{length}
 use lib.IntN.{ℤ}
 use Rattle.program.specs.Asking.{askPlain, inTurn}
 use Rattle.program.specs.File.{sizes, cellCount}
-use Rattle.program.specs.Graph.{Graph, Edge, edge, perform, graph}
+use Rattle.program.specs.Graph.{Graph, edgeAt, graph}
 use Rattle.program.specs.Questions.{validity}
-use Rattle.program.specs.Syntax.{skip}
 use Rattle.program.specs.declared.Validity.{Validity}
 use Rattle.program.specs.declared.Validity.the-variants.{Fit, Refused}
-use Rattle.semantics.specs.Action.{meaning, effect, after}
+use Rattle.program.specs.Meaning.{meaning}
+use Rattle.semantics.specs.Action.{effect, after}
 use Rattle.semantics.specs.Expression.{faultNumber}
 use Rattle.semantics.specs.declared.Effect.{Effect}
 use Rattle.semantics.specs.declared.Effect.the-variants.{Undefined as Fails, Unchanged, Stored}
@@ -34,10 +34,6 @@ fresh = record { node = 0; count = 0 }
 -- a fresh run over a memory
 abbrev pub begun : List ℤ → Configuration
 begun m = record { run = fresh; memory = m }
-
--- edge number e of a graph; past the last, a skip at node 0
-unfoldable pub edgeAt : Graph → ℕ → Edge
-edgeAt g e = getD (g .edges) e (edge 0 (perform (skip 0)) 0)
 
 -- "Does the arrow exist and leave the node?"
 unfoldable pub leaves : Graph → ℕ → ℕ → Bool

@@ -1,28 +1,15 @@
 -- What the functions of the step and the budgeted run ask of each other. No public contract cites these.
 use mathlib.Core.Path.{_≡_}
 use mathlib.Core.List.{List}
-use Prim.Native.Nat.{ℕ, _+_, _<_, min}
+use Prim.Native.Nat.{ℕ, _+_, min}
 use lib.IntN.{ℤ}
-use lib.ListN.{length}
-use Rattle.program.specs.Drawing.{over}
-use Rattle.program.specs.File.{sizes, cellCount}
-use Rattle.program.specs.Graph.{Graph, graph, graphBytes}
-use Rattle.program.specs.Questions.{validity}
-use Rattle.program.specs.declared.Validity.the-variants.{Fit}
+use Rattle.program.specs.Graph.{Graph}
 use Rattle.semantics.specs.Action.{after}
 use Rattle.semantics.specs.Step.{outcomeBy, outcome, step}
 use Rattle.semantics.specs.declared.Effect.{Effect}
 use Rattle.semantics.specs.declared.Effect.the-variants.{Undefined as Fails, Unchanged, Stored}
 use Rattle.semantics.specs.declared.Run.{Run}
 use Rattle.semantics.specs.declared.Stepped.{Stepped}
-
--- a well-formed program whose graph was drawn: its edges' bytes over what was in the buffer, and its counts
-pub record DrawnInto (s bytes : List ℕ) (nodes count : ℕ) : Type 0 where
-  pub fit : validity s ≡ Fit
-  pub buffer : List ℕ
-  pub drawn : bytes ≡ over (graphBytes s) buffer
-  pub node-count : nodes ≡ graph s .fresh
-  pub edge-count : count ≡ length (graph s .edges)
 
 -- the run after an edge to a node whose effect is this: "An action is undefined, the memory and the run stay"
 unfoldable pub runAfter : Run → ℕ → Effect → Run
@@ -35,12 +22,6 @@ pub record Settled (run : Run) (target : ℕ) (x : Effect) (before after-it : Li
   pub handed-back : r .run ≡ runAfter run target x
   pub answer : r .outcome ≡ outcomeBy x
   pub memory : after-it ≡ after before x
-
--- an edge of a drawn graph, and a memory that has the names' cells
-pub record Able (s bytes : List ℕ) (nodes count e : ℕ) (m : List ℤ) : Type 0 where
-  pub drawing : DrawnInto s bytes nodes count
-  pub exists : e < count
-  pub room : length m ≡ cellCount (sizes s)
 
 -- the reply of a step over a graph, and the memory afterwards
 pub record StepsTo (ns : List ℕ) (g : Graph) (run : Run) (e : ℕ) (before after-it : List ℤ) (r : Stepped) : Type 0 where

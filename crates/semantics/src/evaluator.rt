@@ -3,6 +3,8 @@ pub(crate) mod action;
 mod arithmetic;
 mod condition;
 
+use program::prepared;
+use program::prepared::CODE;
 use signs::Comparison;
 use signs::Operator;
 use signs::Reason;
@@ -13,14 +15,16 @@ ghost use mathlib.Core.List.{List};
 ghost use Prim.Native.Nat.{ℕ, _+_, _<_};
 ghost use lib.Dec.{T};
 ghost use lib.IntN.{pos};
-ghost use lib.ListN.{length, getD};
+ghost use lib.ListN.{length};
 ghost use lib.Signed.{leZ};
-ghost use Rattle.program.specs.Decoding.{NamesIn};
-ghost use Rattle.program.specs.File.{firstCell};
-ghost use Rattle.semantics.specs.Coding as code;
+ghost use Rattle.program.specs.Prepared.{Coded};
+ghost use Rattle.semantics.specs.Coding as coding;
 ghost use Rattle.semantics.specs.Expression as spec;
 ghost use Rattle.semantics.specs.declared.Evaluation.the-variants.{Number, Undefined};
 ghost use Rattle.semantics.specs.declared.Truth.the-variants.{Known, Undefined as Unknown};
+
+// The cells of a memory, and the program's numbers behind them.
+pub(crate) const MEMORY: usize = 1024;
 
 fn is_fault(v: i64) -> bool
     ensures { λ r. ⌜ r ≡ leZ (pos 4294967296) v ⌝ }
@@ -29,9 +33,9 @@ fn is_fault(v: i64) -> bool
 }
 
 fn fault_code(reason: Reason) -> i64
-    ensures code { λ r. ⌜ T (code.isCode r) ⌝ }
-    ensures evaluated { λ r. ⌜ code.evaluated r ≡ Undefined (spec.fault reason) ⌝ }
-    ensures decided { λ r. ⌜ code.decided r ≡ Unknown (spec.fault reason) ⌝ }
+    ensures code { λ r. ⌜ T (coding.isCode r) ⌝ }
+    ensures evaluated { λ r. ⌜ coding.evaluated r ≡ Undefined (spec.fault reason) ⌝ }
+    ensures decided { λ r. ⌜ coding.decided r ≡ Unknown (spec.fault reason) ⌝ }
 {
     match reason {
         Reason::ConditionFalse => 4294967327,
@@ -45,8 +49,8 @@ fn fault_code(reason: Reason) -> i64
 
 // What an operator gave.
 fn value_code(v: Value) -> i64
-    ensures code { λ r. ⌜ T (code.isCode r) ⌝ }
-    ensures evaluated { λ r. ⌜ code.evaluated r ≡ spec.operated v ⌝ }
+    ensures code { λ r. ⌜ T (coding.isCode r) ⌝ }
+    ensures evaluated { λ r. ⌜ coding.evaluated r ≡ spec.operated v ⌝ }
 {
     match v {
         Value::Number(z) => z as i64,
@@ -55,24 +59,24 @@ fn value_code(v: Value) -> i64
 }
 
 fn truth_code(b: bool) -> i64
-    ensures { λ r. ⌜ code.decided r ≡ Known b ⌝ }
+    ensures { λ r. ⌜ coding.decided r ≡ Known b ⌝ }
 {
     if b { 1 } else { 0 }
 }
 
 // The fault of two results, the left before the right; where neither is one, the right result.
 fn earlier(a: i64, b: i64) -> i64
-    ensures { λ r. ⌜ r ≡ code.earlier a b ⌝ }
+    ensures { λ r. ⌜ r ≡ coding.earlier a b ⌝ }
 {
     if is_fault(a) { a } else { b }
 }
 
 // An operator on two results.
 fn operate(o: Operator, a: i64, b: i64) -> i64
-    requires { ⌜ T (code.isCode a) ⌝ }
-    requires { ⌜ T (code.isCode b) ⌝ }
-    ensures code { λ r. ⌜ T (code.isCode r) ⌝ }
-    ensures evaluated { λ r. ⌜ code.evaluated r ≡ spec.combine o (code.evaluated a) (code.evaluated b) ⌝ }
+    requires { ⌜ T (coding.isCode a) ⌝ }
+    requires { ⌜ T (coding.isCode b) ⌝ }
+    ensures code { λ r. ⌜ T (coding.isCode r) ⌝ }
+    ensures evaluated { λ r. ⌜ coding.evaluated r ≡ spec.combine o (coding.evaluated a) (coding.evaluated b) ⌝ }
 {
     let first = earlier(a, b);
     if is_fault(first) {
@@ -83,9 +87,9 @@ fn operate(o: Operator, a: i64, b: i64) -> i64
 
 // A comparison of two results.
 fn compare(c: Comparison, a: i64, b: i64) -> i64
-    requires { ⌜ T (code.isCode a) ⌝ }
-    requires { ⌜ T (code.isCode b) ⌝ }
-    ensures { λ r. ⌜ code.decided r ≡ spec.compareValues c (code.evaluated a) (code.evaluated b) ⌝ }
+    requires { ⌜ T (coding.isCode a) ⌝ }
+    requires { ⌜ T (coding.isCode b) ⌝ }
+    ensures { λ r. ⌜ coding.decided r ≡ spec.compareValues c (coding.evaluated a) (coding.evaluated b) ⌝ }
 {
     let first = earlier(a, b);
     if is_fault(first) {
@@ -96,7 +100,7 @@ fn compare(c: Comparison, a: i64, b: i64) -> i64
 
 // b ∧ b of two truth values.
 fn both(a: i64, b: i64) -> i64
-    ensures { λ r. ⌜ code.decided r ≡ spec.conjoin (code.decided a) (code.decided b) ⌝ }
+    ensures { λ r. ⌜ coding.decided r ≡ spec.conjoin (coding.decided a) (coding.decided b) ⌝ }
 {
     let fault = earlier(a, b);
     if is_fault(fault) {
@@ -107,7 +111,7 @@ fn both(a: i64, b: i64) -> i64
 
 // ¬ of a truth value.
 fn negated(a: i64) -> i64
-    ensures { λ r. ⌜ code.decided r ≡ spec.negate (code.decided a) ⌝ }
+    ensures { λ r. ⌜ coding.decided r ≡ spec.negate (coding.decided a) ⌝ }
 {
     if is_fault(a) {
         return a;
@@ -117,8 +121,8 @@ fn negated(a: i64) -> i64
 
 // The value of a cell, past the end 0.
 fn cell_value(memory: &[i32], c: usize) -> i64
-    ensures code { λ r. ⌜ T (code.isCode r) ⌝ }
-    ensures evaluated { λ r. ⌜ code.evaluated r ≡ Number (spec.cellValue (now (memory .entry)) c) ⌝ }
+    ensures code { λ r. ⌜ T (coding.isCode r) ⌝ }
+    ensures evaluated { λ r. ⌜ coding.evaluated r ≡ Number (spec.cellValue (now (memory .entry)) c) ⌝ }
 {
     if c < memory.len() {
         memory[c] as i64
@@ -129,53 +133,20 @@ fn cell_value(memory: &[i32], c: usize) -> i64
 
 // The value of the cell i after c.
 fn cell_after(memory: &[i32], c: usize, i: usize) -> i64
-    ensures code { λ r. ⌜ T (code.isCode r) ⌝ }
-    ensures evaluated { λ r. ⌜ code.evaluated r ≡ Number (spec.cellValue (now (memory .entry)) (c + i)) ⌝ }
+    requires { ⌜ i < 65536 ⌝ }
+    ensures code { λ r. ⌜ T (coding.isCode r) ⌝ }
+    ensures evaluated { λ r. ⌜ coding.evaluated r ≡ Number (spec.cellValue (now (memory .entry)) (c + i)) ⌝ }
 {
     if memory.len() <= c {
-        return 0;
-    }
-    if memory.len() <= i {
         return 0;
     }
     cell_value(memory, c + i)
 }
 
-// The first cell of a name.
-fn first_cell(cells: &[usize], x: u16) -> usize
-    ensures { λ r. ⌜ r ≡ getD (now (cells .entry)) x 0 ⌝ }
-{
-    let i = x as usize;
-    if i < cells.len() { cells[i] } else { 0 }
-}
-
-// The size of a name.
-fn size_of(sizes: &[u16], x: u16) -> usize
-    ensures { λ r. ⌜ r ≡ getD (now (sizes .entry)) x 0 ⌝ }
-{
-    let i = x as usize;
-    if i < sizes.len() {
-        sizes[i] as usize
-    } else {
-        0
-    }
-}
-
-// The value of a variable.
-fn variable(cells: &[usize; 32], memory: &[i32; 512], x: u16) -> i64
-    ensures code { λ r. ⌜ T (code.isCode r) ⌝ }
-    ensures evaluated { λ r. ⌜ ((ns szs : List ℕ) → NamesIn ns szs (now (cells .entry)) → x < length ns
-        → code.evaluated r ≡ Number (spec.cellValue (now (memory .entry)) (firstCell ns x))) ⌝ }
-{
-    cell_value(memory, first_cell(cells, x))
-}
-
-// The value of an array's element, by its index: 34 below zero, 35 at or past the size.
-fn element(cells: &[usize; 32], sizes: &[u16; 32], memory: &[i32; 512], x: u16, v: i64) -> i64
-    requires { ⌜ T (code.isCode v) ⌝ }
-    ensures code { λ r. ⌜ T (code.isCode r) ⌝ }
-    ensures evaluated { λ r. ⌜ ((ns : List ℕ) → NamesIn ns (now (sizes .entry)) (now (cells .entry)) → x < length ns
-        → code.evaluated r ≡ spec.valueAt (now (memory .entry)) (spec.placeOf ns x (code.evaluated v))) ⌝ }
+// An index of an array of a size: itself, or 34 below zero and 35 at or past the size.
+fn indexed(size: u16, v: i64) -> i64
+    requires { ⌜ T (coding.isCode v) ⌝ }
+    ensures { λ r. ⌜ coding.Indexed size v r ⌝ }
 {
     if is_fault(v) {
         return v;
@@ -183,9 +154,22 @@ fn element(cells: &[usize; 32], sizes: &[u16; 32], memory: &[i32; 512], x: u16, 
     if v < 0 {
         return fault_code(Reason::IndexNegative);
     }
-    let i = v as usize;
-    if size_of(sizes, x) <= i {
+    if size as usize <= v as usize {
         return fault_code(Reason::IndexTooLarge);
     }
-    cell_after(memory, first_cell(cells, x), i)
+    v
+}
+
+// The value of an array's element, by its index.
+fn element(code: &[u16; CODE], memory: &[i32; MEMORY], x: u16, v: i64) -> i64
+    requires { ⌜ T (coding.isCode v) ⌝ }
+    ensures code { λ r. ⌜ T (coding.isCode r) ⌝ }
+    ensures evaluated { λ r. ⌜ ((ns : List ℕ) → Coded ns (now (code .entry)) → x < length ns
+        → coding.evaluated r ≡ spec.valueAt (now (memory .entry)) (spec.placeOf ns x (coding.evaluated v))) ⌝ }
+{
+    let i = indexed(prepared::size_of(code, x), v);
+    if is_fault(i) {
+        return i;
+    }
+    cell_after(memory, prepared::first_cell(code, x), i as usize)
 }

@@ -2,11 +2,11 @@
 
 ghost use mathlib.Core.Path.{_≡_};
 ghost use mathlib.Core.List.{List};
-ghost use lib.IntN.{ℤ};
-ghost use Prim.Native.Nat.{_<_, _+_, min};
-ghost use lib.ListN.{length};
-ghost use Rattle.program.specs.File;
-ghost use Rattle.program.specs.Graph;
+ghost use lib.IntN.{ℤ, pos};
+ghost use Prim.Native.Nat.{ℕ, _<_, _+_, min};
+ghost use lib.ListN.{length, replicate};
+ghost use Rattle.program.specs.Graph.{Graph};
+ghost use Rattle.program.specs.Prepared.{Coded, Prepared};
 ghost use Rattle.semantics.specs.Action;
 ghost use Rattle.semantics.specs.Cells;
 ghost use Rattle.semantics.specs.Step as spec;
@@ -15,25 +15,31 @@ use crate::Effect;
 use crate::Outcome;
 use crate::Run;
 use crate::Stepped;
+use crate::evaluator::MEMORY;
 use crate::evaluator::action;
+use program::Refusal;
 use program::Validity;
-use program::decoding;
-use program::drawing;
-use program::file;
+use program::prepared;
+use program::prepared::CELLS_MOST;
+use program::prepared::CODE;
+use program::prepared::GRAPH;
 use program::validation;
 
-fn least(a: usize, b: usize) -> usize
+// The most numbers behind a memory: one for each arithmetic entry.
+const NUMBERS_MOST: usize = 512;
+
+pub(crate) fn least(a: usize, b: usize) -> usize
     ensures { λ r. ⌜ r ≡ min a b ⌝ }
 {
     if a < b { a } else { b }
 }
 
-// A memory's first 512 cells, and zeros after the last, over whatever was in an array.
-pub(crate) fn copy_in(memory: &[i32], cells: &mut [i32; 512])
-    ensures { λ _. ⌜ now (cells .exit) ≡ Cells.front 512 (now (memory .entry)) ⌝ }
+// A memory's first 512 cells, into an array of zeros.
+fn put_memory(memory: &[i32], cells: &mut [i32; MEMORY])
+    requires { ⌜ now cells ≡ replicate Cells.arrayCells (pos 0) ⌝ }
+    ensures { λ _. ⌜ Cells.Fronted (now (memory .entry)) (now (cells .exit)) ⌝ }
 {
-    *cells = [0i32; 512];
-    let end = least(memory.len(), 512);
+    let end = least(memory.len(), CELLS_MOST);
     let mut i: usize = 0;
     while i < end {
         cells[i] = memory[i];
@@ -41,40 +47,58 @@ pub(crate) fn copy_in(memory: &[i32], cells: &mut [i32; 512])
     }
 }
 
-// Whether an edge of a drawn graph exists and leaves a node.
-fn leaves(program: &[u8], edges: &[u8], nodes: u16, count: u16, edge: u16, node: u16) -> bool
-    requires { ⌜ Stepping.DrawnInto (now program) (now edges) nodes count ⌝ }
-    ensures { λ r. ⌜ r ≡ spec.leaves (Graph.graph (now (program .entry))) edge node ⌝ }
+// A program's numbers, from cell 512 on.
+fn put_numbers(code: &[u16; CODE], cells: &mut [i32])
+    requires { ⌜ length (now cells) ≡ 1024 ⌝ }
+    ensures { λ _. ⌜ Cells.Numbered (now (code .entry)) (now (cells .entry)) (now (cells .exit)) ⌝ }
 {
-    if count <= edge {
-        return false;
+    let end = least(prepared::arithmetic_count(code) as usize, NUMBERS_MOST);
+    let mut n: usize = 0;
+    while n < end {
+        cells[CELLS_MOST + n] = prepared::number_at(code, n as u16);
+        n += 1;
     }
-    let e = drawing::edge_at(edges, edge);
-    e.source == node
 }
 
-// Questions 12, 14 and 15 of a well-formed program whose graph is drawn, of a node, an edge and a memory of so many cells.
-fn check_step(
-    program: &[u8],
-    edges: &[u8],
-    nodes: u16,
-    count: u16,
+// A memory of at most 512 cells, and a program's numbers behind it, into an array of zeros.
+pub(crate) fn copy_in(code: &[u16; CODE], memory: &[i32], cells: &mut [i32; MEMORY])
+    requires { ⌜ now cells ≡ replicate Cells.arrayCells (pos 0) ⌝ }
+    ensures { λ _. ⌜ ((ns : List ℕ) → Coded ns (now (code .entry)) → Cells.Placed (now (code .entry)) (now (memory .entry)) (now (cells .exit))) ⌝ }
+{
+    put_memory(memory, cells);
+    put_numbers(code, cells);
+}
+
+// Whether an edge exists and leaves a node.
+fn leaves(graph: &[u16; GRAPH], edge: u16, node: u16) -> bool
+    ensures { λ r. ⌜ ((ns code : List ℕ) (g : Graph) → Prepared ns g code (now (graph .entry)) → r ≡ spec.leaves g edge node) ⌝ }
+{
+    if prepared::edge_count(graph) <= edge {
+        return false;
+    }
+    prepared::edge_source(graph, edge) == node
+}
+
+// Questions 12, 14 and 15 of a node, an edge and a memory of so many cells.
+fn ask_step(
+    code: &[u16; CODE],
+    graph: &[u16; GRAPH],
     node: u16,
     edge: u16,
     cells: usize,
 ) -> Validity
-    requires { ⌜ Stepping.DrawnInto (now program) (now edges) nodes count ⌝ }
-    ensures { λ r. ⌜ ((m : List ℤ) → length m ≡ cells → r ≡ spec.stepValidity (File.sizes (now (program .entry))) (Graph.graph (now (program .entry))) node m edge) ⌝ }
+    ensures { λ r. ⌜ ((ns : List ℕ) (g : Graph) (m : List ℤ) → Prepared ns g (now (code .entry)) (now (graph .entry)) → length m ≡ cells
+        → r ≡ spec.stepValidity ns g node m edge) ⌝ }
 {
-    let enough = validation::ask(cells == file::cell_count(program), 12, 0);
+    let enough = validation::ask(cells == prepared::cell_count(code), 12, 0);
     if validation::refused(enough) {
         return enough;
     }
-    let inside = validation::ask(node < nodes, 14, 0);
+    let inside = validation::ask(node < prepared::node_count(graph), 14, 0);
     if validation::refused(inside) {
         return inside;
     }
-    validation::ask(leaves(program, edges, nodes, count, edge, node), 15, 0)
+    validation::ask(leaves(graph, edge, node), 15, 0)
 }
 
 // The run that has taken an edge to a node: past 65,535 edges the count stays.
@@ -131,52 +155,44 @@ fn settled(run: Run, target: u16, effect: Effect, memory: &mut [i32]) -> Stepped
     }
 }
 
-// The effect of an edge of a drawn graph in a memory.
-fn edge_effect(
-    program: &[u8],
-    edges: &[u8],
-    nodes: u16,
-    count: u16,
-    edge: u16,
-    memory: &[i32],
-) -> Effect
-    requires { ⌜ Stepping.Able (now program) (now edges) nodes count edge (now memory) ⌝ }
-    ensures { λ r. ⌜ r ≡ spec.edgeEffect (File.sizes (now (program .entry))) (Graph.graph (now (program .entry))) (now (memory .entry)) edge ⌝ }
+// The effect of an edge in a memory.
+fn edge_effect(code: &[u16; CODE], graph: &[u16; GRAPH], edge: u16, memory: &[i32]) -> Effect
+    ensures { λ r. ⌜ ((ns : List ℕ) (g : Graph) → Prepared ns g (now (code .entry)) (now (graph .entry)) → edge < length (g .edges)
+        → r ≡ spec.edgeEffect ns g (now (memory .entry)) edge) ⌝ }
 {
-    let mut entries = [0u16; 4096];
-    decoding::put_entries(program, &mut entries);
-    let sizes = decoding::name_sizes(program);
-    let cells = decoding::name_cells(program);
-    let mut local = [0i32; 512];
-    copy_in(memory, &mut local);
-    let e = drawing::edge_at(edges, edge);
-    action::effect(&entries, &cells, &sizes, &local, e.kind, e.entry)
+    let mut cells = [0i32; MEMORY];
+    copy_in(code, memory, &mut cells);
+    action::effect(code, graph, &cells, prepared::action(graph, edge))
 }
 
-// A step over a drawn graph.
-fn step_drawn(
+// The reply of a refused step.
+fn refused(run: Run, x: Refusal) -> Stepped
+    ensures { λ r. ⌜ r ≡ record { run = run; outcome = Outcome.Refused x } ⌝ }
+{
+    Stepped {
+        run,
+        outcome: Outcome::Refused(x),
+    }
+}
+
+// A step over a prepared program.
+fn step_prepared(
     run: Run,
-    program: &[u8],
-    edges: &[u8],
-    nodes: u16,
-    count: u16,
+    code: &[u16; CODE],
+    graph: &[u16; GRAPH],
     edge: u16,
     memory: &mut [i32],
 ) -> Stepped
-    requires { ⌜ Stepping.DrawnInto (now program) (now edges) nodes count ⌝ }
-    ensures { λ r. ⌜ Stepping.StepsTo (File.sizes (now (program .entry))) (Graph.graph (now (program .entry))) run edge (now (memory .entry)) (now (memory .exit)) r ⌝ }
+    ensures { λ r. ⌜ ((ns : List ℕ) (g : Graph) → Prepared ns g (now (code .entry)) (now (graph .entry))
+        → Stepping.StepsTo ns g run edge (now (memory .entry)) (now (memory .exit)) r) ⌝ }
 {
-    let v = check_step(program, edges, nodes, count, run.node, edge, memory.len());
+    let v = ask_step(code, graph, run.node, edge, memory.len());
     match v {
         Validity::Fit => {
-            let found = edge_effect(program, edges, nodes, count, edge, memory);
-            let e = drawing::edge_at(edges, edge);
-            settled(run, e.target, found, memory)
+            let found = edge_effect(code, graph, edge, memory);
+            settled(run, prepared::edge_target(graph, edge), found, memory)
         }
-        Validity::Refused(x) => Stepped {
-            run,
-            outcome: Outcome::Refused(x),
-        },
+        Validity::Refused(x) => refused(run, x),
     }
 }
 
@@ -195,23 +211,12 @@ impl Run {
         ensures numbers { λ r. ⌜ spec.steppedNumbers r
             ≡ spec.steppedNumbers (spec.stepReply (now (program .entry)) (record { run = self; memory = now (memory .entry) }) edge) ⌝ }
     {
-        let mut edges = [0u8; 1785];
-        let drawn = drawing::draw_edges(program, &mut edges);
-        let v = drawn.validity;
+        let mut code = [0u16; CODE];
+        let mut graph = [0u16; GRAPH];
+        let v = prepared::prepare(program, &mut code, &mut graph);
         match v {
-            Validity::Fit => step_drawn(
-                self,
-                program,
-                &edges,
-                drawn.nodes,
-                drawn.edges,
-                edge,
-                memory,
-            ),
-            Validity::Refused(x) => Stepped {
-                run: self,
-                outcome: Outcome::Refused(x),
-            },
+            Validity::Fit => step_prepared(self, &code, &graph, edge, memory),
+            Validity::Refused(x) => refused(self, x),
         }
     }
 }

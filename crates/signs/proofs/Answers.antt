@@ -5,14 +5,13 @@ use Prim.Native.Nat.{ℕ, _%_}
 use lib.Bits.{bitAnd, and-mod}
 use lib.Dec.{T, eqb}
 use mir.Facts.{and-yes}
-use Rattle.signs.specs.Sign.{has, single}
-use Rattle.signs.specs.Truth.{compareSigns, compareSets, conjoined}
+use Rattle.signs.specs.Sign.{has}
+use Rattle.signs.specs.Truth.{compareSets, conjoined}
 use Rattle.signs.specs.declared.Comparison.{Comparison}
 use Rattle.signs.specs.declared.Comparison.the-variants.{Equal, Greater, AtLeast}
-use Rattle.signs.specs.declared.Sign.{Sign}
 use Rattle.signs.specs.declared.Sign.the-variants.{Minus, Plus}
 use Rattle.signs.specs.declared.Truths.{Truths}
-use Rattle.signs.proofs.Finite.{everySign, at-sign, at-comparison, everyBool, at-bool, everyBelow, at-sets, beq-eq}
+use Rattle.signs.proofs.Finite.{at-comparison, everyBool, at-bool, everyBelow, at-sets, beq-eq}
 use Rattle.signs.proofs.Membership.{has-remainder, members-remainder}
 use Rattle.signs.proofs.Open.{definitions}
 
@@ -83,14 +82,6 @@ compares-below c a b =
 pub compares-by : (c : Comparison) (a b : ℕ) → ordered c a b ≡ compareSets c a b
 compares-by c a b =
     rw (sym (remainders Equal a b), sym (remainders Greater a b), sym (remainders Greater b a)) (compares-below c a b ∙ remainders c a b)
-
-pub compares-single : (c : Comparison) (l r : Sign) → compareSets c (single l) (single r) ≡ compareSigns c l r
-unfolding definitions
-compares-single c l r =
-    same-truths (compareSets c (single l) (single r)) (compareSigns c l r)
-    (at-sign (λ r. sameTruths (compareSets c (single l) (single r)) (compareSigns c l r))
-    (at-sign (λ l. everySign (λ r. sameTruths (compareSets c (single l) (single r)) (compareSigns c l r)))
-    (at-comparison (λ c. everySign (λ l. everySign (λ r. sameTruths (compareSets c (single l) (single r)) (compareSigns c l r)))) tt c) l) r)
 
 -- ---- ∧ by its four answers
 

@@ -7,8 +7,6 @@ use lib.IntN.{ℤ, pos, negsuc}
 use Rattle.signs.specs.Lists.{passing}
 use Rattle.signs.specs.declared.Sign.{Sign}
 use Rattle.signs.specs.declared.Sign.the-variants.{Minus, Zero, Plus}
-use Rattle.signs.specs.declared.Lowest.{Lowest}
-use Rattle.signs.specs.declared.Lowest.the-variants.{At, Nothing}
 
 -- the sign of a number
 unfoldable pub signOf : ℤ → Sign
@@ -53,18 +51,3 @@ added s set = unite set (single s)
 -- a set without a sign
 unfoldable pub removed : Sign → ℕ → ℕ
 removed s set = setOf (λ t. has set t && not (has (single s) t))
-
--- the signs at or above a given one, in the order minus, zero, plus
-unfoldable pub above : Sign → List Sign
-above Minus = Minus ∷ Zero ∷ Plus ∷ []
-above Zero = Zero ∷ Plus ∷ []
-above Plus = Plus ∷ []
-
--- the first of a list of signs
-unfoldable pub first : List Sign → Lowest
-first [] = Nothing
-first (s ∷ ss) = At s
-
--- the lowest sign of a set at or above a given one
-unfoldable pub lowestFrom : ℕ → Sign → Lowest
-lowestFrom set s = first (passing (has set) (above s))

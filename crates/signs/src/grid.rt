@@ -98,27 +98,12 @@ pub fn grid(operator: Operator, l: Sign, r: Sign) -> u8
     GRIDS[grid_number(operator)][sign_number(l)][sign_number(r)]
 }
 
-// The set table, to be lent: a constant is built anew at each use.
-pub fn set_table() -> [[[u8; 8]; 8]; 5]
-    ensures { λ r. ⌜ r ≡ spec.setTable ⌝ }
-{
-    SET_TABLE
-}
-
-// An operator on two sets, out of the set table. A set above 7 is that of its remainder by 8.
-pub fn operate_by(table: &[[[u8; 8]; 8]; 5], operator: Operator, a: u8, b: u8) -> u8
-    ensures { λ s. ⌜ (now (table .entry) ≡ spec.setTable → s ≡ spec.operate operator a b) ⌝ }
+// An operator on two sets, read out of the set table. A set above 7 is that of its remainder by 8.
+pub fn operate(operator: Operator, a: u8, b: u8) -> u8
+    ensures { λ s. ⌜ s ≡ spec.operate operator a b ⌝ }
 {
     let o = grid_number(operator);
     let l = (a % 8) as usize;
     let r = (b % 8) as usize;
-    table[o][l][r]
-}
-
-// An operator on two sets.
-pub fn operate(operator: Operator, a: u8, b: u8) -> u8
-    ensures { λ s. ⌜ s ≡ spec.operate operator a b ⌝ }
-{
-    let table = set_table();
-    operate_by(&table, operator, a, b)
+    SET_TABLE[o][l][r]
 }

@@ -1,5 +1,4 @@
 // Signs and sets of signs. A set is a byte of which three bits count: one above 7 means its remainder by 8, as `has` reads it.
-use super::Lowest;
 use super::Sign;
 ghost use mathlib.Core.Path.{_≡_};
 ghost use Rattle.signs.specs.Sign as spec;
@@ -51,22 +50,4 @@ pub fn removed(set: u8, s: Sign) -> u8
     ensures { λ r. ⌜ r ≡ spec.removed s set ⌝ }
 {
     added(set, s) - single(s)
-}
-
-// The lowest sign of a set at or above a given one. The numbers of the signs' sets are in the signs' order.
-pub fn lowest_from(set: u8, from: Sign) -> Lowest
-    ensures { λ r. ⌜ r ≡ spec.lowestFrom set from ⌝ }
-{
-    let low = single(from);
-    if (low <= 1) & has(set, Sign::Minus) {
-        return Lowest::At(Sign::Minus);
-    }
-    if (low <= 2) & has(set, Sign::Zero) {
-        return Lowest::At(Sign::Zero);
-    }
-    if has(set, Sign::Plus) {
-        Lowest::At(Sign::Plus)
-    } else {
-        Lowest::Nothing
-    }
 }

@@ -46,13 +46,6 @@ pub fn compare_sets(comparison: Comparison, a: u8, b: u8) -> Truths
     }
 }
 
-// The truth answers that a comparison of numbers of two signs can have.
-pub fn compare_signs(comparison: Comparison, l: Sign, r: Sign) -> Truths
-    ensures { λ t. ⌜ t ≡ spec.compareSigns comparison l r ⌝ }
-{
-    compare_sets(comparison, sets::single(l), sets::single(r))
-}
-
 // ¬ exchanges the answers.
 pub fn negated(t: Truths) -> Truths
     ensures { λ r. ⌜ r ≡ spec.negated t ⌝ }

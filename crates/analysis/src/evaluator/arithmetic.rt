@@ -1,14 +1,16 @@
-// The sign sets of arithmetic expressions in an abstract memory, over a decoded program.
+// The sign sets of arithmetic expressions in an abstract memory, over a prepared program.
 use super::element;
 use super::set_of;
 use program::ArithNode;
-use program::decoding;
+use program::prepared;
+use program::prepared::CODE;
 use signs::grid;
 use signs::sets;
 ghost use mathlib.Core.Path.{_≡_};
-ghost use Rattle.program.specs.Decoding.{decodedEntry};
+ghost use mathlib.Core.List.{List};
+ghost use Prim.Native.Nat.{ℕ};
+ghost use Rattle.program.specs.Prepared.{entriesIn};
 ghost use Rattle.program.specs.Tree.{arithBelow, arithTrees};
-ghost use Rattle.signs.specs.Grid;
 ghost use Rattle.signs.specs.Sign as sign;
 ghost use Rattle.analysis.specs.Signs as spec;
 
@@ -20,28 +22,34 @@ fn number_signs(z: i32) -> u8
 }
 
 // The sign set of arithmetic entry `n`, a part of entry `bound`.
-pub(crate) fn signs(
-    entries: &[u16; 4096],
-    table: &[[[u8; 8]; 8]; 5],
-    rho: &[u8; 32],
-    bound: u16,
-    n: u16,
-) -> u8
-    requires { ⌜ now table ≡ Grid.setTable ⌝ }
-    ensures { λ r. ⌜ r ≡ spec.signsIn (now (rho .entry)) (arithBelow (arithTrees (decodedEntry (now (entries .entry))) bound) n) ⌝ }
+pub(crate) fn signs(code: &[u16; CODE], rho: &[u8; 32], bound: u16, n: u16) -> u8
+    ensures { λ r. ⌜ ((graph : List ℕ) → r ≡ spec.signsIn (now (rho .entry)) (arithBelow (arithTrees (entriesIn (now (code .entry)) graph) bound) n)) ⌝ }
 {
-    let node = decoding::arith_node(entries, bound, n);
+    let node = prepared::arith_node(code, bound, n);
     match node {
         ArithNode::Number(z) => number_signs(z),
         ArithNode::Variable(x) => set_of(rho, x),
         ArithNode::Element(x, i) => {
-            let index = signs(entries, table, rho, n, i);
+            let index = operand(code, rho, n, i);
             element(rho, x, index)
         }
         ArithNode::Operator(o, p, q) => {
-            let a = signs(entries, table, rho, n, p);
-            let b = signs(entries, table, rho, n, q);
-            grid::operate_by(table, o, a, b)
+            let a = operand(code, rho, n, p);
+            let b = operand(code, rho, n, q);
+            grid::operate(o, a, b)
         }
+    }
+}
+
+// The same of an entry that is often a leaf: a number or a variable is read where it stands, without a call.
+pub(crate) fn operand(code: &[u16; CODE], rho: &[u8; 32], bound: u16, n: u16) -> u8
+    ensures { λ r. ⌜ ((graph : List ℕ) → r ≡ spec.signsIn (now (rho .entry)) (arithBelow (arithTrees (entriesIn (now (code .entry)) graph) bound) n)) ⌝ }
+{
+    let node = prepared::arith_node(code, bound, n);
+    match node {
+        ArithNode::Number(z) => number_signs(z),
+        ArithNode::Variable(x) => set_of(rho, x),
+        ArithNode::Element(_, _) => signs(code, rho, bound, n),
+        ArithNode::Operator(_, _, _) => signs(code, rho, bound, n),
     }
 }

@@ -1,194 +1,184 @@
-// The results of actions from an abstract memory, over a decoded program: one name and its new sets, in order.
+// The results of actions from an abstract memory, over a prepared program. They are one number: 64 times the new sets of one name, as digits of base 8, the first lowest, and
+// the name; name 32 changes nothing. No set of a result is 0, and there are at most twelve.
 use super::arithmetic;
 use super::condition;
 use super::may_index;
 use super::set_of;
-use crate::Changes;
-use program::CommandNode;
-use program::decoding;
+use program::ActionNode;
+use program::prepared::CODE;
+use program::prepared::COMMANDS;
+use program::prepared::CONDITIONS;
+use program::prepared::EXPRESSIONS;
+use program::prepared::GRAPH;
+use program::prepared::NAMES_MOST;
 use signs::Sign;
 use signs::sets;
 ghost use mathlib.Core.Path.{_≡_};
 ghost use mathlib.Core.Bool.{cond};
-ghost use mathlib.Core.List.{[], _∷_};
-ghost use Prim.Native.Nat.{_+_, _≤_};
-ghost use lib.ListN.{length, getD};
-ghost use Rattle.program.specs.Decoding.{decodedEntry};
-ghost use Rattle.program.specs.Graph.{actionOf};
-ghost use Rattle.program.specs.Tree.{arithAt, commandAt};
-ghost use Rattle.semantics.specs.Action as action;
-ghost use Rattle.signs.specs.Grid;
+ghost use mathlib.Core.List.{List, [], _∷_};
+ghost use Prim.Native.Nat.{ℕ, _+_, _*_, _/_, _%_, _<_};
+ghost use Rattle.program.specs.Prepared.{entriesIn, decodedMeaning};
+ghost use Rattle.program.specs.Tree.{arithAt};
+ghost use Rattle.program.specs.Meaning as action;
 ghost use Rattle.signs.specs.Sign as sign;
-ghost use Rattle.analysis.specs.Changing.{Written, Lists, ResultsIn};
+ghost use Rattle.analysis.specs.Changing.{packed, nameFor, Before, ResultsIn};
 ghost use Rattle.analysis.specs.Results as spec;
 
-// A set behind the first `count`, where it is to be there; how many there are then.
-fn put(out: &mut [u8], count: usize, set: u8, there: bool) -> usize
-    requires { ⌜ count + 1 ≤ length (now out) ⌝ }
-    ensures { λ r. ⌜ Written (now (out .entry)) (now (out .exit)) count r 1 (cond there (set ∷ []) []) ⌝ }
+// A set before others, where it is to be there.
+fn before(set: u8, there: bool, others: u64) -> u64
+    requires { ⌜ others < 72057594037927936 ⌝ }
+    ensures { λ r. ⌜ Before (cond there (set ∷ []) []) 8 255 others r ⌝ }
 {
     if there {
-        out[count] = set;
-        return count + 1;
+        return others * 8 + set as u64;
     }
-    count
+    others
 }
 
-// The set of sign `s`, where the value's set has it.
-fn put_single(out: &mut [u8], count: usize, values: u8, s: Sign) -> usize
-    requires { ⌜ count + 1 ≤ length (now out) ⌝ }
-    ensures { λ r. ⌜ Written (now (out .entry)) (now (out .exit)) count r 1 (cond (sign.has values s) (sign.single s ∷ []) []) ⌝ }
+// The set of sign `s` before others, where the value's set has it.
+fn single(values: u8, s: Sign, others: u64) -> u64
+    requires { ⌜ others < 72057594037927936 ⌝ }
+    ensures { λ r. ⌜ Before (cond (sign.has values s) (sign.single s ∷ []) []) 8 255 others r ⌝ }
 {
     let set = sets::single(s);
     let there = sets::has(values, s);
-    put(out, count, set, there)
+    before(set, there, others)
 }
 
-// The old set without `t` and with `s`, where it has `t`.
-fn put_replaced(out: &mut [u8], count: usize, old: u8, s: Sign, t: Sign) -> usize
-    requires { ⌜ count + 1 ≤ length (now out) ⌝ }
-    ensures { λ r. ⌜ Written (now (out .entry)) (now (out .exit)) count r 1 (cond (sign.has old t) (sign.added s (sign.removed t old) ∷ []) []) ⌝ }
+// The old set without `t` and with `s` before others, where it has `t`.
+fn replaced(old: u8, s: Sign, t: Sign, others: u64) -> u64
+    requires { ⌜ others < 72057594037927936 ⌝ }
+    ensures { λ r. ⌜ Before (cond (sign.has old t) (sign.added s (sign.removed t old) ∷ []) []) 8 255 others r ⌝ }
 {
     let set = sets::added(sets::removed(old, t), s);
     let there = sets::has(old, t);
-    put(out, count, set, there)
+    before(set, there, others)
 }
 
-// The sets after a store of sign `s`.
-fn put_stored(out: &mut [u8], count: usize, old: u8, s: Sign) -> usize
-    requires { ⌜ count + 4 ≤ length (now out) ⌝ }
-    ensures { λ r. ⌜ Written (now (out .entry)) (now (out .exit)) count r 4 (spec.setsWith old s) ⌝ }
+// The sets after a store of sign `s` before others.
+fn stored(old: u8, s: Sign, others: u64) -> u64
+    requires { ⌜ others < 4294967296 ⌝ }
+    ensures { λ r. ⌜ Before (spec.setsWith old s) 4096 149175 others r ⌝ }
 {
-    let a = put(out, count, sets::added(old, s), true);
-    let b = put_replaced(out, a, old, s, Sign::Minus);
-    let c = put_replaced(out, b, old, s, Sign::Zero);
-    put_replaced(out, c, old, s, Sign::Plus)
+    let plus = replaced(old, s, Sign::Plus, others);
+    let zero = replaced(old, s, Sign::Zero, plus);
+    let minus = replaced(old, s, Sign::Minus, zero);
+    before(sets::added(old, s), true, minus)
 }
 
 // The same, where the value's set has `s`.
-fn put_stores(out: &mut [u8], count: usize, old: u8, values: u8, s: Sign) -> usize
-    requires { ⌜ count + 4 ≤ length (now out) ⌝ }
-    ensures { λ r. ⌜ Written (now (out .entry)) (now (out .exit)) count r 4 (cond (sign.has values s) (spec.setsWith old s) []) ⌝ }
+fn stored_sign(old: u8, values: u8, s: Sign, others: u64) -> u64
+    requires { ⌜ others < 4294967296 ⌝ }
+    ensures { λ r. ⌜ Before (cond (sign.has values s) (spec.setsWith old s) []) 4096 149175 others r ⌝ }
 {
     if sets::has(values, s) {
-        return put_stored(out, count, old, s);
+        return stored(old, s, others);
     }
-    count
+    others
+}
+
+// The sets of a name; a name past the last of 32 changes nothing.
+fn of_name(x: u16, sets: u64) -> u64
+    requires { ⌜ sets < 72057594037927936 ⌝ }
+    ensures { λ r. ⌜ r ≡ 64 * sets + nameFor x ⌝ }
+{
+    if x < NAMES_MOST {
+        return 64 * sets + x as u64;
+    }
+    64 * sets + NAMES_MOST as u64
 }
 
 // Variable `x` with each sign of its value.
-fn assigned_sets(x: u16, values: u8) -> Changes
-    ensures { λ r. ⌜ Lists x (spec.assignedSets values) r ⌝ }
+fn assigned_sets(x: u16, values: u8) -> u64
+    ensures { λ r. ⌜ r ≡ 64 * packed (spec.assignedSets values) 0 + nameFor x ⌝ }
 {
-    let mut out = [0u8; 12];
-    let a = put_single(&mut out, 0, values, Sign::Minus);
-    let b = put_single(&mut out, a, values, Sign::Zero);
-    let c = put_single(&mut out, b, values, Sign::Plus);
-    Changes {
-        name: x,
-        count: c,
-        sets: out,
-    }
+    let plus = single(values, Sign::Plus, 0);
+    let zero = single(values, Sign::Zero, plus);
+    let minus = single(values, Sign::Minus, zero);
+    of_name(x, minus)
 }
 
 // Array `x` after a store of a value of these signs.
-fn stored_sets(x: u16, old: u8, values: u8) -> Changes
-    ensures { λ r. ⌜ Lists x (spec.storedSets old values) r ⌝ }
+fn stored_sets(x: u16, old: u8, values: u8) -> u64
+    ensures { λ r. ⌜ r ≡ 64 * packed (spec.storedSets old values) 0 + nameFor x ⌝ }
 {
-    let mut out = [0u8; 12];
-    let a = put_stores(&mut out, 0, old, values, Sign::Minus);
-    let b = put_stores(&mut out, a, old, values, Sign::Zero);
-    let c = put_stores(&mut out, b, old, values, Sign::Plus);
-    Changes {
-        name: x,
-        count: c,
-        sets: out,
-    }
+    let plus = stored_sign(old, values, Sign::Plus, 0);
+    let zero = stored_sign(old, values, Sign::Zero, plus);
+    let minus = stored_sign(old, values, Sign::Minus, zero);
+    of_name(x, minus)
 }
 
-// The first name as it is, where that is a result.
-fn unchanged(rho: &[u8; 32], holds: bool) -> Changes
-    ensures { λ r. ⌜ Lists 0 (cond holds (getD (now (rho .entry)) 0 0 ∷ []) []) r ⌝ }
+// The abstract memory as it is, where that is a result: name 32 with one set.
+fn unchanged(holds: bool) -> u64
+    ensures { λ r. ⌜ r ≡ cond holds 96 32 ⌝ }
 {
-    let mut out = [0u8; 12];
-    let count = put(&mut out, 0, set_of(rho, 0), holds);
-    Changes {
-        name: 0,
-        count,
-        sets: out,
-    }
-}
-
-// x := a.
-fn assigned(
-    entries: &[u16; 4096],
-    table: &[[[u8; 8]; 8]; 5],
-    rho: &[u8; 32],
-    x: u16,
-    a: u16,
-) -> Changes
-    requires { ⌜ now table ≡ Grid.setTable ⌝ }
-    ensures { λ r. ⌜ ResultsIn (now (rho .entry)) (action.assigns x (arithAt (decodedEntry (now (entries .entry))) a)) r ⌝ }
-{
-    let values = arithmetic::signs(entries, table, rho, 512, a);
-    assigned_sets(x, values)
+    if holds { 96 } else { 32 }
 }
 
 // A[i] := a.
-fn element_stored(
-    entries: &[u16; 4096],
-    table: &[[[u8; 8]; 8]; 5],
-    rho: &[u8; 32],
-    x: u16,
-    i: u16,
-    a: u16,
-) -> Changes
-    requires { ⌜ now table ≡ Grid.setTable ⌝ }
-    ensures { λ r. ⌜ ResultsIn (now (rho .entry))
-        (action.stores x (arithAt (decodedEntry (now (entries .entry))) i) (arithAt (decodedEntry (now (entries .entry))) a)) r ⌝ }
+fn element_stored(code: &[u16; CODE], rho: &[u8; 32], x: u16, i: u16, a: u16) -> u64
+    ensures { λ r. ⌜ ((graph : List ℕ) → ResultsIn (now (rho .entry))
+        (action.stores x (arithAt (entriesIn (now (code .entry)) graph) i) (arithAt (entriesIn (now (code .entry)) graph) a)) r) ⌝ }
 {
-    let index = arithmetic::signs(entries, table, rho, 512, i);
+    let index = arithmetic::signs(code, rho, EXPRESSIONS, i);
     if may_index(index) {
-        let values = arithmetic::signs(entries, table, rho, 512, a);
+        let values = arithmetic::signs(code, rho, EXPRESSIONS, a);
         return stored_sets(x, set_of(rho, x), values);
     }
-    unchanged(rho, false)
+    unchanged(false)
 }
 
-// Command entry `n`.
-fn performed(entries: &[u16; 4096], table: &[[[u8; 8]; 8]; 5], rho: &[u8; 32], n: u16) -> Changes
-    requires { ⌜ now table ≡ Grid.setTable ⌝ }
-    ensures { λ r. ⌜ ResultsIn (now (rho .entry)) (action.performing (commandAt (decodedEntry (now (entries .entry))) n)) r ⌝ }
-{
-    let node = decoding::command_node(entries, 256, n);
-    match node {
-        CommandNode::Assign(x, a) => assigned(entries, table, rho, x, a),
-        CommandNode::Store(x, i, a) => element_stored(entries, table, rho, x, i, a),
-        _ => unchanged(rho, true),
-    }
-}
-
-// The results of the action of a kind and an entry.
-pub(crate) fn changes(
-    entries: &[u16; 4096],
-    table: &[[[u8; 8]; 8]; 5],
+// The results of an action.
+pub(crate) fn results(
+    code: &[u16; CODE],
+    graph: &[u16; GRAPH],
     rho: &[u8; 32],
-    kind: u8,
-    n: u16,
-) -> Changes
-    requires { ⌜ now table ≡ Grid.setTable ⌝ }
-    ensures { λ r. ⌜ ResultsIn (now (rho .entry)) (action.meaning (actionOf (decodedEntry (now (entries .entry))) kind n)) r ⌝ }
+    action: ActionNode,
+) -> u64
+    ensures { λ r. ⌜ ResultsIn (now (rho .entry)) (decodedMeaning (entriesIn (now (code .entry)) (now (graph .entry))) action) r ⌝ }
 {
-    match kind {
-        1 => performed(entries, table, rho, n),
-        2 => {
-            let t = condition::truths(entries, table, rho, 256, n);
-            unchanged(rho, t.holds)
+    match action {
+        ActionNode::Nothing => unchanged(true),
+        ActionNode::Assign(x, a) => {
+            let values = arithmetic::signs(code, rho, EXPRESSIONS, a);
+            assigned_sets(x, values)
         }
-        3 => {
-            let t = condition::exit_truths(entries, table, rho, 256, n);
-            unchanged(rho, t.holds)
+        ActionNode::Store(x, i, a) => element_stored(code, rho, x, i, a),
+        ActionNode::Holds(n) => {
+            let t = condition::truths(code, rho, CONDITIONS, n);
+            unchanged(t.holds)
         }
-        _ => unchanged(rho, true),
+        ActionNode::Exit(n) => {
+            let t = condition::exit_truths(code, graph, rho, COMMANDS, n);
+            unchanged(t.holds)
+        }
     }
+}
+
+// The name of results.
+pub(crate) fn name_of(results: u64) -> u16
+    ensures { λ r. ⌜ r ≡ results % 64 ⌝ }
+{
+    (results % 64) as u16
+}
+
+// Their sets, as digits.
+pub(crate) fn sets_of(results: u64) -> u64
+    ensures { λ r. ⌜ r ≡ results / 64 ⌝ }
+{
+    results / 64
+}
+
+// The first of these sets.
+pub(crate) fn first_set(sets: u64) -> u8
+    ensures { λ r. ⌜ r ≡ sets % 8 ⌝ }
+{
+    (sets % 8) as u8
+}
+
+// The others.
+pub(crate) fn other_sets(sets: u64) -> u64
+    ensures { λ r. ⌜ r ≡ sets / 8 ⌝ }
+{
+    sets / 8
 }

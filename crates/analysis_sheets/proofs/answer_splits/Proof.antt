@@ -39,14 +39,4 @@ returns c = search needs
 pub answer-splits-spec : {M : Type 1} → statement M
 answer-splits-spec =
     tie.close
-    (tie.spec
-    Inv-loop
-    μ-loop
-    loop-holds
-    mul-long-at
-    long-at-requires
-    answer-split-requires
-    add-i
-    loop-less
-    loop-again
-    returns)
+    (tie.spec Inv-loop μ-loop loop-holds mul-long-at long-at-requires answer-split-requires add-i loop-less loop-again returns)

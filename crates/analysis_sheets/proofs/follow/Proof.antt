@@ -49,17 +49,5 @@ returns c = search needs
 pub follow-spec : {M : Type 1} → statement M
 follow-spec =
     tie.close
-    (tie.spec
-    Inv-loop
-    μ-loop
-    call-count-requires
-    fresh-requires
-    loop-holds
-    word-at-requires
-    step-looked-up-requires
-    farther-requires
-    add-i
-    loop-less
-    loop-again
-    same-length
+    (tie.spec Inv-loop μ-loop call-count-requires fresh-requires loop-holds word-at-requires step-looked-up-requires farther-requires add-i loop-less loop-again same-length
     returns)

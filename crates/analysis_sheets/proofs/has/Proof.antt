@@ -41,15 +41,4 @@ returns c = search needs
 pub has-spec : {M : Type 1} → statement M
 has-spec =
     tie.close
-    (tie.spec
-    Inv-loop
-    μ-loop
-    record-count-requires
-    loop-holds
-    place-requires
-    same-at-requires
-    farther-requires
-    add-k
-    loop-less
-    loop-again
-    returns)
+    (tie.spec Inv-loop μ-loop record-count-requires loop-holds place-requires same-at-requires farther-requires add-k loop-less loop-again returns)

@@ -43,15 +43,4 @@ returns c = search needs
 pub lay-once-spec : {M : Type 1} → statement M
 lay-once-spec =
     tie.close
-    (tie.spec
-    Inv-loop
-    μ-loop
-    loop-holds
-    shared-slice-read-set-byte
-    set-byte-requires
-    farther-requires
-    add-i
-    loop-less
-    loop-again
-    same-length
-    returns)
+    (tie.spec Inv-loop μ-loop loop-holds shared-slice-read-set-byte set-byte-requires farther-requires add-i loop-less loop-again same-length returns)

@@ -36,13 +36,4 @@ returns c = search needs
 pub print-records-spec : {M : Type 1} → statement M
 print-records-spec =
     tie.close
-    (tie.spec
-    Inv-loop
-    μ-loop
-    loop-holds
-    shared-slice-read-print-byte
-    print-byte-requires
-    add-i
-    loop-less
-    loop-again
-    returns)
+    (tie.spec Inv-loop μ-loop loop-holds shared-slice-read-print-byte print-byte-requires add-i loop-less loop-again returns)

@@ -38,14 +38,4 @@ returns c = search needs
 pub same-at-spec : {M : Type 1} → statement M
 same-at-spec =
     tie.close
-    (tie.spec
-    Inv-loop
-    μ-loop
-    loop-holds
-    byte-at-requires
-    byte-at-requires-2
-    farther-requires
-    add-i
-    loop-less
-    loop-again
-    returns)
+    (tie.spec Inv-loop μ-loop loop-holds byte-at-requires byte-at-requires-2 farther-requires add-i loop-less loop-again returns)

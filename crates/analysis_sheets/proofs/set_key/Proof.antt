@@ -43,15 +43,4 @@ returns c = search needs
 pub set-key-spec : {M : Type 1} → statement M
 set-key-spec =
     tie.close
-    (tie.spec
-    Inv-loop
-    μ-loop
-    loop-holds
-    place-requires
-    record-byte-requires
-    set-byte-requires
-    add-i
-    loop-less
-    loop-again
-    same-length
-    returns)
+    (tie.spec Inv-loop μ-loop loop-holds place-requires record-byte-requires set-byte-requires add-i loop-less loop-again same-length returns)

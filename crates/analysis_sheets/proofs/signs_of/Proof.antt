@@ -35,13 +35,4 @@ returns c = search needs
 pub signs-of-spec : {M : Type 1} → statement M
 signs-of-spec =
     tie.close
-    (tie.spec
-    Inv-loop
-    μ-loop
-    loop-holds
-    cell-sign-requires
-    farther-requires
-    add-k
-    loop-less
-    loop-again
-    returns)
+    (tie.spec Inv-loop μ-loop loop-holds cell-sign-requires farther-requires add-k loop-less loop-again returns)

@@ -27,10 +27,4 @@ returns-2 c = search needs
 pub solve-part-spec : {M : Type 1} → statement M
 solve-part-spec =
     tie.close
-    (tie.spec
-    slice-relend-prefix-answer-room
-    slice-aggregate-answer-room
-    answer-room-requires
-    same-length
-    returns
-    returns-2)
+    (tie.spec slice-relend-prefix-answer-room slice-aggregate-answer-room answer-room-requires same-length returns returns-2)

@@ -43,15 +43,4 @@ returns c = search needs
 pub set-cells-spec : {M : Type 1} → statement M
 set-cells-spec =
     tie.close
-    (tie.spec
-    Inv-loop
-    μ-loop
-    loop-holds
-    cell-at-requires
-    mul-t4
-    slice-set-from-memory
-    add-i
-    loop-less
-    loop-again
-    same-length
-    returns)
+    (tie.spec Inv-loop μ-loop loop-holds cell-at-requires mul-t4 slice-set-from-memory add-i loop-less loop-again same-length returns)

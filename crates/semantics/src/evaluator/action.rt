@@ -1,34 +1,37 @@
-// The effects of actions on a memory, over a decoded program.
+// What actions do to a memory, over a prepared program.
+use super::MEMORY;
 use super::arithmetic;
 use super::condition;
-use super::first_cell;
+use super::indexed;
 use super::is_fault;
-use super::size_of;
 use crate::Effect;
 use crate::Fault;
-use program::CommandNode;
-use program::decoding;
+use program::ActionNode;
+use program::prepared;
+use program::prepared::CELLS_MOST;
+use program::prepared::CODE;
+use program::prepared::COMMANDS;
+use program::prepared::CONDITIONS;
+use program::prepared::EXPRESSIONS;
+use program::prepared::GRAPH;
 use signs::Reason;
 ghost use mathlib.Core.Path.{_≡_};
 ghost use mathlib.Core.Bool.{true};
 ghost use mathlib.Core.List.{List};
-ghost use Prim.Native.Nat.{ℕ, _+_, _-_, _<_, _≤_};
+ghost use Prim.Native.Nat.{ℕ, _+_, _-_, _<_};
 ghost use lib.Dec.{T};
 ghost use lib.IntN.{pos, natAbs};
 ghost use lib.Signed.{leZ};
-ghost use Rattle.program.specs.Decoding.{NamesIn, decodedEntry};
-ghost use Rattle.program.specs.File.{cellCount};
-ghost use Rattle.program.specs.Graph.{perform, actionOf};
-ghost use Rattle.program.specs.Sorted.{isArray};
-ghost use Rattle.program.specs.Syntax as syntax;
-ghost use Rattle.program.specs.Tree.{arithAt, commandAt};
+ghost use Rattle.program.specs.Meaning.{assigns, stores};
+ghost use Rattle.program.specs.Prepared as made;
+ghost use Rattle.program.specs.Tree.{arithAt};
 ghost use Rattle.semantics.specs.Action as spec;
-ghost use Rattle.semantics.specs.Coding as code;
+ghost use Rattle.semantics.specs.Coding as coding;
 ghost use Rattle.semantics.specs.Expression as expression;
 
 // The reason with a number of document 01.
 fn reason_numbered(k: usize) -> Reason
-    ensures { λ r. ⌜ r ≡ code.reasonNumbered k ⌝ }
+    ensures { λ r. ⌜ r ≡ coding.reasonNumbered k ⌝ }
 {
     if k <= 31 {
         return Reason::ConditionFalse;
@@ -51,14 +54,14 @@ fn undefined(reason: Reason) -> Effect
 // A fault, as an effect.
 fn failure(v: i64) -> Effect
     requires { ⌜ leZ (pos 4294967296) v ≡ true ⌝ }
-    ensures { λ r. ⌜ r ≡ Effect.Undefined (expression.fault (code.reasonNumbered (natAbs v - 4294967296))) ⌝ }
+    ensures { λ r. ⌜ r ≡ Effect.Undefined (expression.fault (coding.reasonNumbered (natAbs v - 4294967296))) ⌝ }
 {
     undefined(reason_numbered(v as usize - 4294967296))
 }
 
 // What a condition does, by its truth.
 fn passed(v: i64) -> Effect
-    ensures { λ r. ⌜ r ≡ spec.pass (code.decided v) ⌝ }
+    ensures { λ r. ⌜ r ≡ spec.pass (coding.decided v) ⌝ }
 {
     if is_fault(v) {
         return failure(v);
@@ -72,8 +75,8 @@ fn passed(v: i64) -> Effect
 
 // A value stored to a cell.
 fn stored(c: usize, v: i64) -> Effect
-    requires { ⌜ T (code.isCode v) ⌝ }
-    ensures { λ r. ⌜ r ≡ spec.storeTo (expression.at c) (code.evaluated v) ⌝ }
+    requires { ⌜ T (coding.isCode v) ⌝ }
+    ensures { λ r. ⌜ r ≡ spec.storeTo (expression.at c) (coding.evaluated v) ⌝ }
 {
     if is_fault(v) {
         return failure(v);
@@ -84,135 +87,118 @@ fn stored(c: usize, v: i64) -> Effect
     }
 }
 
-// The cell i after c, where it is one of 512.
+// The cell i after c, where it is one of a memory's.
 fn shifted(c: usize, i: usize) -> usize
-    ensures { λ r. ⌜ (c + i < 512 → r ≡ c + i) ⌝ }
+    requires { ⌜ i < 65536 ⌝ }
+    ensures { λ r. ⌜ (c + i < made.cellsMost → r ≡ c + i) ⌝ }
 {
-    if 512 <= c {
-        return 0;
-    }
-    if 512 <= i { 0 } else { c + i }
+    if CELLS_MOST <= c { 0 } else { c + i }
 }
 
-// A value stored to an element of an array, by the index's value.
-fn store_to(cells: &[usize; 32], sizes: &[u16; 32], x: u16, index: i64, value: i64) -> Effect
-    requires { ⌜ T (code.isCode value) ⌝ }
-    ensures { λ r. ⌜ ((ns : List ℕ) → NamesIn ns (now (sizes .entry)) (now (cells .entry)) → cellCount ns ≤ 512 → T (isArray ns x)
-        → r ≡ spec.storeTo (expression.placeOf ns x (code.evaluated index)) (code.evaluated value)) ⌝ }
+// The index of a store, as one number.
+fn store_index(code: &[u16; CODE], memory: &[i32; MEMORY], x: u16, i: u16) -> i64
+    ensures { λ r. ⌜ ((graph : List ℕ) → coding.IndexIn (now (code .entry)) (now (memory .entry)) x (arithAt (made.entriesIn (now (code .entry)) graph) i) r) ⌝ }
 {
-    if is_fault(index) {
-        return failure(index);
-    }
-    if index < 0 {
-        return undefined(Reason::IndexNegative);
-    }
-    let i = index as usize;
-    if size_of(sizes, x) <= i {
-        return undefined(Reason::IndexTooLarge);
-    }
-    stored(shifted(first_cell(cells, x), i), value)
+    let v = arithmetic::operand(code, memory, EXPRESSIONS, i);
+    indexed(prepared::size_of(code, x), v)
 }
 
 // x := a.
-fn assigned(
-    entries: &[u16; 4096],
-    cells: &[usize; 32],
-    sizes: &[u16; 32],
-    memory: &[i32; 512],
-    x: u16,
-    a: u16,
-) -> Effect
-    ensures { λ r. ⌜ ((k : ℕ) → code.EffectIn (now (sizes .entry)) (now (cells .entry)) (now (memory .entry))
-        (perform (syntax.assign k x (arithAt (decodedEntry (now (entries .entry))) a))) r) ⌝ }
+fn assigned(code: &[u16; CODE], memory: &[i32; MEMORY], x: u16, a: u16) -> Effect
+    ensures { λ r. ⌜ ((graph : List ℕ) → coding.EffectIn (now (code .entry)) (now (memory .entry))
+        (assigns x (arithAt (made.entriesIn (now (code .entry)) graph) a)) r) ⌝ }
 {
-    let v = arithmetic::value(entries, cells, sizes, memory, 512, a);
-    stored(first_cell(cells, x), v)
+    let v = arithmetic::value(code, memory, EXPRESSIONS, a);
+    stored(prepared::first_cell(code, x), v)
 }
 
 // A[i] := a.
-fn element_stored(
-    entries: &[u16; 4096],
-    cells: &[usize; 32],
-    sizes: &[u16; 32],
-    memory: &[i32; 512],
-    x: u16,
-    i: u16,
-    a: u16,
-) -> Effect
-    ensures { λ r. ⌜ ((k : ℕ) → code.EffectIn (now (sizes .entry)) (now (cells .entry)) (now (memory .entry))
-        (perform (syntax.store k x (arithAt (decodedEntry (now (entries .entry))) i) (arithAt (decodedEntry (now (entries .entry))) a))) r) ⌝ }
+fn element_stored(code: &[u16; CODE], memory: &[i32; MEMORY], x: u16, i: u16, a: u16) -> Effect
+    ensures { λ r. ⌜ ((graph : List ℕ) → coding.EffectIn (now (code .entry)) (now (memory .entry))
+        (stores x (arithAt (made.entriesIn (now (code .entry)) graph) i) (arithAt (made.entriesIn (now (code .entry)) graph) a)) r) ⌝ }
 {
-    let v = arithmetic::operand(entries, cells, sizes, memory, 512, i);
-    let w = arithmetic::operand(entries, cells, sizes, memory, 512, a);
-    store_to(cells, sizes, x, v, w)
-}
-
-// Command entry `n`.
-fn performed(
-    entries: &[u16; 4096],
-    cells: &[usize; 32],
-    sizes: &[u16; 32],
-    memory: &[i32; 512],
-    n: u16,
-) -> Effect
-    ensures { λ r. ⌜ code.EffectIn (now (sizes .entry)) (now (cells .entry)) (now (memory .entry))
-        (perform (commandAt (decodedEntry (now (entries .entry))) n)) r ⌝ }
-{
-    let node = decoding::command_node(entries, 256, n);
-    match node {
-        CommandNode::Assign(x, a) => assigned(entries, cells, sizes, memory, x, a),
-        CommandNode::Store(x, i, a) => element_stored(entries, cells, sizes, memory, x, i, a),
-        _ => Effect::Unchanged,
+    let index = store_index(code, memory, x, i);
+    let v = arithmetic::operand(code, memory, EXPRESSIONS, a);
+    if is_fault(index) {
+        return failure(index);
     }
+    stored(shifted(prepared::first_cell(code, x), index as usize), v)
 }
 
-// What the action of a kind and an entry does.
+// What an action does to a memory.
 pub(crate) fn effect(
-    entries: &[u16; 4096],
-    cells: &[usize; 32],
-    sizes: &[u16; 32],
-    memory: &[i32; 512],
-    kind: u8,
-    n: u16,
+    code: &[u16; CODE],
+    graph: &[u16; GRAPH],
+    memory: &[i32; MEMORY],
+    action: ActionNode,
 ) -> Effect
-    ensures { λ r. ⌜ code.EffectIn (now (sizes .entry)) (now (cells .entry)) (now (memory .entry))
-        (actionOf (decodedEntry (now (entries .entry))) kind n) r ⌝ }
+    ensures { λ r. ⌜ coding.EffectIn (now (code .entry)) (now (memory .entry))
+        (made.decodedMeaning (made.entriesIn (now (code .entry)) (now (graph .entry))) action) r ⌝ }
 {
-    match kind {
-        1 => performed(entries, cells, sizes, memory, n),
-        2 => passed(condition::truth(entries, cells, sizes, memory, 256, n)),
-        3 => passed(condition::exit(entries, cells, sizes, memory, 256, n)),
-        _ => Effect::Unchanged,
+    match action {
+        ActionNode::Nothing => Effect::Unchanged,
+        ActionNode::Assign(x, a) => assigned(code, memory, x, a),
+        ActionNode::Store(x, i, a) => element_stored(code, memory, x, i, a),
+        ActionNode::Holds(n) => passed(condition::truth(code, memory, CONDITIONS, n)),
+        ActionNode::Exit(n) => passed(condition::exit(code, graph, memory, COMMANDS, n)),
     }
 }
 
-// What a condition does, by its truth, where it does not matter why it is undefined.
-fn held(v: i64) -> Effect
-    ensures { λ r. ⌜ code.Alike r (spec.pass (code.decided v)) ⌝ }
+// Puts a value into a cell, past the end nowhere; whether it is one.
+fn put(memory: &mut [i32], c: usize, v: i64) -> bool
+    requires { ⌜ T (coding.isCode v) ⌝ }
+    ensures { λ r. ⌜ coding.Follows (now (memory .entry)) (spec.storeTo (expression.at c) (coding.evaluated v)) r (now (memory .exit)) ⌝ }
 {
-    if v == 1 {
-        Effect::Unchanged
-    } else {
-        undefined(Reason::ConditionFalse)
+    if is_fault(v) {
+        return false;
     }
+    if c < memory.len() {
+        memory[c] = v as i32;
+    }
+    true
 }
 
-// What the action of a kind and an entry does, where it does not matter why it is undefined: a run asks only whether it is defined.
-pub(crate) fn attempt(
-    entries: &[u16; 4096],
-    cells: &[usize; 32],
-    sizes: &[u16; 32],
-    memory: &[i32; 512],
-    kind: u8,
-    n: u16,
-) -> Effect
-    ensures { λ r. ⌜ code.Attempted (now (sizes .entry)) (now (cells .entry)) (now (memory .entry))
-        (actionOf (decodedEntry (now (entries .entry))) kind n) r ⌝ }
+// Performs x := a, where it is defined; whether it is.
+fn assign(code: &[u16; CODE], memory: &mut [i32; MEMORY], x: u16, a: u16) -> bool
+    ensures { λ r. ⌜ ((graph : List ℕ) → coding.Performs (now (code .entry)) (now (memory .entry))
+        (assigns x (arithAt (made.entriesIn (now (code .entry)) graph) a)) r (now (memory .exit))) ⌝ }
 {
-    match kind {
-        1 => performed(entries, cells, sizes, memory, n),
-        2 => held(condition::truth(entries, cells, sizes, memory, 256, n)),
-        3 => held(condition::exit(entries, cells, sizes, memory, 256, n)),
-        _ => Effect::Unchanged,
+    let v = arithmetic::value(code, memory, EXPRESSIONS, a);
+    put(memory, prepared::first_cell(code, x), v)
+}
+
+// Performs A[i] := a, where it is defined; whether it is.
+fn store_element(code: &[u16; CODE], memory: &mut [i32; MEMORY], x: u16, i: u16, a: u16) -> bool
+    ensures { λ r. ⌜ ((graph : List ℕ) → coding.Performs (now (code .entry)) (now (memory .entry))
+        (stores x (arithAt (made.entriesIn (now (code .entry)) graph) i) (arithAt (made.entriesIn (now (code .entry)) graph) a)) r (now (memory .exit))) ⌝ }
+{
+    let k = store_index(code, memory, x, i);
+    if is_fault(k) {
+        return false;
+    }
+    let v = arithmetic::operand(code, memory, EXPRESSIONS, a);
+    put(
+        memory,
+        shifted(prepared::first_cell(code, x), k as usize),
+        v,
+    )
+}
+
+// Performs an action, where it is defined; whether it is.
+pub(crate) fn perform(
+    code: &[u16; CODE],
+    graph: &[u16; GRAPH],
+    memory: &mut [i32; MEMORY],
+    action: ActionNode,
+) -> bool
+    ensures { λ r. ⌜ coding.Performs (now (code .entry)) (now (memory .entry))
+        (made.decodedMeaning (made.entriesIn (now (code .entry)) (now (graph .entry))) action) r (now (memory .exit)) ⌝ }
+{
+    match action {
+        ActionNode::Nothing => true,
+        ActionNode::Assign(x, a) => assign(code, memory, x, a),
+        ActionNode::Store(x, i, a) => store_element(code, memory, x, i, a),
+        ActionNode::Holds(n) => condition::holds(code, memory, n) == 1,
+        ActionNode::Exit(n) => condition::exit(code, graph, memory, COMMANDS, n) == 1,
     }
 }

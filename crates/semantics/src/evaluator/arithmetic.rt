@@ -1,62 +1,52 @@
-// The values of arithmetic expressions in a memory, over a decoded program.
+// The values of arithmetic expressions in a memory, over a prepared program.
+use super::MEMORY;
+use super::cell_value;
 use super::element;
 use super::is_fault;
 use super::operate;
-use super::variable;
-use program::ArithNode;
-use program::decoding;
-ghost use Rattle.program.specs.Decoding.{decodedEntry};
+use program::CellNode;
+use program::prepared;
+use program::prepared::CODE;
+ghost use mathlib.Core.List.{List};
+ghost use Prim.Native.Nat.{ℕ};
+ghost use Rattle.program.specs.Prepared.{entriesIn};
 ghost use Rattle.program.specs.Tree.{arithBelow, arithTrees};
 ghost use Rattle.semantics.specs.Coding.{ValueIn};
 
 // The value of arithmetic entry `n`, a part of entry `bound`, as one number.
-pub(crate) fn value(
-    entries: &[u16; 4096],
-    cells: &[usize; 32],
-    sizes: &[u16; 32],
-    memory: &[i32; 512],
-    bound: u16,
-    n: u16,
-) -> i64
-    ensures { λ r. ⌜ ValueIn (now (sizes .entry)) (now (cells .entry)) (now (memory .entry))
-        (arithBelow (arithTrees (decodedEntry (now (entries .entry))) bound) n) r ⌝ }
+pub(crate) fn value(code: &[u16; CODE], memory: &[i32; MEMORY], bound: u16, n: u16) -> i64
+    ensures { λ r. ⌜ ((graph : List ℕ) → ValueIn (now (code .entry)) (now (memory .entry))
+        (arithBelow (arithTrees (entriesIn (now (code .entry)) graph) bound) n) r) ⌝ }
 {
-    let node = decoding::arith_node(entries, bound, n);
+    let node = prepared::cell_node(code, bound, n);
     match node {
-        ArithNode::Number(z) => z as i64,
-        ArithNode::Variable(x) => variable(cells, memory, x),
-        ArithNode::Element(x, i) => {
-            let v = operand(entries, cells, sizes, memory, n, i);
-            element(cells, sizes, memory, x, v)
+        CellNode::Zero => 0,
+        CellNode::Cell(c) => cell_value(memory, c as usize),
+        CellNode::Element(x, i) => {
+            let v = operand(code, memory, n, i);
+            element(code, memory, x, v)
         }
-        ArithNode::Operator(o, p, q) => {
-            let a = operand(entries, cells, sizes, memory, n, p);
+        CellNode::Operator(o, p, q) => {
+            let a = operand(code, memory, n, p);
             if is_fault(a) {
                 return a;
             }
-            let b = operand(entries, cells, sizes, memory, n, q);
+            let b = operand(code, memory, n, q);
             operate(o, a, b)
         }
     }
 }
 
 // The same of an entry that is often a leaf: a number or a variable is read where it stands, without a call.
-pub(crate) fn operand(
-    entries: &[u16; 4096],
-    cells: &[usize; 32],
-    sizes: &[u16; 32],
-    memory: &[i32; 512],
-    bound: u16,
-    n: u16,
-) -> i64
-    ensures { λ r. ⌜ ValueIn (now (sizes .entry)) (now (cells .entry)) (now (memory .entry))
-        (arithBelow (arithTrees (decodedEntry (now (entries .entry))) bound) n) r ⌝ }
+pub(crate) fn operand(code: &[u16; CODE], memory: &[i32; MEMORY], bound: u16, n: u16) -> i64
+    ensures { λ r. ⌜ ((graph : List ℕ) → ValueIn (now (code .entry)) (now (memory .entry))
+        (arithBelow (arithTrees (entriesIn (now (code .entry)) graph) bound) n) r) ⌝ }
 {
-    let node = decoding::arith_node(entries, bound, n);
+    let node = prepared::cell_node(code, bound, n);
     match node {
-        ArithNode::Number(z) => z as i64,
-        ArithNode::Variable(x) => variable(cells, memory, x),
-        ArithNode::Element(_, _) => value(entries, cells, sizes, memory, bound, n),
-        ArithNode::Operator(_, _, _) => value(entries, cells, sizes, memory, bound, n),
+        CellNode::Zero => 0,
+        CellNode::Cell(c) => cell_value(memory, c as usize),
+        CellNode::Element(_, _) => value(code, memory, bound, n),
+        CellNode::Operator(_, _, _) => value(code, memory, bound, n),
     }
 }

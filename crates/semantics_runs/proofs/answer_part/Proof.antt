@@ -28,10 +28,4 @@ returns-2 c = search needs
 pub answer-part-spec : {M : Type 1} → statement M
 answer-part-spec =
     tie.close
-    (tie.spec
-    slice-relend-prefix-answer-lent
-    slice-aggregate-answer-lent
-    answer-lent-requires
-    same-length
-    returns
-    returns-2)
+    (tie.spec slice-relend-prefix-answer-lent slice-aggregate-answer-lent answer-lent-requires same-length returns returns-2)

@@ -39,14 +39,4 @@ returns c = search needs
 pub mix-cells-spec : {M : Type 1} → statement M
 mix-cells-spec =
     tie.close
-    (tie.spec
-    Inv-loop
-    μ-loop
-    loop-holds
-    mul-mix-cell
-    shared-slice-copy-out-mix-cell
-    mix-cell-requires
-    add-i
-    loop-less
-    loop-again
-    returns)
+    (tie.spec Inv-loop μ-loop loop-holds mul-mix-cell shared-slice-copy-out-mix-cell mix-cell-requires add-i loop-less loop-again returns)

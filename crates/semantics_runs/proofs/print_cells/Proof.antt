@@ -39,14 +39,4 @@ returns c = search needs
 pub print-cells-spec : {M : Type 1} → statement M
 print-cells-spec =
     tie.close
-    (tie.spec
-    Inv-loop
-    μ-loop
-    loop-holds
-    mul-print-cell
-    shared-slice-copy-out-print-cell
-    print-cell-requires
-    add-i
-    loop-less
-    loop-again
-    returns)
+    (tie.spec Inv-loop μ-loop loop-holds mul-print-cell shared-slice-copy-out-print-cell print-cell-requires add-i loop-less loop-again returns)

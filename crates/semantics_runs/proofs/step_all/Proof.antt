@@ -43,15 +43,4 @@ returns c = search needs
 pub step-all-spec : {M : Type 1} → statement M
 step-all-spec =
     tie.close
-    (tie.spec
-    Inv-loop
-    μ-loop
-    loop-holds
-    mul-word-at
-    word-at-requires
-    step-told-requires
-    add-i
-    loop-less
-    loop-again
-    same-length
-    returns)
+    (tie.spec Inv-loop μ-loop loop-holds mul-word-at word-at-requires step-told-requires add-i loop-less loop-again same-length returns)

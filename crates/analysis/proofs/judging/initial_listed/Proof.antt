@@ -1,23 +1,36 @@
 -- `judging::initial_listed`: the start record is read, and looked for as it is.
-use borrow.Author.Needs.{needs}
-use native.Mathlib.Nat.{mul-le-mul}
 use native.Mathlib.Omega.{arith}
 use mathlib.Core.Path.{ap, _∙_}
-use Rattle.analysis.specs.Records.{hasAt}
+use Prim.Native.Nat.{_+_, _*_, _≤_}
+use lib.ListN.{length}
+use Rattle.analysis.specs.Records.{hasAt, recordCount}
+use Rattle.analysis.proofs.Laid.{record-inside}
 use Rattle.analysis.proofs.Searching.{start-read, start-unchanged}
 use Rattle.analysis.proofs.judging.initial_listed.Statement.{statement}
 use Rattle.analysis.proofs.judging.initial_listed.Tie as tie
 
-mul-read-memory : tie.Need-mul-read-memory
-mul-read-memory c =
-    let s = c .before .before .before in
-    record { fits = omega (arith, mul-le-mul (s .pre .few) (s .fits .k .fits)) }
+-- the record is inside the list
+inside : (c : tie.Start) → c .args .names * c .args .k + c .args .names ≤ length (c .args .initial .now)
+unfolding recordCount
+inside c = record-inside _ _ _ (c .pre .2)
+
+mul-at : tie.Need-mul-at
+mul-at c = record { fits = omega (arith, inside (c .before .before)) }
+
+weight-requires : tie.Need-weight-requires
+weight-requires c κs = let s = c .before .before .before .before in (s .pre .0 .factored, s .pre .1, inside s)
+
+listed-requires : tie.Need-listed-requires
+listed-requires c κs =
+    let w = c .before in
+    record { count = _; indexed = w .before .before .before .before .before .pre .0; weighed = rw (w .before .read-memory .ensures) (w .weight .ensures) }
 
 returns : tie.Need-returns
-returns c ns count x h =
-    let s = c .before .before .before .before .before .before in
-    let read = c .before .before .read-memory .ensures in
-    c .listed .ensures ns count _ x (start-read x (s .pre .few) _ _ h _ read) ∙ ap (hasAt ns (s .args .solution .now) 0) (start-unchanged x (s .pre .few) _ _ h _ read)
+returns c ns e =
+    let r = c .before .before .before in
+    let s = r .before .before .before .before in
+    c .listed .ensures ns _ e (s .pre .0) (start-read ns e (s .pre .1) _ _ (s .pre .2) _ (r .read-memory .ensures))
+    ∙ ap (hasAt ns (s .args .solution .now) 0) (start-unchanged ns e (s .pre .1) _ _ (s .pre .2) _ (r .read-memory .ensures) 0)
 
 pub initial-listed-spec : {M : Type 1} → statement M
-initial-listed-spec = tie.close (tie.spec mul-read-memory (λ c κs. search needs) (λ c. search needs) (λ c κs. search needs) returns)
+initial-listed-spec = tie.close (tie.spec mul-at (λ c κs. let s = c .before .before .before in (s .pre .1, inside s)) weight-requires listed-requires returns)

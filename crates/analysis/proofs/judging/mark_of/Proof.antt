@@ -1,11 +1,19 @@
--- `judging::mark_of`: by the spot's cases.
+-- `judging::mark_of`: what is found, or nothing.
 use borrow.Author.Needs.{needs}
-use Rattle.analysis.specs.Verdict.{markOf}
+use mathlib.Core.Path.{sym, ap, _∙_}
+use Rattle.analysis.specs.Judging.{picks}
+use Rattle.analysis.specs.Verdict.{markOf, indexMark}
+use Rattle.analysis.proofs.Widest.{none-negative}
 use Rattle.analysis.proofs.judging.mark_of.Statement.{statement}
 use Rattle.analysis.proofs.judging.mark_of.Tie as tie
 
+returns : tie.Need-returns
+unfolding indexMark picks
+returns c ns g x = c .mark-at .ensures ∙ ap markOf (c .before .first-spot .ensures ns g x)
+
+returns-2 : tie.Need-returns-2
+unfolding indexMark picks markOf
+returns-2 c ns g x = sym (ap markOf (none-negative (x .prepared) _ (c .before .ever-negative .ensures (c .if1 .left))))
+
 pub mark-of-spec : {M : Type 1} → statement M
-unfolding markOf
-mark-of-spec =
-    tie.close
-    (tie.spec (λ c. search needs) (λ c. search needs) (λ c. rw (c .before .spot .given .1)) (λ c. rw (c .enum-told .given .1)))
+mark-of-spec = tie.close (tie.spec (λ c κs. search needs) (λ c κs. search needs) (λ c κs. search needs) returns returns-2)

@@ -14,10 +14,10 @@ use Rattle.analysis.proofs.lists.all_formed.Statement.{statement}
 use Rattle.analysis.proofs.lists.all_formed.Tie as tie
 
 abbrev Inv-loop : tie.InvT-loop
-Inv-loop sizes names bytes at formed₀ i₀ formed i = (i ≤ names) × (formed ≡ true → askEach i (byteAsked sizes bytes at) ≡ Fit)
+Inv-loop code names bytes at formed₀ i₀ formed i = (i ≤ names) × (formed ≡ true → askEach i (byteAsked code bytes at) ≡ Fit)
 
 abbrev μ-loop : tie.MeasureT-loop
-μ-loop sizes names bytes at formed₀ i₀ formed i = names - i
+μ-loop code names bytes at formed₀ i₀ formed i = names - i
 
 both-true : (a b : Bool) → (a && b) ≡ true → (a ≡ true) × (b ≡ true)
 both-true true true p = (refl, refl)
@@ -33,7 +33,7 @@ unfolding byteAt
 loop-again c =
     let l = c .before .before .before .before .loop in
     let a = c .before .before .before .before .before .before .args in
-    (search needs, λ p. let two = both-true _ _ p in rw add-one (byte-passed (a .sizes .now) (a .bytes .now) (a .at) (l .i) (l .inv .1 (two .0)) (sym (c .byte-formed .ensures) ∙ two .1)))
+    (search needs, λ p. let two = both-true _ _ p in rw add-one (byte-passed (a .code .now) (a .bytes .now) (a .at) (l .i) (l .inv .1 (two .0)) (sym (c .byte-formed .ensures ∙ rw (c .before .before .size-of .ensures)) ∙ two .1)))
 
 returns : tie.Need-returns Inv-loop μ-loop
 returns c ns y p =
@@ -43,4 +43,4 @@ returns c ns y p =
 pub all-formed-spec : {M : Type 1} → statement M
 all-formed-spec =
     tie.close
-    (tie.spec Inv-loop μ-loop loop-holds (λ c. search needs) (λ c. search needs) (λ c. search needs) (λ c. search needs) (λ c κs. search needs) (λ c. search needs) (λ c. search needs) loop-again returns)
+    (tie.spec Inv-loop μ-loop loop-holds (λ c. search needs) (λ c κs. search needs) (λ c. search needs) (λ c. search needs) (λ c κs. search needs) (λ c. search needs) (λ c. search needs) loop-again returns)

@@ -14,15 +14,15 @@ use Rattle.analysis.proofs.lists.memory_formed.Statement.{statement}
 use Rattle.analysis.proofs.lists.memory_formed.Tie as tie
 
 abbrev Inv-loop : tie.InvT-loop
-Inv-loop sizes names bytes at i₀ i = (i ≤ names) × (askEach i (byteAsked sizes bytes at) ≡ Fit)
+Inv-loop code names bytes at i₀ i = (i ≤ names) × (askEach i (byteAsked code bytes at) ≡ Fit)
 
 abbrev μ-loop : tie.MeasureT-loop
-μ-loop sizes names bytes at i₀ i = names - i
+μ-loop code names bytes at i₀ i = names - i
 
 -- the question of the byte of name i
-asked : (c : tie.After-ask Inv-loop μ-loop) → let l = c .before .before .before .before .before in let a = l .before .before .before .before .args in c .ask .result ≡ byteAsked (a .sizes .now) (a .bytes .now) (a .at) (l .loop .i)
+asked : (c : tie.After-ask Inv-loop μ-loop) → let l = c .before .before .before .before .before in let a = l .before .before .before .before .args in c .ask .result ≡ byteAsked (a .code .now) (a .bytes .now) (a .at) (l .loop .i)
 unfolding byteAt
-asked c = c .ask .ensures ∙ rw (c .before .byte-formed .ensures)
+asked c = c .ask .ensures ∙ rw (c .before .byte-formed .ensures, c .before .before .before .size-of .ensures)
 
 loop-holds : tie.Need-loop-holds Inv-loop μ-loop
 unfolding askEach firstOf
@@ -47,4 +47,4 @@ returns-3 c ns y =
     rw (← memory-asked y _ _, ← le-antisymm (l .inv .0) (c .loop-test .left)) (sym (l .inv .1))
 
 pub memory-formed-spec : {M : Type 1} → statement M
-memory-formed-spec = tie.close (tie.spec Inv-loop μ-loop (λ c κs. search needs) returns loop-holds (λ c. search needs) (λ c. search needs) (λ c. search needs) (λ c. search needs) (λ c κs. search needs) (λ c. search needs) (λ c κs. search needs) (λ c κs. search needs) returns-2 (λ c. search needs) (λ c. search needs) loop-again returns-3)
+memory-formed-spec = tie.close (tie.spec Inv-loop μ-loop (λ c κs. search needs) returns loop-holds (λ c. search needs) (λ c κs. search needs) (λ c. search needs) (λ c. search needs) (λ c κs. search needs) (λ c. search needs) (λ c κs. search needs) (λ c κs. search needs) returns-2 (λ c. search needs) (λ c. search needs) loop-again returns-3)

@@ -9,22 +9,27 @@ use native.Mathlib.Omega.{arith}
 use lib.ListN.{length}
 use Rattle.program.specs.Asking.{askEach}
 use Rattle.program.specs.FirstSuch.{firstOf}
+use Rattle.program.specs.Prepared.{Coded}
 use Rattle.program.specs.declared.Validity.the-variants.{Fit}
 use Rattle.program.proofs.Laws.{each-stops, each-goes-on}
 use Rattle.analysis.specs.RecordParts.{SizesIn, recordFormed}
-use Rattle.analysis.proofs.Laid.{record-inside, solution-asked}
+use Rattle.analysis.proofs.Laid.{record-inside, solution-asked, sizes-in}
 use Rattle.analysis.proofs.lists.solution_formed.Statement.{statement}
 use Rattle.analysis.proofs.lists.solution_formed.Tie as tie
 
 abbrev Inv-loop : tie.InvT-loop
-Inv-loop sizes names nodes bytes width count k₀ k =
-    (k ≤ count) × ((ns : List ℕ) → SizesIn ns sizes names → askEach k (λ k. recordFormed ns nodes bytes ((2 + names) * k)) ≡ Fit)
+Inv-loop code nodes bytes names width count k₀ k =
+    (k ≤ count) × ((ns : List ℕ) → Coded ns code → askEach k (λ k. recordFormed ns nodes bytes ((2 + names) * k)) ≡ Fit)
 
 abbrev μ-loop : tie.MeasureT-loop
-μ-loop sizes names nodes bytes width count k₀ k = count - k
+μ-loop code nodes bytes names width count k₀ k = count - k
+
+-- the names' sizes are in the code
+sized : (c : tie.After-name-count Inv-loop μ-loop) (ns : List ℕ) → Coded ns (c .before .before .args .code .now) → SizesIn ns (c .before .before .args .code .now) (c .name-count .result)
+sized c ns y = sizes-in y _ (c .name-count .ensures)
 
 -- the record passed is inside the list
-inside : (c : tie.In-loop Inv-loop μ-loop) → let a = c .before .before .before .args in (2 + a .names) * c .before .loop .k + 2 + a .names ≤ length (a .bytes .now)
+inside : (c : tie.In-loop Inv-loop μ-loop) → let names = c .before .before .name-count .result in (2 + names) * c .before .loop .k + 2 + names ≤ length (c .before .before .before .before .args .bytes .now)
 inside c = omega (arith, record-inside _ _ (c .before .loop .k) (c .loop-test .taken))
 
 loop-holds : tie.Need-loop-holds Inv-loop μ-loop
@@ -35,25 +40,25 @@ mul-record-formed : tie.Need-mul-record-formed Inv-loop μ-loop
 mul-record-formed c = omega (arith, inside c)
 
 record-formed-requires : tie.Need-record-formed-requires Inv-loop μ-loop
-record-formed-requires c κs = (c .before .before .before .pre, inside c)
+record-formed-requires c κs = (rw (c .before .before .name-count .ensures) (c .before .before .before .before .pre), inside c)
 
 returns : tie.Need-returns Inv-loop μ-loop
 returns c ns g y e =
     let turn = c .before .before .before in
-    each-stops _ _ (turn .before .loop .k) _ _ (turn .loop-test .taken) (turn .before .loop .inv .1 ns y) (c .before .before .record-formed .ensures ns y) (c .before .refused .ensures) (c .if1 .taken) ∙ solution-asked y _ g e
+    each-stops _ _ (turn .before .loop .k) _ _ (turn .loop-test .taken) (turn .before .loop .inv .1 ns y) (c .before .before .record-formed .ensures ns (sized (turn .before .before) ns y)) (c .before .refused .ensures) (c .if1 .taken) ∙ solution-asked (sized (turn .before .before) ns y) _ g e
 
 add-k : tie.Need-add-k Inv-loop μ-loop
-add-k c = omega (arith, div-le-self (length (c .before .before .before .before .before .before .args .bytes .now)) (2 + c .before .before .before .before .before .before .args .names))
+add-k c = omega (arith, div-le-self (length (c .before .before .before .before .before .before .before .args .bytes .now)) (2 + c .before .before .before .before .before .name-count .result))
 
 loop-again : tie.Need-loop-again Inv-loop μ-loop
 loop-again c =
     let turn = c .before .before .before in
-    (search needs, λ ns y. rw add-one (each-goes-on _ (turn .before .loop .k) _ _ (turn .before .loop .inv .1 ns y) (c .before .before .record-formed .ensures ns y) (c .before .refused .ensures) (c .if1 .left)))
+    (search needs, λ ns y. rw add-one (each-goes-on _ (turn .before .loop .k) _ _ (turn .before .loop .inv .1 ns y) (c .before .before .record-formed .ensures ns (sized (turn .before .before) ns y)) (c .before .refused .ensures) (c .if1 .left)))
 
 returns-2 : tie.Need-returns-2 Inv-loop μ-loop
 returns-2 c ns g y e =
     let l = c .before .loop in
-    rw (← solution-asked y _ g e, ← le-antisymm (l .inv .0) (c .loop-test .left)) (sym (l .inv .1 ns y))
+    rw (← solution-asked (sized (c .before .before) ns y) _ g e, ← le-antisymm (l .inv .0) (c .loop-test .left)) (sym (l .inv .1 ns y))
 
 pub solution-formed-spec : {M : Type 1} → statement M
-solution-formed-spec = tie.close (tie.spec Inv-loop μ-loop (λ c. search needs) (λ c. search needs) loop-holds mul-record-formed record-formed-requires (λ c κs. search needs) returns add-k (λ c. search needs) loop-again returns-2)
+solution-formed-spec = tie.close (tie.spec Inv-loop μ-loop (λ c κs. search needs) (λ c. omega (arith, c .name-count .ensures, c .before .before .pre)) (λ c. search needs) loop-holds mul-record-formed record-formed-requires (λ c κs. search needs) returns add-k (λ c. search needs) loop-again returns-2)

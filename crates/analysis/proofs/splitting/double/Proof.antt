@@ -5,8 +5,7 @@ use mathlib.Core.Path.{_≡_, refl, sym, _∙_}
 use native.Mathlib.Numerals.{add-one}
 use native.Mathlib.Omega.{arith}
 use Rattle.signs.specs.Lists.{tabulate}
-use Rattle.program.specs.DecodingParts.{Filled}
-use Rattle.program.proofs.Filling.{filled-none, filled-next}
+use Rattle.analysis.proofs.Filling.{Filled, filled-none, filled-next}
 use Rattle.program.proofs.Lists.{length-tabulate, getD-tabulate}
 use Rattle.analysis.specs.Doubling as spec
 use Rattle.analysis.proofs.Doubling.{few-doublings, doubled-positive}
@@ -52,15 +51,4 @@ returns c =
 pub double-spec : {M : Type 1} → statement M
 double-spec =
     tie.close
-    (tie.spec
-    Inv-loop
-    μ-loop
-    loop-holds
-    (λ c. search needs)
-    mul-widths
-    small
-    (λ c. search needs)
-    add-count
-    loop-less
-    loop-again
-    returns)
+    (tie.spec Inv-loop μ-loop loop-holds (λ c. search needs) mul-widths small (λ c. search needs) add-count loop-less loop-again returns)

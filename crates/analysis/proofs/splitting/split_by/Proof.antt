@@ -50,19 +50,5 @@ returns c = let found = all-off _ _ _ _ (omega (arith, c .loop-test .left)) (c .
 pub split-by-spec : {M : Type 1} → statement M
 split-by-spec =
     tie.close
-    (tie.spec
-    Inv-loop
-    μ-loop
-    double-requires
-    loop-holds
-    (λ c. search needs)
-    mul-doubled
-    array-read-doubled
-    add-record
-    (λ c. search needs)
-    add-record-2
-    (λ c κs. search needs)
-    (λ c. search needs)
-    (λ c. search needs)
-    loop-again
-    returns)
+    (tie.spec Inv-loop μ-loop double-requires loop-holds (λ c. search needs) mul-doubled array-read-doubled add-record (λ c. search needs) add-record-2 (λ c κs. search needs)
+    (λ c. search needs) (λ c. search needs) loop-again returns)

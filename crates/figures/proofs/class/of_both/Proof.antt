@@ -95,8 +95,7 @@ returns-4 c =
 pub of-both-spec : {M : Type 1} → statement M
 of-both-spec =
     tie.close
-    (tie.spec (λ c. search needs) (λ c κs. search needs) (λ c κs. search needs) returns
-    (λ c κs. omega (arith, counted _ (count-passed c) .few)) (λ c κs. search needs) returns-2
+    (tie.spec (λ c. search needs) (λ c κs. search needs) (λ c κs. search needs) returns (λ c κs. omega (arith, counted _ (count-passed c) .few)) (λ c κs. search needs) returns-2
     (λ c κs. omega (arith, counted _ (count-passed (c .before .before)) .few)) (λ c κs. search needs) returns-3
     (λ c. omega (arith, few c .few)) (λ c. sums-fit _ _ (first-small c) (second-small c) (few c .few)) (λ c. squares-fit _ _ (first-small c) (second-small c) (few c .few))
     of-totals-requires returns-4)

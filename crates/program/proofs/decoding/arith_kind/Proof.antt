@@ -3,8 +3,8 @@ use borrow.Author.Needs.{needs}
 use mathlib.Core.Path.{_∙_, ap}
 use mir.Syntax.{w32}
 use mir.ValLaws.{toZ-ofZ}
+use Rattle.program.specs.Kind.{arithKind}
 use Rattle.program.specs.File.{signed32}
-use Rattle.program.specs.Node.{arithKind}
 use Rattle.program.specs.declared.ArithNode.the-variants.{Number}
 use Rattle.program.proofs.Forms.{arith-other}
 use Rattle.program.proofs.decoding.arith_kind.Statement.{statement}

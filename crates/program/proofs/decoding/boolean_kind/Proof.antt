@@ -1,5 +1,5 @@
 -- `program::decoding::boolean_kind` meets its contract.
-use Rattle.program.specs.Node.{booleanKind}
+use Rattle.program.specs.Kind.{booleanKind}
 use Rattle.program.proofs.Forms.{boolean-other}
 use Rattle.program.proofs.decoding.boolean_kind.Statement.{statement}
 use Rattle.program.proofs.decoding.boolean_kind.Tie as tie

@@ -1,5 +1,5 @@
 -- `program::decoding::command_kind` meets its contract.
-use Rattle.program.specs.Node.{commandKind}
+use Rattle.program.specs.Kind.{commandKind}
 use Rattle.program.proofs.Forms.{command-other}
 use Rattle.program.proofs.decoding.command_kind.Statement.{statement}
 use Rattle.program.proofs.decoding.command_kind.Tie as tie

@@ -1,82 +1,56 @@
 -- `program::drawing::draw_fit` meets its contract.
-use Prim.Native.Nat.{ℕ, _*_}
+use Prim.Native.Nat.{ℕ}
 use borrow.Author.Needs.{needs}
-use lib.ListN.{length, take, length-replicate}
-use mathlib.Core.Path.{refl, sym, _∙_, ap}
+use mathlib.Core.List.{List}
+use mathlib.Core.Path.{_≡_, refl, _∙_, ap}
 use native.Mathlib.Omega.{arith}
 use Rattle.program.specs.Drawing.{drawn, drawnBy, drawnBuffer, drawnBufferBy, over}
-use Rattle.program.specs.Graph.{graphBytes}
-use Rattle.program.proofs.Counts.{few-edges}
-use Rattle.program.proofs.Drawings.{array-length, too-short, long-enough, take-over, graph-length}
+use Rattle.program.specs.DrawingParts.{rowsIn}
+use Rattle.program.specs.Graph.{edgeCount}
+use Rattle.program.proofs.Drawings.{rows-all, too-short, long-enough}
 use Rattle.program.proofs.drawing.draw_fit.Statement.{statement}
 use Rattle.program.proofs.drawing.draw_fit.Tie as tie
 
-draw-program-requires : tie.Need-draw-program-requires
-draw-program-requires c κs = search needs
+-- how many edges were drawn
+module _ (c : tie.After-long) where
+  abbrev start : tie.Start
+  start = c .before .before .before .before .before .before .before .before
 
-long-requires : tie.Need-long-requires
-long-requires c κs = search needs
+  edges : c .before .edge-count .result ≡ edgeCount (start .args .s .now)
+  edges = c .before .edge-count .ensures ∙ c .before .before .before .put-graph .ensures .edges
 
-mul-end : tie.Need-mul-end
-mul-end c = search needs
+  count : c .long .result ≡ edgeCount (start .args .s .now)
+  count = c .long .ensures ∙ edges
 
-refused-requires : tie.Need-refused-requires
-refused-requires c κs = search needs
+put-graph-requires : tie.Need-put-graph-requires
+put-graph-requires c κs = (c .before .before .before .before .pre, c .before .layout .ensures, refl)
 
 returns : tie.Need-returns
 unfolding drawn drawnBy drawnBuffer drawnBufferBy
 returns c =
     let long = c .before .before in
-    let start = c .before .before .before .before .before .before .before in
-    let s = start .args .s .now in
-    let count = long .before .draw-program .ensures .edges in
-    rw (too-short s (start .args .buffer .now) (start .pre) (omega (arith, c .before .if1 .taken, long .long .ensures)))
+    let first = start long in
+    rw (too-short (first .args .s .now) (first .args .buffer .now) (first .pre) (omega (arith, c .before .if1 .taken, count long)))
     (c .refused .ensures, refl)
 
-slice-aggregate-copy-front : tie.Need-slice-aggregate-copy-front
-slice-aggregate-copy-front c =
-    let d = c .before .before .before .before .draw-program in
-    let start = c .before .before .before .before .before .before .before .before in
-    sym (ap length (d .ensures .buffer) ∙ array-length _ (start .pre) _ (length-replicate {A = ℕ} 1785 0))
-
-copy-front-requires : tie.Need-copy-front-requires
-copy-front-requires c κs =
-    let d = c .before .before .before .before .draw-program in
-    let start = c .before .before .before .before .before .before .before .before in
-    let s = start .args .s .now in
-    let count = d .ensures .edges in
-    let size = ap length (d .ensures .buffer) ∙ array-length _ (start .pre) _ (length-replicate {A = ℕ} 1785 0) in
-    let long = c .before .before .before .long .ensures in
-    (omega (arith, few-edges s (start .pre)), omega arith)
-
-same-length : tie.Need-same-length
-same-length c = search needs
+put-bytes-requires : tie.Need-put-bytes-requires
+put-bytes-requires c κs =
+    let long = c .before .before .before in
+    omega (arith, c .before .before .if1 .left, long .long .ensures, long .before .edge-count .ensures)
 
 returns-2 : tie.Need-returns-2
 unfolding drawn drawnBy drawnBuffer drawnBufferBy
 returns-2 c =
-    let d = c .before .before .before .before .before .before .before .draw-program in
-    let long = c .before .before .before .before .before .before .long .ensures in
-    let room = c .before .before .before .before .before .if1 .left in
-    let start = c .before .before .before .before .before .before .before .before .before .before .before in
-    let s = start .args .s .now in
-    let b = start .args .buffer .now in
-    let count = d .ensures .edges in
-    let end = 7 * c .before .before .before .before .before .before .long .result in
-    let copied = ap (take end) (d .ensures .buffer) ∙ take-over (graphBytes s) _ end (omega (arith, graph-length s)) in
-    rw (long-enough s b (start .pre) (omega arith))
-    (rw (d .ensures .nodes, count), c .before .before .copy-front .ensures ∙ ap (λ x. over x b) copied)
+    let long = c .before .before .before .before .before .before .before .before in
+    let first = start long in
+    let s = first .args .s .now in
+    let b = first .args .buffer .now in
+    let g = long .before .before .before .put-graph .ensures in
+    rw (long-enough s b (first .pre) (omega (arith, c .before .before .before .before .before .before .before .if1 .left, count long)))
+    (rw (c .node-count .ensures ∙ g .nodes, edges long), c .before .before .before .before .put-bytes .ensures ∙ ap (λ (x : List ℕ). over x b) (ap (rowsIn _) (g .edges) ∙ rows-all s _ g))
 
 pub draw-fit-spec : {M : Type 1} → statement M
 draw-fit-spec =
     tie.close
-    (tie.spec
-    draw-program-requires
-    long-requires
-    mul-end
-    refused-requires
-    returns
-    slice-aggregate-copy-front
-    copy-front-requires
-    same-length
-    returns-2)
+    (tie.spec (λ c κs. search needs) put-graph-requires (λ c κs. search needs) (λ c κs. search needs) (λ c. search needs) (λ c κs. search needs) returns put-bytes-requires
+    (λ c κs. search needs) (λ c. search needs) returns-2)

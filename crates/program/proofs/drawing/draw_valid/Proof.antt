@@ -37,11 +37,4 @@ returns-2 c =
 pub draw-valid-spec : {M : Type 1} → statement M
 draw-valid-spec =
     tie.close
-    (tie.spec
-    enum-told
-    draw-fit-requires
-    enum-known-v
-    refused-requires
-    same-length
-    returns
-    returns-2)
+    (tie.spec enum-told draw-fit-requires enum-known-v refused-requires same-length returns returns-2)

@@ -69,23 +69,5 @@ returns-2 c =
 pub edge-at-spec : {M : Type 1} → statement M
 edge-at-spec =
     tie.close
-    (tie.spec
-    long-requires
-    mul-at
-    add-if1
-    whole-word-requires
-    add-whole-word
-    whole-word-requires-2
-    add-t10
-    shared-slice-read-t12
-    add-whole-word-2
-    whole-word-requires-3
-    returns
-    word-at-requires
-    add-word-at
-    word-at-requires-2
-    add-byte-at
-    byte-at-requires
-    add-word-at-2
-    word-at-requires-3
-    returns-2)
+    (tie.spec long-requires mul-at add-if1 whole-word-requires add-whole-word whole-word-requires-2 add-t10 shared-slice-read-t12 add-whole-word-2 whole-word-requires-3 returns
+    word-at-requires add-word-at word-at-requires-2 add-byte-at byte-at-requires add-word-at-2 word-at-requires-3 returns-2)

@@ -5,7 +5,7 @@ use mathlib.Core.Path.{refl}
 use native.Mathlib.Omega.{arith}
 use Rattle.program.specs.DrawingParts.{edgeRow}
 use Rattle.program.specs.Graph.{wordBytes}
-use Rattle.program.proofs.Strips.{over-then}
+use Rattle.program.proofs.Overlaid.{over-then}
 use Rattle.program.proofs.drawing.put_edge.Statement.{statement}
 use Rattle.program.proofs.drawing.put_edge.Tie as tie
 
@@ -49,13 +49,4 @@ returns c =
 pub put-edge-spec : {M : Type 1} → statement M
 put-edge-spec =
     tie.close
-    (tie.spec
-    put-word-requires
-    add-put-word
-    put-word-requires-2
-    add-put-byte
-    put-byte-requires
-    add-put-word-2
-    put-word-requires-3
-    same-length
-    returns)
+    (tie.spec put-word-requires add-put-word put-word-requires-2 add-put-byte put-byte-requires add-put-word-2 put-word-requires-3 same-length returns)

@@ -4,7 +4,7 @@ use mathlib.Core.List.{[], _∷_}
 use mathlib.Core.Path.{refl}
 use native.Mathlib.Omega.{arith}
 use Rattle.program.specs.Graph.{wordBytes}
-use Rattle.program.proofs.Strips.{over-then}
+use Rattle.program.proofs.Overlaid.{over-then}
 use Rattle.program.proofs.drawing.put_word.Statement.{statement}
 use Rattle.program.proofs.drawing.put_word.Tie as tie
 
@@ -37,11 +37,4 @@ returns c =
 pub put-word-spec : {M : Type 1} → statement M
 put-word-spec =
     tie.close
-    (tie.spec
-    high-requires
-    put-byte-requires
-    add-put-byte
-    low-requires
-    put-byte-requires-2
-    same-length
-    returns)
+    (tie.spec high-requires put-byte-requires add-put-byte low-requires put-byte-requires-2 same-length returns)

@@ -45,12 +45,4 @@ returns-2 c =
 pub entry-spec : {M : Type 1} → statement M
 entry-spec =
     tie.close
-    (tie.spec
-    layout-requires
-    span-of-requires
-    long-requires
-    mul-entry-at
-    add-entry-at
-    entry-at-requires
-    returns
-    returns-2)
+    (tie.spec layout-requires span-of-requires long-requires mul-entry-at add-entry-at entry-at-requires returns returns-2)

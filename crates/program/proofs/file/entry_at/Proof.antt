@@ -64,22 +64,5 @@ returns-3 c = entry-past _ _ (c .if1 .left)
 pub entry-at-spec : {M : Type 1} → statement M
 entry-at-spec =
     tie.close
-    (tie.spec
-    sub-if2
-    shared-slice-read-t10
-    add-whole-word
-    whole-word-requires
-    add-whole-word-2
-    whole-word-requires-2
-    add-whole-word-3
-    whole-word-requires-3
-    returns
-    byte-at-requires
-    add-word-at
-    word-at-requires
-    add-word-at-2
-    word-at-requires-2
-    add-word-at-3
-    word-at-requires-3
-    returns-2
-    returns-3)
+    (tie.spec sub-if2 shared-slice-read-t10 add-whole-word whole-word-requires add-whole-word-2 whole-word-requires-2 add-whole-word-3 whole-word-requires-3 returns
+    byte-at-requires add-word-at word-at-requires add-word-at-2 word-at-requires-2 add-word-at-3 word-at-requires-3 returns-2 returns-3)

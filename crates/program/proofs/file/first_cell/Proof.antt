@@ -58,16 +58,4 @@ returns c =
 pub first-cell-spec : {M : Type 1} → statement M
 first-cell-spec =
     tie.close
-    (tie.spec
-    Inv-loop
-    μ-loop
-    name-count-requires
-    least-requires
-    loop-holds
-    size-at-requires
-    cells-of-requires
-    add-total
-    add-k
-    loop-less
-    loop-again
-    returns)
+    (tie.spec Inv-loop μ-loop name-count-requires least-requires loop-holds size-at-requires cells-of-requires add-total add-k loop-less loop-again returns)

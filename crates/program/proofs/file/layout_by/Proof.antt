@@ -44,13 +44,5 @@ returns c =
 pub layout-by-spec : {M : Type 1} → statement M
 layout-by-spec =
     tie.close
-    (tie.spec
-    names-field-requires
-    head-span-requires
-    table-field-requires
-    head-span-requires-2
-    table-field-requires-2
-    head-span-requires-3
-    table-field-requires-3
-    head-span-requires-4
-    returns)
+    (tie.spec names-field-requires head-span-requires table-field-requires head-span-requires-2 table-field-requires-2 head-span-requires-3 table-field-requires-3
+    head-span-requires-4 returns)

@@ -36,12 +36,4 @@ returns c = λ i. c .before .before .wide .ensures i * 256 + c .wide2 .ensures i
 pub whole-word-spec : {M : Type 1} → statement M
 whole-word-spec =
     tie.close
-    (tie.spec
-    shared-slice-read-wide
-    wide-requires
-    mul-result
-    add-wide
-    shared-slice-read-wide-2
-    wide-requires-2
-    add-result
-    returns)
+    (tie.spec shared-slice-read-wide wide-requires mul-result add-wide shared-slice-read-wide-2 wide-requires-2 add-result returns)

@@ -41,13 +41,4 @@ returns-2 c = sym (word-past _ _ (c .if1 .left))
 pub word-at-spec : {M : Type 1} → statement M
 word-at-spec =
     tie.close
-    (tie.spec
-    byte-at-requires
-    wide-requires
-    mul-result
-    add-byte-at
-    byte-at-requires-2
-    wide-requires-2
-    add-result
-    returns
-    returns-2)
+    (tie.spec byte-at-requires wide-requires mul-result add-byte-at byte-at-requires-2 wide-requires-2 add-result returns returns-2)

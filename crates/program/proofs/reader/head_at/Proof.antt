@@ -45,15 +45,4 @@ returns-3 c =
 pub head-at-spec : {M : Type 1} → statement M
 head-at-spec =
     tie.close
-    (tie.spec
-    returns
-    sub-if2
-    returns-2
-    add-word-at
-    word-at-requires
-    byte-at-requires
-    add-t6
-    add-t4
-    long-requires
-    add-t9
-    returns-3)
+    (tie.spec returns sub-if2 returns-2 add-word-at word-at-requires byte-at-requires add-t6 add-t4 long-requires add-t9 returns-3)

@@ -64,16 +64,5 @@ returns-4 c =
 pub check-entries-spec : {M : Type 1} → statement M
 check-entries-spec =
     tie.close
-    (tie.spec
-    check-table-requires
-    refused-requires
-    returns
-    check-table-requires-2
-    refused-requires-2
-    returns-2
-    check-table-requires-3
-    refused-requires-3
-    returns-3
-    slice-aggregate-check-all-uses
-    check-all-uses-requires
-    returns-4)
+    (tie.spec check-table-requires refused-requires returns check-table-requires-2 refused-requires-2 returns-2 check-table-requires-3 refused-requires-3 returns-3
+    slice-aggregate-check-all-uses check-all-uses-requires returns-4)

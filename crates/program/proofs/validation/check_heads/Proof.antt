@@ -85,19 +85,5 @@ returns-4 c =
 pub check-heads-spec : {M : Type 1} → statement M
 check-heads-spec =
     tie.close
-    (tie.spec
-    names-field-requires
-    check-head-requires
-    refused-requires
-    returns
-    table-field-requires
-    check-head-requires-2
-    refused-requires-2
-    returns-2
-    table-field-requires-2
-    check-head-requires-3
-    refused-requires-3
-    returns-3
-    table-field-requires-3
-    check-head-requires-4
-    returns-4)
+    (tie.spec names-field-requires check-head-requires refused-requires returns table-field-requires check-head-requires-2 refused-requires-2 returns-2 table-field-requires-2
+    check-head-requires-3 refused-requires-3 returns-3 table-field-requires-3 check-head-requires-4 returns-4)

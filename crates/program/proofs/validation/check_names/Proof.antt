@@ -100,21 +100,5 @@ returns-2 c =
 pub check-names-spec : {M : Type 1} → statement M
 check-names-spec =
     tie.close
-    (tie.spec
-    Inv-loop
-    μ-loop
-    loop-holds
-    size-at-requires
-    cells-of-requires
-    add-total
-    in-bounds-requires
-    long-requires
-    mul-ask
-    add-ask
-    ask-requires
-    refused-requires
-    returns
-    add-i
-    loop-less
-    loop-again
-    returns-2)
+    (tie.spec Inv-loop μ-loop loop-holds size-at-requires cells-of-requires add-total in-bounds-requires long-requires mul-ask add-ask ask-requires refused-requires returns add-i
+    loop-less loop-again returns-2)

@@ -83,15 +83,4 @@ returns-2 c =
 pub check-table-spec : {M : Type 1} → statement M
 check-table-spec =
     tie.close
-    (tie.spec
-    Inv-loop
-    μ-loop
-    span-of-requires
-    loop-holds
-    check-entry-requires
-    refused-requires
-    returns
-    add-n
-    loop-less
-    loop-again
-    returns-2)
+    (tie.spec Inv-loop μ-loop span-of-requires loop-holds check-entry-requires refused-requires returns add-n loop-less loop-again returns-2)

@@ -1,12 +1,19 @@
 -- `program::validation::initial_part` meets its contract.
 use borrow.Author.Needs.{needs}
-use Rattle.program.specs.File.{headContent}
+use mathlib.Core.Path.{_≡_, ap, sym}
+use Rattle.program.specs.File.{fieldHead, headsOf, headContent}
 use Rattle.program.specs.Questions.{initialPart}
+use Rattle.program.specs.declared.FieldHeads.{FieldHeads}
 use Rattle.program.proofs.validation.initial_part.Statement.{statement}
 use Rattle.program.proofs.validation.initial_part.Tie as tie
 
-field-head-requires : tie.Need-field-head-requires
-field-head-requires c κs = search needs
+-- what stands at the start list's field
+fifth : (c : tie.After-heads) → fieldHead (c .before .before .args .s .now) 4 ≡ c .heads .result .initial
+unfolding headsOf
+fifth c = sym (ap (λ (h : FieldHeads). h .initial) (c .heads .ensures))
+
+heads-requires : tie.Need-heads-requires
+heads-requires c κs = search needs
 
 enum-told : tie.Need-enum-told
 enum-told c = search needs
@@ -14,8 +21,8 @@ enum-told c = search needs
 slice-aggregate-result : tie.Need-slice-aggregate-result
 slice-aggregate-result c = search needs
 
-enum-known-found : tie.Need-enum-known-found
-enum-known-found c = search needs
+enum-known-fifth : tie.Need-enum-known-fifth
+enum-known-fifth c = search needs
 
 long-requires : tie.Need-long-requires
 long-requires c κs = search needs
@@ -25,12 +32,12 @@ part-requires c κs = search needs
 
 returns : tie.Need-returns
 unfolding initialPart headContent
-returns c = rw (← c .before .before .before .field-head .ensures, c .before .enum-told .given .1)
+returns c = rw (fifth (c .before .before .before), c .before .enum-told .given .1)
 
 returns-2 : tie.Need-returns-2
 unfolding initialPart headContent
 returns-2 c =
-    rw (← c .before .before .before .before .before .field-head .ensures, c .before .before .before .found .given .1, ← c .before .long .ensures) (c .part .ensures)
+    rw (fifth (c .before .before .before .before .before), c .before .before .before .fifth .given .1, ← c .before .long .ensures) (c .part .ensures)
 
 pub initial-part-spec : {M : Type 1} → statement M
-initial-part-spec = tie.close (tie.spec field-head-requires enum-told slice-aggregate-result enum-known-found long-requires part-requires returns returns-2)
+initial-part-spec = tie.close (tie.spec heads-requires enum-told slice-aggregate-result enum-known-fifth long-requires part-requires returns returns-2)

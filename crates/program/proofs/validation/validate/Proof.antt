@@ -62,15 +62,5 @@ returns-3 c =
 pub validate-spec : {M : Type 1} → statement M
 validate-spec =
     tie.close
-    (tie.spec
-    heads-requires
-    check-heads-requires
-    refused-requires
-    returns
-    after-requires
-    check-end-requires
-    refused-requires-2
-    returns-2
-    layout-by-requires
-    check-content-requires
+    (tie.spec heads-requires check-heads-requires refused-requires returns after-requires check-end-requires refused-requires-2 returns-2 layout-by-requires check-content-requires
     returns-3)

@@ -1,72 +1,60 @@
--- `evaluator::element`: a fault is handed on, then the index is tested below and above.
-use mathlib.Core.Path.{_≡_}
+-- `evaluator::element`: the index's fault, or the cell of the element.
+use mathlib.Core.Path.{_≡_, sym, ap, _∙_}
 use mathlib.Core.Bool.{false}
-use lib.IntN.{pos}
-use lib.Signed.{ltZ}
-use mir.Facts.{sfits-lit}
+use native.Mathlib.Omega.{arith}
+use borrow.Author.Needs.{needs}
 use mir.Syntax.{w64}
 use mir.ValLaws.{toZ-ofZ}
-use Rattle.signs.proofs.Signed.{less}
+use Rattle.semantics.specs.Coding.{Indexed}
 use Rattle.semantics.specs.Expression.{valueAt}
-use Rattle.semantics.proofs.Coded.{isFault, tested, handed, fault-evaluated, natural, index-fault, index-negative, index-large, index-inside}
+use Rattle.semantics.proofs.Coded.{isFault, tested, handed, fault-evaluated, placed-fault, placed-at, whole-index}
 use Rattle.semantics.proofs.evaluator.element.Statement.{statement}
 use Rattle.semantics.proofs.evaluator.element.Tie as tie
+
+-- the index, by the name's size
+found : (c : tie.After-indexed) → Indexed (c .before .size-of .result) (c .before .before .args .v) (c .indexed .result)
+found c = let s = c .before .before in rw (toZ-ofZ w64 (s .args .v) (s .fits .v)) at (c .indexed .ensures)
 
 returns : tie.Need-returns
 unfolding valueAt
 returns c =
-    let s = c .before .before in
-    let fault = tested (s .args .v) (s .fits .v) (c .before .is-fault .ensures) (c .if1 .taken) in
-    rw (toZ-ofZ w64 (s .args .v) (s .fits .v))
-    (s .pre, λ ns names there. rw (index-fault ns (s .args .x) (s .args .v) fault) (fault-evaluated (s .args .v) fault))
+    let i = c .before .before in
+    let s = i .before .before in
+    let fault = tested (i .indexed .result) (record { sfits = i .indexed .ok }) (c .before .is-fault .ensures) (c .if1 .taken) in
+    rw (handed (i .indexed .result) (i .indexed .ok)) (
+      found i .code,
+      λ ns coded there.
+          fault-evaluated _ fault
+          ∙ ap (valueAt _) (sym (found i .place ns (s .args .x) (sym (coded .size (s .args .x) there) ∙ sym (i .before .size-of .ensures)) ∙ placed-fault ns (s .args .x) (i .indexed .result) fault)),
+    )
 
--- the index is no fault, and then not below zero
-no-fault : (c : tie.Else1) → isFault (c .before .before .args .v) ≡ false
-no-fault c =
-    let s = c .before .before in
-    tested (s .args .v) (s .fits .v) (c .before .is-fault .ensures) (c .if1 .left)
+-- no fault
+inside : (c : tie.Else1) → isFault (c .before .before .indexed .result) ≡ false
+inside c = let i = c .before .before in tested (i .indexed .result) (record { sfits = i .indexed .ok }) (c .before .is-fault .ensures) (c .if1 .left)
 
-not-negative : (c : tie.Else2) → ltZ (c .before .before .before .args .v) (pos 0) ≡ false
-not-negative c = let s = c .before .before .before in less w64 (s .args .v) (pos 0) (s .fits .v) (sfits-lit tt) (c .if2 .left)
+cast-cell-after : tie.Need-cast-cell-after
+cast-cell-after c = let i = c .before .before .before .before in whole-index (i .indexed .result) (record { sfits = i .indexed .ok }) (found i .below (inside (c .before .before)) .0)
+
+cell-after-requires : tie.Need-cell-after-requires
+cell-after-requires c κs =
+    let i = c .before .before .before .before in
+    rw (handed (i .indexed .result) (i .indexed .ok)) (omega (arith, found i .below (inside (c .before .before)) .1, i .before .size-of .ok))
 
 returns-2 : tie.Need-returns-2
 unfolding valueAt
 returns-2 c =
-    let s = c .before .before .before .before in
-    let below = less w64 (s .args .v) (pos 0) (s .fits .v) (sfits-lit tt) (c .before .if2 .taken) in
-    rw (handed (c .fault-code .result) (c .fault-code .ok)) (
-      c .fault-code .ensures .0,
-      λ ns names there. rw (index-negative ns (s .args .x) (s .args .v) (no-fault (c .before .before)) below) (c .fault-code .ensures .1 .0),
-    )
-
-cast-i : tie.Need-cast-i
-cast-i c = natural _ (c .before .before .before .fits .v) (not-negative c)
-
-returns-3 : tie.Need-returns-3
-unfolding valueAt
-returns-3 c =
-    let e = c .before .before .before .before in
-    let s = e .before .before .before in
-    let above = rw (c .before .before .size-of .ensures, toZ-ofZ w64 (s .args .v) (s .fits .v)) at (c .before .if3 .taken) in
-    rw (handed (c .fault-code2 .result) (c .fault-code2 .ok)) (
-      c .fault-code2 .ensures .0,
-      λ ns names there. rw (index-large ns (s .args .x) _ _ names there (s .args .v) (no-fault (e .before)) (not-negative e) above) (c .fault-code2 .ensures .1 .0),
-    )
-
-returns-4 : tie.Need-returns-4
-unfolding valueAt
-returns-4 c =
-    let f = c .before .before .before .before in
-    let e = f .before .before .before in
-    let s = e .before .before .before in
-    let inside = rw (f .before .size-of .ensures, toZ-ofZ w64 (s .args .v) (s .fits .v)) at (f .if3 .left) in
-    let cell = rw (c .before .first-cell .ensures, toZ-ofZ w64 (s .args .v) (s .fits .v)) at (c .cell-after .ensures .1) in
+    let e = c .before .before .before in
+    let i = e .before .before in
+    let s = i .before .before in
+    let cell = rw (c .before .first-cell .ensures, handed (i .indexed .result) (i .indexed .ok)) at (c .cell-after .ensures .1) in
     rw (handed (c .cell-after .result) (c .cell-after .ok)) (
       c .cell-after .ensures .0,
-      λ ns names there. rw (index-inside ns (s .args .x) _ _ names there (s .args .v) (no-fault (e .before)) (not-negative e) inside) cell,
+      λ ns coded there.
+          rw (coded .cell (s .args .x) there) at cell
+          ∙ ap (valueAt _) (sym (found i .place ns (s .args .x) (sym (coded .size (s .args .x) there) ∙ sym (i .before .size-of .ensures)) ∙ placed-at ns (s .args .x) (i .indexed .result) (inside e))),
     )
 
 pub element-spec : {M : Type 1} → statement M
 element-spec =
     tie.close
-    (tie.spec (λ c κs. tt) returns (λ c κs. tt) returns-2 cast-i (λ c κs. tt) (λ c κs. tt) returns-3 (λ c κs. tt) (λ c κs. tt) returns-4)
+    (tie.spec (λ c κs. search needs) (λ c κs. search needs) (λ c κs. search needs) returns (λ c κs. search needs) cast-cell-after cell-after-requires returns-2)

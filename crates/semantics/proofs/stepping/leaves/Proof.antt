@@ -1,19 +1,19 @@
--- `stepping::leaves` meets its contract.
-use borrow.Author.Needs.{needs}
-use Rattle.semantics.proofs.Drawn.{no-edge, drawn-leaves}
+-- `stepping::leaves`: an edge that exists leaves the node that it comes from.
+use mathlib.Core.Path.{ap, _∙_}
+use native.Mathlib.Omega.{arith}
+use lib.Dec.{eqb}
+use Prim.Native.Nat.{ℕ}
+use Rattle.semantics.proofs.Edges.{no-edge, edge-leaves}
 use Rattle.semantics.proofs.stepping.leaves.Statement.{statement}
 use Rattle.semantics.proofs.stepping.leaves.Tie as tie
 
 returns : tie.Need-returns
-returns c = let a = c .before .before .before .args in no-edge _ _ _ _ (c .before .before .before .pre) (a .edge) (a .node) (c .if1 .taken)
-
-edge-at-requires : tie.Need-edge-at-requires
-edge-at-requires c κs = search needs
+returns c ns code g p = let a = c .before .before .args in no-edge p (a .edge) (a .node) (omega (arith, c .before .edge-count .ensures, c .if1 .taken))
 
 returns-2 : tie.Need-returns-2
-returns-2 c =
-    let a = c .before .before .before .before .before .args in
-    drawn-leaves _ _ _ _ (c .before .before .before .before .before .pre) (a .edge) (a .node) _ (c .before .before .if1 .left) (c .before .edge-at .ensures)
+returns-2 c ns code g p =
+    let a = c .before .before .before .args in
+    ap (λ (s : ℕ). eqb s (a .node)) (c .edge-source .ensures) ∙ edge-leaves p (a .edge) (a .node) (omega (arith, c .before .before .edge-count .ensures, c .before .if1 .left))
 
 pub leaves-spec : {M : Type 1} → statement M
-leaves-spec = tie.close (tie.spec returns edge-at-requires returns-2)
+leaves-spec = tie.close (tie.spec (λ c κs. tt) returns (λ c κs. tt) returns-2)

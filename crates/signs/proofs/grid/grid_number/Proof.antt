@@ -8,9 +8,6 @@ pub grid-number-spec : {M : Type 1} → statement M
 unfolding gridNumber
 grid-number-spec =
     tie.close
-    (tie.spec (λ c. c .match .keys1) (λ c. c .match .keys2) (λ c. c .match .keys3) (λ c. c .match .keys4) (λ c. c .match .keys5)
-    (λ c. sym (ap gridNumber (c .enum-told .given .1)))
-    (λ c. sym (ap gridNumber (c .enum-told2 .given .1)))
-    (λ c. sym (ap gridNumber (c .enum-told3 .given .1)))
-    (λ c. sym (ap gridNumber (c .enum-told4 .given .1)))
+    (tie.spec (λ c. c .match .keys1) (λ c. c .match .keys2) (λ c. c .match .keys3) (λ c. c .match .keys4) (λ c. c .match .keys5) (λ c. sym (ap gridNumber (c .enum-told .given .1)))
+    (λ c. sym (ap gridNumber (c .enum-told2 .given .1))) (λ c. sym (ap gridNumber (c .enum-told3 .given .1))) (λ c. sym (ap gridNumber (c .enum-told4 .given .1)))
     (λ c. sym (ap gridNumber (c .enum-told5 .given .1))))

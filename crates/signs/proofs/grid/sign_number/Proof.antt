@@ -8,7 +8,5 @@ pub sign-number-spec : {M : Type 1} → statement M
 unfolding signNumber
 sign-number-spec =
     tie.close
-    (tie.spec (λ c. c .match .keys1) (λ c. c .match .keys2) (λ c. c .match .keys3)
-    (λ c. sym (ap signNumber (c .enum-told .given .1)))
-    (λ c. sym (ap signNumber (c .enum-told2 .given .1)))
-    (λ c. sym (ap signNumber (c .enum-told3 .given .1))))
+    (tie.spec (λ c. c .match .keys1) (λ c. c .match .keys2) (λ c. c .match .keys3) (λ c. sym (ap signNumber (c .enum-told .given .1)))
+    (λ c. sym (ap signNumber (c .enum-told2 .given .1))) (λ c. sym (ap signNumber (c .enum-told3 .given .1))))

@@ -24,5 +24,4 @@ returns-3 c = rw (c .enum-told3 .given .1) (rw (c .enum-told3 .given .1) at (giv
 pub compare-sets-spec : {M : Type 1} → statement M
 compare-sets-spec =
     tie.close
-    (tie.spec (λ c κs. tt) (λ c κs. tt) (λ c κs. tt) (λ c. c .match .keys1) (λ c. c .match .keys2) (λ c. c .match .keys3)
-    returns returns-2 returns-3)
+    (tie.spec (λ c κs. tt) (λ c κs. tt) (λ c κs. tt) (λ c. c .match .keys1) (λ c. c .match .keys2) (λ c. c .match .keys3) returns returns-2 returns-3)

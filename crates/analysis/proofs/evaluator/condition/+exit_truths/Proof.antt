@@ -1,22 +1,22 @@
 -- The cycle of calls {`analysis::evaluator::condition::exit_truths`}: a part is lower than what it is a part of, so the measure is `bound`.
 use mathlib.Core.Path.{_≡_, refl}
+use mathlib.Core.List.{[]}
 use Prim.Native.Nat.{ℕ, _<_}
 use native.Mathlib.Omega.{arith}
 use borrow.Author.Needs.{needs}
 use borrow.Fn.Kinds.{In}
 use borrow.Fn.PlainCycle.{Measures, is, falls, and}
-use Rattle.signs.specs.Grid.{setTable}
+use Rattle.program.specs.Tree.{commandMade}
 use Rattle.program.specs.Graph.{done}
-use Rattle.program.specs.Node.{commandTree}
 use Rattle.program.specs.declared.CommandNode.{CommandNode}
 use Rattle.program.proofs.Forms.{CommandParts}
-use Rattle.program.proofs.Laws.{command-told, command-lower, boolean-any}
+use Rattle.program.proofs.Laws.{command-told, command-lower, boolean-whole}
 use Rattle.analysis.specs.Signs.{truthsIn}
 use Rattle.semantics.proofs.Keys.{left-at-once}
 use Rattle.analysis.proofs.evaluator.condition.exit_truths.Reads as reads
 use Rattle.analysis.proofs.evaluator.condition.exit_truths.Kinds as kinds
 use Rattle.analysis.proofs.evaluator.condition.+exit_truths.Lts-exit_truths as lts
-use Rattle.program.proofs.decoding.command_node.Reads as command-node-reads
+use Rattle.program.proofs.prepared.command_node.Reads as command-node-reads
 use Rattle.analysis.proofs.evaluator.condition.truths.Reads as truths-reads
 use Rattle.signs.proofs.truth.negated.Reads as negated-reads
 use Rattle.signs.proofs.truth.conjoined.Reads as conjoined-reads
@@ -38,39 +38,37 @@ claims t =
     (command-node-reads.Asked, command-node-reads.Learnt, truths-reads.Asked, truths-reads.Learnt, negated-reads.Asked, negated-reads.Learnt, exit-truths-below t, reads.Post, conjoined-reads.Asked, conjoined-reads.Learnt, certain-reads.Asked, certain-reads.Learnt)
 
 -- a part in the same table may be asked about
-lower : (t : ℕ) (c : lts.After-command-node (claims t) (exit-truths-at t) reads.Post) {k : CommandNode} → c .command-node .result ≡ k → CommandParts k → (c .before .args .n < t) × (c .before .args .table .now ≡ setTable)
-lower t c told p = (omega (arith, command-lower _ _ _ (c .command-node .ensures) told p, c .before .pre .0), c .before .pre .1)
-
-truths-requires : (t : ℕ) → lts.Need-truths-requires (claims t) (exit-truths-at t) reads.Post
-truths-requires t c κs = c .before .before .before .before .pre .1
+lower : (t : ℕ) (c : lts.After-command-node (claims t) (exit-truths-at t) reads.Post) {k : CommandNode} → c .command-node .result ≡ k → CommandParts k → c .before .args .n < t
+lower t c told p = omega (arith, command-lower _ _ _ (c .command-node .ensures []) told p, c .before .pre .0)
 
 exit-truths-requires : (t : ℕ) → lts.Need-exit-truths-requires (claims t) (exit-truths-at t) reads.Post
-exit-truths-requires t c κs = lower t (c .before .before .before) (c .before .node2 .given .1) tt
+exit-truths-requires t c κs = (lower t (c .before .before .before) (c .before .node2 .given .1) tt, tt)
 
 exit-truths-requires-2 : (t : ℕ) → lts.Need-exit-truths-requires-2 (claims t) (exit-truths-at t) reads.Post
-exit-truths-requires-2 t c κs = let k = c .before in lower t (k .before .before .before) (k .before .node2 .given .1) tt
+exit-truths-requires-2 t c κs = let k = c .before in (lower t (k .before .before .before) (k .before .node2 .given .1) tt, tt)
 
 returns : (t : ℕ) → lts.Need-returns (claims t) (exit-truths-at t) reads.Post
-unfolding commandTree done truthsIn
+unfolding commandMade done truthsIn
 returns t c =
     let a = c .before in
     let k = a .before in
     let at = k .before .before .before in
-    rw (command-told _ _ _ (at .command-node .ensures) (k .before .node .given .1), boolean-any (at .before .args .entries .now) (k .before .node .given .0 .0), ← a .truths .ensures) (c .negated .ensures)
+    rw (command-told _ _ _ (at .command-node .ensures (at .before .args .code .now)) (k .before .node .given .1), boolean-whole (at .before .args .code .now) (at .before .args .graph .now) (k .before .node .given .0 .0), ← a .truths .ensures (at .before .args .graph .now)) (c .negated .ensures)
 
 returns-2 : (t : ℕ) → lts.Need-returns-2 (claims t) (exit-truths-at t) reads.Post
-unfolding commandTree done truthsIn
+unfolding commandMade done truthsIn
 returns-2 t c =
     let b = c .before in
     let a = b .before in
     let k = a .before in
-    rw (command-told _ _ _ (k .before .before .before .command-node .ensures) (k .before .node2 .given .1), ← a .exit-truths .ensures, ← b .exit-truths2 .ensures) (c .conjoined .ensures)
+    let at = k .before .before .before in
+    rw (command-told _ _ _ (at .command-node .ensures (at .before .args .code .now)) (k .before .node2 .given .1), ← a .exit-truths .ensures, ← b .exit-truths2 .ensures) (c .conjoined .ensures)
 
 returns-3 : (t : ℕ) → lts.Need-returns-3 (claims t) (exit-truths-at t) reads.Post
 unfolding truthsIn
 returns-3 t c =
     let at = c .before .before in
-    rw (command-told _ _ _ (at .command-node .ensures) refl, left-at-once _ _ (at .command-node .result) (c .before .match .keys3)) (c .certain .ensures)
+    rw (command-told _ _ _ (at .command-node .ensures (at .before .args .code .now)) refl, left-at-once _ _ (at .command-node .result) (c .before .match .keys3)) (c .certain .ensures)
 
 pub +exit-truths-spec : {M : Type 1} → statement M
 +exit-truths-spec =
@@ -83,7 +81,7 @@ pub +exit-truths-spec : {M : Type 1} → statement M
     reads.Post
     (λ c κs. tt)
     (λ c. search needs)
-    (truths-requires t)
+    (λ c κs. tt)
     (λ c κs. tt)
     (λ c. search needs)
     (exit-truths-requires t)

@@ -1,12 +1,12 @@
 -- The cycle of calls {`analysis::evaluator::condition::truths`}: a part is lower than what it is a part of, so the measure is `bound`.
 use mathlib.Core.Path.{_≡_}
+use mathlib.Core.List.{[]}
 use Prim.Native.Nat.{ℕ, _<_}
 use native.Mathlib.Omega.{arith}
 use borrow.Author.Needs.{needs}
 use borrow.Fn.Kinds.{In}
 use borrow.Fn.PlainCycle.{Measures, is, falls, and}
-use Rattle.signs.specs.Grid.{setTable}
-use Rattle.program.specs.Node.{booleanTree}
+use Rattle.program.specs.Tree.{booleanMade}
 use Rattle.program.specs.declared.BooleanNode.{BooleanNode}
 use Rattle.program.proofs.Forms.{BooleanParts}
 use Rattle.program.proofs.Laws.{boolean-told, boolean-lower}
@@ -14,7 +14,7 @@ use Rattle.analysis.specs.Signs.{truthsIn}
 use Rattle.analysis.proofs.evaluator.condition.truths.Reads as reads
 use Rattle.analysis.proofs.evaluator.condition.truths.Kinds as kinds
 use Rattle.analysis.proofs.evaluator.condition.+truths.Lts-truths as lts
-use Rattle.program.proofs.decoding.boolean_node.Reads as boolean-node-reads
+use Rattle.program.proofs.prepared.boolean_node.Reads as boolean-node-reads
 use Rattle.analysis.proofs.evaluator.condition.certain.Reads as certain-reads
 use Rattle.analysis.proofs.evaluator.condition.comparison.Reads as comparison-reads
 use Rattle.signs.proofs.truth.conjoined.Reads as conjoined-reads
@@ -23,71 +23,68 @@ use Rattle.signs.proofs.truth.negated.Reads as negated-reads
 use Rattle.analysis.proofs.evaluator.condition.+truths.{statement}
 use Rattle.analysis.proofs.evaluator.condition.+truths.Tie.{close}
 
-abbrev μ-truths : Measures 3 kinds.ps ℕ
-μ-truths κs a = a .1 .1 .1 .0
+abbrev μ-truths : Measures 2 kinds.ps ℕ
+μ-truths κs a = a .1 .1 .0
 
-abbrev truths-at : ℕ → In 3 kinds.ps
-truths-at t = and 3 kinds.ps (is 3 kinds.ps μ-truths t) reads.Pre
+abbrev truths-at : ℕ → In 2 kinds.ps
+truths-at t = and 2 kinds.ps (is 2 kinds.ps μ-truths t) reads.Pre
 
-abbrev truths-below : ℕ → In 3 kinds.ps
-truths-below t = and 3 kinds.ps (falls 3 kinds.ps _<_ μ-truths t) reads.Pre
+abbrev truths-below : ℕ → In 2 kinds.ps
+truths-below t = and 2 kinds.ps (falls 2 kinds.ps _<_ μ-truths t) reads.Pre
 
 abbrev claims : ℕ → lts.Claims
 claims t =
     (boolean-node-reads.Asked, boolean-node-reads.Learnt, certain-reads.Asked, certain-reads.Learnt, comparison-reads.Asked, comparison-reads.Learnt, truths-below t, reads.Post, conjoined-reads.Asked, conjoined-reads.Learnt, and-then-reads.Asked, and-then-reads.Learnt, negated-reads.Asked, negated-reads.Learnt)
 
 -- a part in the same table may be asked about
-lower : (t : ℕ) (c : lts.After-boolean-node (claims t) (truths-at t) reads.Post) {k : BooleanNode} → c .boolean-node .result ≡ k → BooleanParts k → (c .before .args .n < t) × (c .before .args .table .now ≡ setTable)
-lower t c told p = (omega (arith, boolean-lower _ _ _ (c .boolean-node .ensures) told p, c .before .pre .0), c .before .pre .1)
-
-comparison-requires : (t : ℕ) → lts.Need-comparison-requires (claims t) (truths-at t) reads.Post
-comparison-requires t c κs = c .before .before .before .before .pre .1
+lower : (t : ℕ) (c : lts.After-boolean-node (claims t) (truths-at t) reads.Post) {k : BooleanNode} → c .boolean-node .result ≡ k → BooleanParts k → c .before .args .n < t
+lower t c told p = omega (arith, boolean-lower _ _ _ (c .boolean-node .ensures []) told p, c .before .pre .0)
 
 truths-requires : (t : ℕ) → lts.Need-truths-requires (claims t) (truths-at t) reads.Post
-truths-requires t c κs = lower t (c .before .before .before) (c .before .node2 .given .1) tt
+truths-requires t c κs = (lower t (c .before .before .before) (c .before .node2 .given .1) tt, tt)
 
 truths-requires-2 : (t : ℕ) → lts.Need-truths-requires-2 (claims t) (truths-at t) reads.Post
-truths-requires-2 t c κs = let k = c .before in lower t (k .before .before .before) (k .before .node2 .given .1) tt
+truths-requires-2 t c κs = let k = c .before in (lower t (k .before .before .before) (k .before .node2 .given .1) tt, tt)
 
 truths-requires-3 : (t : ℕ) → lts.Need-truths-requires-3 (claims t) (truths-at t) reads.Post
-truths-requires-3 t c κs = lower t (c .before .before .before) (c .before .node3 .given .1) tt
+truths-requires-3 t c κs = (lower t (c .before .before .before) (c .before .node3 .given .1) tt, tt)
 
 truths-requires-4 : (t : ℕ) → lts.Need-truths-requires-4 (claims t) (truths-at t) reads.Post
-truths-requires-4 t c κs = let k = c .before in lower t (k .before .before .before) (k .before .node3 .given .1) tt
+truths-requires-4 t c κs = let k = c .before in (lower t (k .before .before .before) (k .before .node3 .given .1) tt, tt)
 
 truths-requires-5 : (t : ℕ) → lts.Need-truths-requires-5 (claims t) (truths-at t) reads.Post
-truths-requires-5 t c κs = lower t (c .before .before .before) (c .before .node4 .given .1) tt
+truths-requires-5 t c κs = (lower t (c .before .before .before) (c .before .node4 .given .1) tt, tt)
 
 returns : (t : ℕ) → lts.Need-returns (claims t) (truths-at t) reads.Post
-unfolding booleanTree truthsIn
-returns t c = let k = c .before in rw (boolean-told _ _ _ (k .before .before .boolean-node .ensures) (k .enum-told .given .1)) (c .certain .ensures)
+unfolding booleanMade truthsIn
+returns t c graph = let k = c .before in rw (boolean-told _ _ _ (k .before .before .boolean-node .ensures graph) (k .enum-told .given .1)) (c .certain .ensures)
 
 returns-2 : (t : ℕ) → lts.Need-returns-2 (claims t) (truths-at t) reads.Post
-unfolding booleanTree truthsIn
-returns-2 t c = let k = c .before in rw (boolean-told _ _ _ (k .before .before .before .boolean-node .ensures) (k .before .node .given .1)) (c .comparison .ensures)
+unfolding booleanMade truthsIn
+returns-2 t c graph = let k = c .before in rw (boolean-told _ _ _ (k .before .before .before .boolean-node .ensures graph) (k .before .node .given .1)) (c .comparison .ensures graph)
 
 returns-3 : (t : ℕ) → lts.Need-returns-3 (claims t) (truths-at t) reads.Post
-unfolding booleanTree truthsIn
-returns-3 t c =
+unfolding booleanMade truthsIn
+returns-3 t c graph =
     let b = c .before in
     let a = b .before in
     let k = a .before in
-    rw (boolean-told _ _ _ (k .before .before .before .boolean-node .ensures) (k .before .node2 .given .1), ← a .truths .ensures, ← b .truths2 .ensures) (c .conjoined .ensures)
+    rw (boolean-told _ _ _ (k .before .before .before .boolean-node .ensures graph) (k .before .node2 .given .1), ← a .truths .ensures graph, ← b .truths2 .ensures graph) (c .conjoined .ensures)
 
 returns-4 : (t : ℕ) → lts.Need-returns-4 (claims t) (truths-at t) reads.Post
-unfolding booleanTree truthsIn
-returns-4 t c =
+unfolding booleanMade truthsIn
+returns-4 t c graph =
     let b = c .before in
     let a = b .before in
     let k = a .before in
-    rw (boolean-told _ _ _ (k .before .before .before .boolean-node .ensures) (k .before .node3 .given .1), ← a .truths3 .ensures, ← b .truths4 .ensures) (c .and-then .ensures)
+    rw (boolean-told _ _ _ (k .before .before .before .boolean-node .ensures graph) (k .before .node3 .given .1), ← a .truths3 .ensures graph, ← b .truths4 .ensures graph) (c .and-then .ensures)
 
 returns-5 : (t : ℕ) → lts.Need-returns-5 (claims t) (truths-at t) reads.Post
-unfolding booleanTree truthsIn
-returns-5 t c =
+unfolding booleanMade truthsIn
+returns-5 t c graph =
     let a = c .before in
     let k = a .before in
-    rw (boolean-told _ _ _ (k .before .before .before .boolean-node .ensures) (k .before .node4 .given .1), ← a .truths5 .ensures) (c .negated .ensures)
+    rw (boolean-told _ _ _ (k .before .before .before .boolean-node .ensures graph) (k .before .node4 .given .1), ← a .truths5 .ensures graph) (c .negated .ensures)
 
 pub +truths-spec : {M : Type 1} → statement M
 +truths-spec =
@@ -102,7 +99,7 @@ pub +truths-spec : {M : Type 1} → statement M
     (λ c. search needs)
     (λ c κs. tt)
     (λ c. search needs)
-    (comparison-requires t)
+    (λ c κs. tt)
     (λ c. search needs)
     (truths-requires t)
     (truths-requires-2 t)

@@ -1,14 +1,14 @@
 -- `evaluator::condition::comparison`: both sides are whole trees, of entries below the capacity or leaves.
-use Rattle.program.proofs.Laws.{arith-any}
+use Rattle.program.proofs.Laws.{arith-whole}
 use Rattle.analysis.proofs.evaluator.condition.comparison.Statement.{statement}
 use Rattle.analysis.proofs.evaluator.condition.comparison.Tie as tie
 
 returns : tie.Need-returns
-returns c =
+returns c graph =
     let b = c .before in
     let a = b .before in
-    let s = a .before in
-    rw (arith-any (s .args .entries .now) (s .args .p), arith-any (s .args .entries .now) (s .args .q), ← a .signs .ensures, ← b .signs2 .ensures) (c .compare-sets .ensures)
+    let s = a .before .args in
+    rw (arith-whole (s .code .now) graph (s .p), arith-whole (s .code .now) graph (s .q), ← a .operand .ensures graph, ← b .operand2 .ensures graph) (c .compare-sets .ensures)
 
 pub comparison-spec : {M : Type 1} → statement M
-comparison-spec = tie.close (tie.spec (λ c κs. c .pre) (λ c κs. c .before .pre) (λ c κs. tt) returns)
+comparison-spec = tie.close (tie.spec (λ c κs. tt) (λ c κs. tt) (λ c κs. tt) returns)

@@ -3,4 +3,4 @@ use Rattle.analysis.proofs.evaluator.index.index_negative.Statement.{st
 use Rattle.analysis.proofs.evaluator.index.index_negative.Tie as tie
 
 pub index-negative-spec : {M : Type 1} → statement M
-index-negative-spec = tie.close (tie.spec (λ c κs. c .pre) (λ c κs. tt) (λ c. rw (← c .before .signs .ensures) (c .has .ensures)))
+index-negative-spec = tie.close (tie.spec (λ c κs. tt) (λ c κs. tt) (λ c graph. rw (← c .before .signs .ensures graph) (c .has .ensures)))

@@ -1,34 +1,47 @@
--- `evaluator::index::may_be_negative`: by the action's kind.
+-- `evaluator::index::may_be_negative` meets its contract.
+use borrow.Author.Needs.{needs}
 use Rattle.signs.specs.Lists.{anyOf}
-use Rattle.program.specs.Graph.{actionOf}
-use Rattle.program.proofs.Laws.{boolean-any, command-any}
-use Rattle.semantics.specs.Action.{performing, meaning}
-use Rattle.semantics.proofs.Keys.{other-kind}
+use Rattle.program.specs.Prepared.{decodedMeaning}
+use Rattle.program.proofs.Laws.{arith-whole, boolean-whole, command-whole}
 use Rattle.analysis.specs.Index.{indexSets, anyNegative, mayBeNegative}
+use Rattle.analysis.proofs.Negative.{any-first, any-append}
 use Rattle.analysis.proofs.evaluator.index.may_be_negative.Statement.{statement}
 use Rattle.analysis.proofs.evaluator.index.may_be_negative.Tie as tie
 
 returns : tie.Need-returns
-unfolding actionOf meaning
-returns c = rw (c .before .match .keys1) (c .performed-negative .ensures)
+unfolding decodedMeaning mayBeNegative indexSets anyNegative anyOf
+returns c = rw (c .enum-told .given .1)
 
 returns-2 : tie.Need-returns-2
-unfolding actionOf meaning mayBeNegative indexSets
+unfolding decodedMeaning mayBeNegative indexSets
 returns-2 c =
-    let s = c .before .before in
-    rw (c .before .match .keys2, boolean-any (s .args .entries .now) (s .args .n)) (c .boolean-negative .ensures)
+    let k = c .before .before in
+    let s = k .before .before .args in
+    rw (k .action .given .1, arith-whole (s .code .now) (s .graph .now) (k .action .given .0 .1 .0)) (c .arith-negative .ensures (s .graph .now))
 
 returns-3 : tie.Need-returns-3
-unfolding actionOf meaning mayBeNegative indexSets
+unfolding decodedMeaning mayBeNegative indexSets
 returns-3 c =
-    let s = c .before .before in
-    rw (c .before .match .keys3, command-any (s .args .entries .now) (s .args .n)) (c .exit-negative .ensures)
+    let k = c .before .before in
+    let s = k .before .before .args in
+    rw (k .action2 .given .1, any-first, any-append) (c .store-negative .ensures (s .graph .now))
 
 returns-4 : tie.Need-returns-4
-unfolding meaning performing mayBeNegative indexSets anyNegative anyOf
-returns-4 c = let s = c .before in rw (other-kind _ (s .args .n) (s .args .kind) (c .match .rest))
+unfolding decodedMeaning mayBeNegative indexSets
+returns-4 c =
+    let k = c .before .before in
+    let s = k .before .before .args in
+    rw (k .action3 .given .1, boolean-whole (s .code .now) (s .graph .now) (k .action3 .given .0 .0)) (c .boolean-negative .ensures (s .graph .now))
+
+returns-5 : tie.Need-returns-5
+unfolding decodedMeaning mayBeNegative indexSets
+returns-5 c =
+    let k = c .before .before in
+    let s = k .before .before .args in
+    rw (k .action4 .given .1, command-whole (s .code .now) (s .graph .now) (k .action4 .given .0 .0)) (c .exit-negative .ensures)
 
 pub may-be-negative-spec : {M : Type 1} → statement M
 may-be-negative-spec =
     tie.close
-    (tie.spec (λ c κs. c .before .pre) (λ c κs. c .before .pre) (λ c κs. c .before .pre) returns returns-2 returns-3 returns-4)
+    (tie.spec (λ c. search needs) (λ c. search needs) (λ c κs. search needs) (λ c. search needs) (λ c κs. search needs) (λ c. search needs) (λ c κs. search needs)
+    (λ c. search needs) (λ c κs. search needs) returns returns-2 returns-3 returns-4 returns-5)

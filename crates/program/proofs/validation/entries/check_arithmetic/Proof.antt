@@ -68,21 +68,5 @@ returns-5 c = unknown-checked _ Arithmetic _ (c .before .before .before .before 
 pub check-arithmetic-spec : {M : Type 1} → statement M
 check-arithmetic-spec =
     tie.close
-    (tie.spec
-    unused-requires
-    settled-requires
-    variable-requires
-    unused-requires-2
-    unused-requires-3
-    settled-requires-2
-    array-requires
-    reference-requires
-    unused-requires-4
-    settled-requires-3
-    two-references-requires
-    ask-requires
-    returns
-    returns-2
-    returns-3
-    returns-4
-    returns-5)
+    (tie.spec unused-requires settled-requires variable-requires unused-requires-2 unused-requires-3 settled-requires-2 array-requires reference-requires unused-requires-4
+    settled-requires-3 two-references-requires ask-requires returns returns-2 returns-3 returns-4 returns-5)

@@ -47,14 +47,4 @@ returns-5 c = unknown-checked _ Boolean _ (c .before .before .before .before .be
 pub check-boolean-spec : {M : Type 1} → statement M
 check-boolean-spec =
     tie.close
-    (tie.spec
-    no-operand-requires
-    one-reference-requires
-    two-references-requires
-    two-references-requires-2
-    ask-requires
-    returns
-    returns-2
-    returns-3
-    returns-4
-    returns-5)
+    (tie.spec no-operand-requires one-reference-requires two-references-requires two-references-requires-2 ask-requires returns returns-2 returns-3 returns-4 returns-5)

@@ -114,29 +114,6 @@ returns-8 c = unknown-checked _ Commands _ (c .before .before .before .before .b
 pub check-command-spec : {M : Type 1} → statement M
 check-command-spec =
     tie.close
-    (tie.spec
-    no-operand-requires
-    variable-requires
-    reference-requires
-    unused-requires
-    settled-requires
-    array-requires
-    reference-requires-2
-    reference-requires-3
-    settled-requires-2
-    two-references-requires
-    reference-requires-4
-    reference-requires-5
-    unused-requires-2
-    settled-requires-3
-    two-references-requires-2
-    one-reference-requires
-    ask-requires
-    returns
-    returns-2
-    returns-3
-    returns-4
-    returns-5
-    returns-6
-    returns-7
-    returns-8)
+    (tie.spec no-operand-requires variable-requires reference-requires unused-requires settled-requires array-requires reference-requires-2 reference-requires-3 settled-requires-2
+    two-references-requires reference-requires-4 reference-requires-5 unused-requires-2 settled-requires-3 two-references-requires-2 one-reference-requires ask-requires returns
+    returns-2 returns-3 returns-4 returns-5 returns-6 returns-7 returns-8)

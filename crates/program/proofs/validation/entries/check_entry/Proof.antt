@@ -62,17 +62,5 @@ returns-3 c = rw (c .before .before .enum-told3 .given .1) (c .check-command .en
 pub check-entry-spec : {M : Type 1} → statement M
 check-entry-spec =
     tie.close
-    (tie.spec
-    long-requires
-    mul-at
-    add-at
-    entry-at-requires
-    enum-told
-    check-arithmetic-requires
-    enum-told-2
-    check-boolean-requires
-    enum-told-3
-    check-command-requires
-    returns
-    returns-2
-    returns-3)
+    (tie.spec long-requires mul-at add-at entry-at-requires enum-told check-arithmetic-requires enum-told-2 check-boolean-requires enum-told-3 check-command-requires returns
+    returns-2 returns-3)

@@ -49,16 +49,5 @@ returns-4 c = rw (c .before .before .enum-told4 .given .1) (c .is-guarded .ensur
 pub of-sort-spec : {M : Type 1} → statement M
 of-sort-spec =
     tie.close
-    (tie.spec
-    enum-told
-    enum-told-2
-    enum-told-3
-    command-kind-requires
-    is-command-requires
-    enum-told-4
-    command-kind-requires-2
-    is-guarded-requires
-    returns
-    returns-2
-    returns-3
+    (tie.spec enum-told enum-told-2 enum-told-3 command-kind-requires is-command-requires enum-told-4 command-kind-requires-2 is-guarded-requires returns returns-2 returns-3
     returns-4)

@@ -28,10 +28,4 @@ returns-2 c = rw (← c .before .before .before .any-answer .ensures, c .before 
 pub settled-spec : {M : Type 1} → statement M
 settled-spec =
     tie.close
-    (tie.spec
-    any-answer-requires
-    ask-requires
-    returns
-    any-answer-requires-2
-    ask-requires-2
-    returns-2)
+    (tie.spec any-answer-requires ask-requires returns any-answer-requires-2 ask-requires-2 returns-2)

@@ -43,15 +43,4 @@ returns-3 c = rw (c .before .enum-told3 .given .1) (cc)
 pub slot-spec : {M : Type 1} → statement M
 slot-spec =
     tie.close
-    (tie.spec
-    enum-told
-    long-requires
-    enum-told-2
-    long-requires-2
-    add-result
-    enum-told-3
-    long-requires-3
-    add-result-2
-    returns
-    returns-2
-    returns-3)
+    (tie.spec enum-told long-requires enum-told-2 long-requires-2 add-result enum-told-3 long-requires-3 add-result-2 returns returns-2 returns-3)
