@@ -17,6 +17,7 @@ use program::Validity;
 use program::file;
 use program::prepared;
 use program::prepared::CODE;
+use program::prepared::NAMES_MOST;
 use program::validation;
 
 // The most records of a list.
@@ -39,14 +40,27 @@ fn byte_formed(size: u16, b: u8) -> bool
     one | ((size != 0) & some)
 }
 
+// A number of names, which is then seen to be at most 32: so that a loop over them needs no test for each, and many go at once.
+fn at_most(names: usize) -> usize
+    requires { ⌜ names ≤ 32 ⌝ }
+    ensures { λ r. ⌜ r ≡ names ⌝ }
+{
+    if names < NAMES_MOST as usize {
+        names
+    } else {
+        NAMES_MOST as usize
+    }
+}
+
 // Whether question 17 of the memory at a place is answered yes: most are, and then the first wrong byte need not be looked for.
 fn all_formed(code: &[u16; CODE], names: usize, bytes: &[u8], at: usize) -> bool
     requires { ⌜ (names ≤ 32) × (at + names ≤ length (now bytes)) ⌝ }
     ensures { λ r. ⌜ ((ns : List ℕ) → parts.SizesIn ns (now (code .entry)) names → r ≡ true → spec.memoryFormed ns (now (bytes .entry)) at ≡ Validity.Fit) ⌝ }
 {
+    let end = at_most(names);
     let mut formed = true;
     let mut i: usize = 0;
-    while i < names {
+    while i < end {
         formed = formed & byte_formed(prepared::size_of(code, i as u16), bytes[at + i]);
         i += 1;
     }

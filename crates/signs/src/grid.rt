@@ -98,12 +98,17 @@ pub fn grid(operator: Operator, l: Sign, r: Sign) -> u8
     GRIDS[grid_number(operator)][sign_number(l)][sign_number(r)]
 }
 
-// An operator on two sets, read out of the set table. A set above 7 is that of its remainder by 8.
+// An operator on two sets, read out of the set table. A set above 7 is that of its remainder by 8. Each arm reads one operator's part of the table, which is all of the constant that is then built.
 pub fn operate(operator: Operator, a: u8, b: u8) -> u8
     ensures { λ s. ⌜ s ≡ spec.operate operator a b ⌝ }
 {
-    let o = grid_number(operator);
     let l = (a % 8) as usize;
     let r = (b % 8) as usize;
-    SET_TABLE[o][l][r]
+    match operator {
+        Operator::Add => SET_TABLE[0][l][r],
+        Operator::Sub => SET_TABLE[1][l][r],
+        Operator::Mul => SET_TABLE[2][l][r],
+        Operator::Div => SET_TABLE[3][l][r],
+        Operator::Pow => SET_TABLE[4][l][r],
+    }
 }
