@@ -9,21 +9,24 @@ use lib.Dec.{eqb, leb}
 use lib.ListN.{length, take, drop}
 use Rattle.program.specs.Asking.{ask, askPlain, thenAsk}
 use Rattle.program.specs.File.{nameCount, sizes}
+use Rattle.program.specs.Graph as drawn
 use Rattle.program.specs.Graph.{graph}
-use Rattle.program.specs.Prepared.{PreparedLinked}
+use Rattle.program.specs.Prepared.{Prepared, PreparedLinked}
 use Rattle.program.specs.Questions.{validity}
 use Rattle.program.specs.declared.Refusal.{Refusal}
 use Rattle.program.specs.declared.Validity.{Validity}
 use Rattle.program.specs.declared.Validity.the-variants.{Fit, Refused}
-use Rattle.program.proofs.Laws.{sizes-length, counts, ask-fit}
+use Rattle.program.proofs.Laws.{sizes-length, counts, ask-fit, prepared-still}
 use Rattle.program.proofs.Tests.{two}
-use Rattle.analysis.specs.Judging.{namesIn, Ready, marked}
+use Rattle.analysis.specs.Judging.{namesIn, marked}
 use Rattle.analysis.specs.Records.{initialWidth, recordWidth, recordAt, recordCount, wholeRecords, bothWhole}
 use Rattle.analysis.specs.Soundness.{ThirdTermFor, ThirdTerm}
+use Rattle.analysis.specs.Tabled.{TablePut, Ready}
 use Rattle.analysis.specs.Verdict.{unlessRefused, judged, verdict, solutionValidity, markingBy, marking, offending, verdictNumbers}
 use Rattle.analysis.specs.declared.Marking.the-variants.{Refused as Declined}
 use Rattle.analysis.specs.declared.Verdict.{Verdict}
 use Rattle.analysis.specs.declared.Verdict.the-variants.{Refused as Refuses, InitialMissing, ResultMissing}
+use Rattle.analysis.proofs.Tables.{code-long}
 use Rattle.analysis.proofs.ThirdTerm.{third-term}
 
 -- few records
@@ -55,9 +58,12 @@ both-whole u v initial solution b e w q f = two (wholeRecords u initial) (wholeR
 pub some-names : (s : List ℕ) → validity s ≡ Fit → (names : ℕ) → names ≡ nameCount s → (0 < names) × (names ≤ 32)
 some-names s fit names p = let c = counts s fit in (omega (arith, c .some-name), omega (arith, c .names))
 
--- a well-formed program is prepared with its links; and so many names of a prepared one
-pub ready : {s : List ℕ} {r : Validity} {code graph : List ℕ} → PreparedLinked s r code graph → r ≡ Fit → Ready code graph
-ready p f = record { ns = _; g = _; prepared = p .prepared .prepared f; linked = p .linked f }
+-- a well-formed program is prepared with its links, and still is with the set table; and so many names of a prepared one
+pub still : {s : List ℕ} {r : Validity} {old code graph : List ℕ} → PreparedLinked s r old graph → r ≡ Fit → TablePut old code → Prepared (sizes s) (drawn.graph s) code graph
+still p f t = prepared-still _ _ (code-long (t .tabled)) (t .before) (p .prepared .prepared f)
+
+pub ready : {s : List ℕ} {r : Validity} {old code graph : List ℕ} → PreparedLinked s r old graph → r ≡ Fit → TablePut old code → Ready code graph
+ready p f t = record { ns = _; g = _; prepared = still p f t; linked = p .linked f; tabled = t .tabled }
 
 pub ready-names : {code graph : List ℕ} → Ready code graph → (0 < namesIn code) × (namesIn code ≤ 32)
 ready-names r = let c = r .prepared .coded in (omega (arith, c .some, c .count), omega (arith, c .few, c .count))

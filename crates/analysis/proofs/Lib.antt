@@ -3,6 +3,7 @@ pub mod Open
 pub mod Tabulated
 pub mod Laid
 pub mod Doubling
+pub mod Tables
 pub mod Searching
 pub mod Judged
 pub mod Values

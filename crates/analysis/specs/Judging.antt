@@ -10,7 +10,7 @@ use Rattle.program.specs.Asking.{askPlain}
 use Rattle.program.specs.FirstSuch.{firstSuch}
 use Rattle.program.specs.Graph.{Graph, edgeAt}
 use Rattle.program.specs.Meaning.{meaning}
-use Rattle.program.specs.Prepared.{Prepared, Linked, entriesIn, actionIn, decodedMeaning, nameCountPlace}
+use Rattle.program.specs.Prepared.{Prepared, entriesIn, actionIn, decodedMeaning, nameCountPlace}
 use Rattle.program.specs.declared.First.{First}
 use Rattle.program.specs.declared.Validity.the-variants.{Fit}
 use Rattle.semantics.specs.Step.{leaves}
@@ -19,6 +19,7 @@ use Rattle.analysis.specs.Index.{mayBeNegative}
 use Rattle.analysis.specs.Membership.{Indexed, Weighed}
 use Rattle.analysis.specs.Records.{recordWidth, recordCount, recordAt, nodeOf, memoryOf, hasAt, wholeRecords, solutionFormed}
 use Rattle.analysis.specs.Results.{results}
+use Rattle.analysis.specs.Tabled.{Ready}
 use Rattle.analysis.specs.Verdict.{missingInitial, spotAt, missingResult, indexMark, verdictBy, markingBy}
 use Rattle.analysis.specs.declared.Marking.{Marking}
 use Rattle.analysis.specs.declared.Spot.{Spot}
@@ -71,14 +72,7 @@ pub record Ordered (names : ℕ) (solution index rho : List ℕ) (weight : ℕ) 
 abbrev pub Filled : ℕ → List ℕ → List ℕ → Type 0
 Filled names solution index = Indexed (2 + names) solution (recordCount (2 + names) solution) index
 
--- a program that was prepared, with its links
-pub record Ready (code graph : List ℕ) : Type 0 where
-  pub ns : List ℕ
-  pub g : Graph
-  pub prepared : Prepared ns g code graph
-  pub linked : Linked graph
-
--- with a solution of which 16 was answered yes and some records are indexed
+-- a program that is ready, with a solution of which 16 was answered yes and some records are indexed
 pub record Searchable (code graph solution index : List ℕ) : Type 0 where
   pub ready : Ready code graph
   pub whole : wholeRecords (2 + namesIn code) solution ≡ true

@@ -7,6 +7,7 @@ pub mod Results
 pub mod Changing
 pub mod Index
 pub mod Verdict
+pub mod Tabled
 pub mod Judging
 pub mod Solver
 pub mod Solving

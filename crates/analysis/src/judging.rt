@@ -12,6 +12,7 @@ ghost use Rattle.analysis.specs.Changing;
 ghost use Rattle.analysis.specs.Judging as parts;
 ghost use Rattle.analysis.specs.Records;
 ghost use Rattle.analysis.specs.Soundness;
+ghost use Rattle.analysis.specs.Tabled;
 ghost use Rattle.analysis.specs.Verdict as spec;
 use crate::Change;
 use crate::Mark;
@@ -25,6 +26,7 @@ use crate::evaluator::results;
 use crate::lists;
 use crate::membership;
 use crate::membership::INDEX;
+use crate::set_table;
 use program::First;
 use program::Refusal;
 use program::Validity;
@@ -99,7 +101,7 @@ fn picked(
     weight: u32,
     e: u16,
 ) -> bool
-    requires { ⌜ parts.Ordered (parts.namesIn (now code)) (now solution) (now index) (now rho) weight ⌝ }
+    requires { ⌜ parts.Ordered (parts.namesIn (now code)) (now solution) (now index) (now rho) weight × Tabled.Tabled (now code) ⌝ }
     ensures { λ r. ⌜ ((ns : List ℕ) (g : Graph.Graph) (ρ : List ℕ)
         → parts.Searched ns g (now (code .entry)) (now (graph .entry)) query (now (solution .entry)) (now (index .entry))
         → parts.ReadInto ρ (now (rho .entry)) (length ns) → e < length (g .edges) → r ≡ parts.picks ns g (now (solution .entry)) query ρ e) ⌝ }
@@ -127,7 +129,7 @@ fn first_picked(
     weight: u32,
     node: u16,
 ) -> First
-    requires { ⌜ parts.Ordered (parts.namesIn (now code)) (now solution) (now index) (now rho) weight × Prepared.Linked (now graph) ⌝ }
+    requires { ⌜ parts.Ordered (parts.namesIn (now code)) (now solution) (now index) (now rho) weight × Prepared.Linked (now graph) × Tabled.Tabled (now code) ⌝ }
     ensures { λ r. ⌜ ((ns : List ℕ) (g : Graph.Graph) (ρ : List ℕ)
         → parts.Searched ns g (now (code .entry)) (now (graph .entry)) query (now (solution .entry)) (now (index .entry))
         → parts.ReadInto ρ (now (rho .entry)) (length ns) → node < Prepared.nodesMost → r ≡ parts.firstPicked ns g (now (solution .entry)) query node ρ) ⌝ }
@@ -255,6 +257,7 @@ fn first_initial(index: &[u16; INDEX], initial: &[u8], solution: &[u8], names: u
 
 // Whether an index of an edge may be negative in the widest abstract memory; if none may, none may in any.
 fn ever_negative(code: &[u16; CODE], graph: &[u16; GRAPH]) -> bool
+    requires { ⌜ Tabled.Tabled (now code) ⌝ }
     ensures { λ r. ⌜ (r ≡ false → (e : ℕ) → e < getD (now (graph .entry)) Prepared.edgeCountPlace 0 → parts.NeverNegative (now (code .entry)) (now (graph .entry)) e) ⌝ }
 {
     let widest = [7u8; 32];
@@ -320,7 +323,7 @@ fn judge_formed(
     initial: &[u8],
     solution: &[u8],
 ) -> Verdict
-    requires { ⌜ parts.Ready (now code) (now graph) × (Records.wholeRecords (parts.namesIn (now code)) (now initial) ≡ true)
+    requires { ⌜ Tabled.Ready (now code) (now graph) × (Records.wholeRecords (parts.namesIn (now code)) (now initial) ≡ true)
         × (Records.wholeRecords (2 + parts.namesIn (now code)) (now solution) ≡ true) ⌝ }
     ensures { λ r. ⌜ ((ns : List ℕ) (g : Graph.Graph) → Prepared.Prepared ns g (now (code .entry)) (now (graph .entry))
         → Records.solutionFormed ns g (now (solution .entry)) ≡ Validity.Fit
@@ -360,7 +363,7 @@ fn judge_prepared(
     initial: &[u8],
     solution: &[u8],
 ) -> Verdict
-    requires { ⌜ parts.Ready (now code) (now graph) ⌝ }
+    requires { ⌜ Tabled.Ready (now code) (now graph) ⌝ }
     ensures { λ r. ⌜ ((ns : List ℕ) (g : Graph.Graph) → Prepared.Prepared ns g (now (code .entry)) (now (graph .entry))
         → r ≡ spec.judged ns g (now (initial .entry)) (now (solution .entry))) ⌝ }
 {
@@ -382,7 +385,7 @@ fn judge_prepared(
 
 // The index mark of a list of whole, well-formed records, of which none is sought.
 fn mark_formed(code: &[u16; CODE], graph: &[u16; GRAPH], solution: &[u8]) -> Mark
-    requires { ⌜ parts.Ready (now code) (now graph) × (Records.wholeRecords (2 + parts.namesIn (now code)) (now solution) ≡ true) ⌝ }
+    requires { ⌜ Tabled.Ready (now code) (now graph) × (Records.wholeRecords (2 + parts.namesIn (now code)) (now solution) ≡ true) ⌝ }
     ensures { λ r. ⌜ ((ns : List ℕ) (g : Graph.Graph) → Prepared.Prepared ns g (now (code .entry)) (now (graph .entry))
         → Records.solutionFormed ns g (now (solution .entry)) ≡ Validity.Fit
         → r ≡ spec.indexMark ns g (now (solution .entry))) ⌝ }
@@ -394,7 +397,7 @@ fn mark_formed(code: &[u16; CODE], graph: &[u16; GRAPH], solution: &[u8]) -> Mar
 
 // The index mark over a prepared program: 16 and 17 of a list of records, and then its mark.
 fn mark_prepared(code: &[u16; CODE], graph: &[u16; GRAPH], solution: &[u8]) -> Marking
-    requires { ⌜ parts.Ready (now code) (now graph) ⌝ }
+    requires { ⌜ Tabled.Ready (now code) (now graph) ⌝ }
     ensures { λ r. ⌜ ((ns : List ℕ) (g : Graph.Graph) → Prepared.Prepared ns g (now (code .entry)) (now (graph .entry))
         → r ≡ parts.marked ns g (now (solution .entry))) ⌝ }
 {
@@ -420,7 +423,10 @@ pub fn judge(program: &[u8], initial: &[u8], solution: &[u8]) -> Verdict
     let mut graph = [0u16; GRAPH];
     let v = prepared::prepare_linked(program, &mut code, &mut graph);
     match v {
-        Validity::Fit => judge_prepared(&code, &graph, initial, solution),
+        Validity::Fit => {
+            set_table::put(&mut code);
+            judge_prepared(&code, &graph, initial, solution)
+        }
         Validity::Refused(x) => Verdict::Refused(x),
     }
 }
@@ -454,7 +460,10 @@ pub fn index_mark(program: &[u8], solution: &[u8]) -> Marking
     let mut graph = [0u16; GRAPH];
     let v = prepared::prepare_linked(program, &mut code, &mut graph);
     match v {
-        Validity::Fit => mark_prepared(&code, &graph, solution),
+        Validity::Fit => {
+            set_table::put(&mut code);
+            mark_prepared(&code, &graph, solution)
+        }
         Validity::Refused(x) => Marking::Refused(x),
     }
 }

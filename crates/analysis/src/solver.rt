@@ -9,11 +9,12 @@ ghost use Rattle.program.specs.Graph.{Graph};
 ghost use Rattle.program.specs.Prepared.{Prepared, Linked};
 ghost use Rattle.program.specs.declared.Validity.the-variants.{Fit};
 ghost use Rattle.analysis.specs.Changing.{digitsEnd, setsOf};
-ghost use Rattle.analysis.specs.Judging.{Ready, ReadInto, namesIn};
+ghost use Rattle.analysis.specs.Judging.{ReadInto, namesIn};
 ghost use Rattle.analysis.specs.Membership.{Weighed};
 ghost use Rattle.analysis.specs.Records as records;
 ghost use Rattle.analysis.specs.Solver as spec;
 ghost use Rattle.analysis.specs.Solving as parts;
+ghost use Rattle.analysis.specs.Tabled.{Tabled, Ready};
 use crate::Change;
 use crate::Records;
 use crate::Solved;
@@ -23,6 +24,7 @@ use crate::evaluator::results;
 use crate::lists;
 use crate::membership;
 use crate::membership::INDEX;
+use crate::set_table;
 use program::Refusal;
 use program::Validity;
 use program::file;
@@ -121,7 +123,7 @@ fn offer_edge(
     e: u16,
     p: Progress,
 ) -> Progress
-    requires { ⌜ parts.Growing (2 + namesIn (now code)) (now buffer) (now index) p × Weighed (namesIn (now code)) (now rho) weight ⌝ }
+    requires { ⌜ parts.Growing (2 + namesIn (now code)) (now buffer) (now index) p × Weighed (namesIn (now code)) (now rho) weight × Tabled (now code) ⌝ }
     ensures { λ r. ⌜ parts.Extended (2 + namesIn (now (code .entry))) (now (buffer .entry)) p (now (buffer .exit)) (now (index .exit)) r ⌝ }
     ensures { λ r. ⌜ ((ns : List ℕ) (g : Graph) (ρ : List ℕ) (room : ℕ) → Prepared ns g (now (code .entry)) (now (graph .entry)) → ReadInto ρ (now (rho .entry)) (length ns)
         → p .room ≡ room → e < length (g .edges)
@@ -152,7 +154,7 @@ fn offer_successors(
     node: u16,
     p: Progress,
 ) -> Progress
-    requires { ⌜ Linked (now graph) × parts.Growing (2 + namesIn (now code)) (now buffer) (now index) p × Weighed (namesIn (now code)) (now rho) weight ⌝ }
+    requires { ⌜ Linked (now graph) × parts.Growing (2 + namesIn (now code)) (now buffer) (now index) p × Weighed (namesIn (now code)) (now rho) weight × Tabled (now code) ⌝ }
     ensures { λ r. ⌜ parts.Extended (2 + namesIn (now (code .entry))) (now (buffer .entry)) p (now (buffer .exit)) (now (index .exit)) r ⌝ }
     ensures { λ r. ⌜ ((ns : List ℕ) (g : Graph) (ρ : List ℕ) (room : ℕ) → Prepared ns g (now (code .entry)) (now (graph .entry)) → ReadInto ρ (now (rho .entry)) (length ns)
         → p .room ≡ room
@@ -178,7 +180,7 @@ fn offer_from(
     k: usize,
     p: Progress,
 ) -> Progress
-    requires { ⌜ Linked (now graph) × parts.Growing (2 + namesIn (now code)) (now buffer) (now index) p × (k < p .count) ⌝ }
+    requires { ⌜ Linked (now graph) × parts.Growing (2 + namesIn (now code)) (now buffer) (now index) p × (k < p .count) × Tabled (now code) ⌝ }
     ensures { λ r. ⌜ parts.Extended (2 + namesIn (now (code .entry))) (now (buffer .entry)) p (now (buffer .exit)) (now (index .exit)) r ⌝ }
     ensures { λ r. ⌜ ((ns : List ℕ) (g : Graph) (room : ℕ) → Prepared ns g (now (code .entry)) (now (graph .entry)) → p .room ≡ room
         → parts.foundIn (2 + namesIn (now (code .entry))) (now (buffer .exit)) r
@@ -201,7 +203,7 @@ fn descend(
     buffer: &mut [u8],
     p: Progress,
 ) -> Progress
-    requires { ⌜ Linked (now graph) × parts.Growing (2 + namesIn (now code)) (now buffer) (now index) p ⌝ }
+    requires { ⌜ Linked (now graph) × parts.Growing (2 + namesIn (now code)) (now buffer) (now index) p × Tabled (now code) ⌝ }
     ensures { λ r. ⌜ parts.Extended (2 + namesIn (now (code .entry))) (now (buffer .entry)) p (now (buffer .exit)) (now (index .exit)) r ⌝ }
     ensures { λ r. ⌜ ((ns : List ℕ) (g : Graph) (room : ℕ) → Prepared ns g (now (code .entry)) (now (graph .entry)) → p .room ≡ room
         → parts.foundIn (2 + namesIn (now (code .entry))) (now (buffer .exit)) r ≡ spec.descend room ns g room 0 (parts.foundIn (2 + namesIn (now (code .entry))) (now (buffer .entry)) p)) ⌝ }
@@ -361,7 +363,10 @@ pub fn solve(program: &[u8], initial: &[u8], buffer: &mut [u8]) -> Solved
     let mut graph = [0u16; GRAPH];
     let v = prepared::prepare_linked(program, &mut code, &mut graph);
     match v {
-        Validity::Fit => solve_prepared(&code, &graph, initial, buffer),
+        Validity::Fit => {
+            set_table::put(&mut code);
+            solve_prepared(&code, &graph, initial, buffer)
+        }
         Validity::Refused(x) => refused(x),
     }
 }

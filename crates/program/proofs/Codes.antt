@@ -146,6 +146,7 @@ module _ (s : List ℕ) (fit : validity s ≡ Fit) (one two three four : List �
       let names = known .names in
       let few = known .arithmetic in
       record {
+        long = length-set four arithmeticCountPlace (entryCount s Arithmetic) ∙ v .long;
         some = omega (arith, known .some-name);
         few = omega arith;
         most = few-cells s fit;

@@ -10,12 +10,12 @@ use Rattle.program.specs.Asking.{ask, thenAsk, isRefused, inTurn, askEac
 use Rattle.program.specs.Drawing.{over, edgeRead, edgeNumbers}
 use Rattle.program.specs.File.{nameCount, sizeAt, sizes, entryCount, entry, cellsOf, cellCount, firstCell}
 use Rattle.program.specs.FirstSuch.{firstOf, firstSuch}
-use Rattle.program.specs.Graph.{Action, Edge, edges, edgeCount, nodeCount, graphBytes}
+use Rattle.program.specs.Graph.{Graph, Action, Edge, edges, edgeCount, nodeCount, graphBytes}
 use Rattle.program.specs.Kind.{isGuarded}
 use Rattle.program.specs.Meaning.{meaning}
 use Rattle.program.specs.Node.{arithForm, arithTree, booleanForm, booleanTree, commandForm, commandTree}
 use Rattle.program.specs.Prepared as Prepared
-use Rattle.program.specs.Prepared.{edgeCountPlace, entriesIn, firstIn, nextIn}
+use Rattle.program.specs.Prepared.{tablePlace, codeLength, edgeCountPlace, entriesIn, firstIn, nextIn}
 use Rattle.program.specs.Questions.{validity, inputValidity, programPart, initialPart}
 use Rattle.program.specs.Sorted.{arithNamed, booleanNamed, commandNamed, actionNamed, meaningNamed, arithPoints, booleanPoints, isGuardedTree, commandPoints}
 use Rattle.program.specs.Syntax.{number, arithEntry, truth, booleanEntry, skip, commandEntry}
@@ -48,6 +48,7 @@ use Rattle.program.proofs.Nodes.{Inside}
 use Rattle.program.proofs.Places
 use Rattle.program.proofs.Places.{Placed}
 use Rattle.program.proofs.Preparing
+use Rattle.program.proofs.Untouched
 use Rattle.program.proofs.Readings
 use Rattle.program.proofs.Sorting
 use Rattle.program.proofs.Tests.{passed}
@@ -170,6 +171,11 @@ module _ (code graph : List ℕ) where
 
   pub command-whole : (n : ℕ) → commandAt (entriesIn code graph) n ≡ commandBelow (commandTrees (entriesIn code graph) 256) n
   command-whole = Readings.command-any code graph
+
+-- it depends on the code before the set table alone
+pub prepared-still : (a b : List ℕ) → length b ≡ codeLength → ((i : ℕ) → i < tablePlace → getD b i 0 ≡ getD a i 0) → {ns : List ℕ} {g : Graph} {graph : List ℕ}
+    → Prepared.Prepared ns g a graph → Prepared.Prepared ns g b graph
+prepared-still = Untouched.prepared-still
 
 -- following the links of a node
 module _ {graph : List ℕ} (l : Prepared.Linked graph) where

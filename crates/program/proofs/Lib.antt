@@ -35,6 +35,7 @@ pub mod Threads
 pub mod Following
 pub mod SameTrees
 pub mod Preparing
+pub mod Untouched
 pub mod Agreeing
 pub mod Inputs
 pub mod Places

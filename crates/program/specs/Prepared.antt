@@ -58,7 +58,7 @@ abbrev pub numberPlace : ℕ
 numberPlace = cellsMost
 
 -- the places of the code's sections: four numbers for each of 512 arithmetic and 256 boolean entries, 32 sizes, 33 first cells (the last is the number of all
--- cells), and the counts of names and of arithmetic entries
+-- cells), the counts of names and of arithmetic entries, and room for the set table, which a crate above puts there
 abbrev pub booleanPlace : ℕ
 booleanPlace = 2048
 
@@ -74,8 +74,11 @@ nameCountPlace = 3137
 abbrev pub arithmeticCountPlace : ℕ
 arithmeticCountPlace = 3138
 
+abbrev pub tablePlace : ℕ
+tablePlace = 3139
+
 abbrev pub codeLength : ℕ
-codeLength = 3139
+codeLength = 3459
 
 -- those of the graph's: four numbers for each of 256 commands and of 255 edges, the lowest edge out of each of 129 nodes, the next edge after each of 255, and
 -- the counts of nodes and edges
@@ -197,6 +200,7 @@ lowestFrom (suc n) source i node = cond (eqb (source i) node) i (lowestFrom n so
 
 -- code of a program whose names have the sizes ns, at most 32 of at most 512 cells. A variable's entry has its cell; past the last arithmetic entry there are zeros
 pub record Coded (ns code : List ℕ) : Type 0 where
+  pub long : length code ≡ codeLength
   pub some : 0 < length ns
   pub few : length ns ≤ namesMost
   pub most : cellCount ns ≤ cellsMost

@@ -1,4 +1,5 @@
-// A prepared program, in two lent arrays. Its code: the decoded entries of its expressions, the names' sizes and first cells, and the counts of names and of arithmetic entries.
+// A prepared program, in two lent arrays. Its code: the decoded entries of its expressions, the names' sizes and first cells, the counts of names and of arithmetic entries, and room for
+// the set table.
 // Its graph: the decoded commands, the edges as words, the links of each node's edges, and the counts of nodes and edges.
 
 ghost use mathlib.Core.Path.{_≡_};
@@ -23,8 +24,9 @@ use crate::file;
 use crate::validation;
 use signs::Operator;
 
-// The places of the code's sections: four words for each of 768 entries, 32 sizes, 33 first cells (the last is the number of all cells), two counts.
-pub const CODE: usize = 3139;
+// The places of the code's sections: four words for each of 768 entries, 32 sizes, 33 first cells (the last is the number of all cells), two counts, and room for the set table, which a
+// crate above puts there.
+pub const CODE: usize = 3459;
 
 pub(crate) const BOOLEAN: usize = 2048;
 
@@ -37,6 +39,8 @@ pub(crate) const CELLS_END: usize = 3136;
 pub(crate) const NAMES: usize = 3137;
 
 pub(crate) const ARITHMETIC: usize = 3138;
+
+pub const TABLE: usize = 3139;
 
 // The places of the graph's sections: four words for each of 256 commands and of 255 edges, the first edge of 129 nodes, the next edge of 255, two counts.
 pub const GRAPH: usize = 2430;

@@ -5,8 +5,9 @@ use mathlib.Core.List.{List, List·Memᴰ}
 use Prim.Native.Nat.{ℕ, _%_, _<_}
 use lib.Dec.{T}
 use lib.IntN.{ℤ}
+use lib.ListN.{length}
 use mir.Facts.{yes-and}
-use Rattle.signs.specs.Grid.{grid, operate}
+use Rattle.signs.specs.Grid.{grid, operate, setTable, operateBy}
 use Rattle.signs.specs.Lists.{anyOf, pairs}
 use Rattle.signs.specs.Number.{apply, compares}
 use Rattle.signs.specs.Sign.{signOf, single, signs, has, setOf, members, unite, unionAll, added, removed}
@@ -107,6 +108,13 @@ operate-below o a b = Membership.unionAll-below (pairs (grid o) (members a) (mem
 -- an operator on sets has what the entries of its pairs of members have, and nothing else
 pub has-operate : (o : Operator) (a b : ℕ) (s : Sign) → has (operate o a b) s ≡ somePair (λ l r. has (grid o l r) s) a b
 has-operate = Operate.has-operate
+
+-- the set table: 320 numbers, each of them the operator on its two sets
+pub table-rule : (o : Operator) (a b : ℕ) → operateBy setTable o a b ≡ operate o a b
+table-rule = Operate.table-rule
+
+pub table-long : length setTable ≡ 320
+table-long = Operate.table-long
 
 pub operate-entry : (o : Operator) (a b : ℕ) (l r : Sign) → T (has a l) → T (has b r) → Within (grid o l r) (operate o a b)
 operate-entry o a b l r ha hb s h = subst T (sym (has-operate o a b s)) (pair-entry (λ l r. has (grid o l r) s) a b l r ha hb h)

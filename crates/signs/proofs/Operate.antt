@@ -1,12 +1,11 @@
 -- An operator on sets: its result has what the grid's entry of some pair of members has. The set table has its results.
-use mathlib.Core.Path.{_≡_, _∙_}
+use mathlib.Core.Path.{_≡_, refl, _∙_}
 use mathlib.Core.Bool.{Bool}
-use mathlib.Core.List.{[]}
-use Prim.Native.Nat.{ℕ, _%_, _<_}
+use Prim.Native.Nat.{ℕ, _+_, _*_, _%_, _<_}
 use lib.Dec.{eqb, eqb→eq, ltb, ltb→lt}
-use lib.ListN.{getD}
+use lib.ListN.{length, getD}
 use Rattle.signs.specs.Lists.{pairs}
-use Rattle.signs.specs.Grid.{grids, gridNumber, signNumber, grid, operate, setTable}
+use Rattle.signs.specs.Grid.{grids, gridNumber, signNumber, grid, operate, setTable, operateBy}
 use Rattle.signs.specs.Sign.{has, members}
 use Rattle.signs.specs.declared.Operator.{Operator}
 use Rattle.signs.specs.declared.Sign.{Sign}
@@ -34,10 +33,14 @@ operate-remainder : (o : Operator) (a b : ℕ) → operate o (a % 8) (b % 8) ≡
 unfolding operate
 operate-remainder o a b = rw (members-remainder a, members-remainder b)
 
--- the set table's rule at each of its entries: what it has for the remainders of two sets is the operator on the sets
-pub table-rule : (o : Operator) (a b : ℕ) → getD (getD (getD setTable (gridNumber o) []) (a % 8) []) (b % 8) 0 ≡ operate o a b
+-- the set table's rule at each of its entries: what it has for two sets is the operator on them
+pub table-rule : (o : Operator) (a b : ℕ) → operateBy setTable o a b ≡ operate o a b
 unfolding definitions
 table-rule o a b = eqb→eq _ _ (at-sets (right o) (at-operator (λ o. everyBelow 8 (λ a. everyBelow 8 (right o a))) tt o) a b) ∙ operate-remainder o a b
   where
     right : Operator → ℕ → ℕ → Bool
-    right o a b = eqb (getD (getD (getD setTable (gridNumber o) []) a []) b 0) (operate o a b)
+    right o a b = eqb (getD setTable (64 * gridNumber o + 8 * a + b) 0 % 256) (operate o a b)
+
+pub table-long : length setTable ≡ 320
+unfolding definitions
+table-long = refl

@@ -1,8 +1,8 @@
 -- The operators on signs and on sets of signs (document 01, "Signs").
-use Prim.Native.Nat.{ℕ}
-use mathlib.Core.List.{List, [], _∷_, map}
+use Prim.Native.Nat.{ℕ, _+_, _*_, _%_}
+use mathlib.Core.List.{List, [], _∷_, flatMap}
 use lib.ListN.{getD}
-use Rattle.signs.specs.Lists.{pairs, tabulate}
+use Rattle.signs.specs.Lists.{pairs, indices}
 use Rattle.signs.specs.Sign.{members, unionAll}
 use Rattle.signs.specs.declared.Operator.{Operator}
 use Rattle.signs.specs.declared.Operator.the-variants.{Add, Sub, Mul, Div, Pow}
@@ -45,6 +45,14 @@ operate o a b = unionAll (pairs (grid o) (members a) (members b))
 unfoldable pub operators : List Operator
 operators = Add ∷ Sub ∷ Mul ∷ Div ∷ Pow ∷ []
 
--- the operators on sets as "one constant table of 320 sign sets": by operator, left set and right set
-unfoldable pub setTable : List (List (List ℕ))
-setTable = map (λ o. tabulate 8 (λ a. tabulate 8 (operate o a))) operators
+-- the operators on sets as "one constant table of 320 sign sets": operator by operator, left set by left set, right set by right set
+unfoldable pub setTable : List ℕ
+setTable = flatMap (λ o. pairs (operate o) (indices 8) (indices 8)) operators
+
+-- an operator's place in it for two sets, each by its remainder by 8
+unfoldable pub setPlace : Operator → ℕ → ℕ → ℕ
+setPlace o a b = 64 * gridNumber o + 8 * (a % 8) + b % 8
+
+-- what a table of words has there: the low byte
+unfoldable pub operateBy : List ℕ → Operator → ℕ → ℕ → ℕ
+operateBy table o a b = getD table (setPlace o a b) 0 % 256

@@ -18,6 +18,7 @@ ghost use Rattle.program.specs.Prepared.{entriesIn};
 ghost use Rattle.program.specs.Tree.{arithAt, booleanBelow, booleanTrees, commandBelow, commandTrees};
 ghost use Rattle.signs.specs.Truth as answer;
 ghost use Rattle.analysis.specs.Signs as spec;
+ghost use Rattle.analysis.specs.Tabled.{Tabled};
 
 // True alone.
 fn certain() -> Truths
@@ -31,6 +32,7 @@ fn certain() -> Truths
 
 // A comparison of two arithmetic entries.
 fn comparison(code: &[u16; CODE], rho: &[u8; 32], o: Comparison, p: u16, q: u16) -> Truths
+    requires { ⌜ Tabled (now code) ⌝ }
     ensures { λ r. ⌜ ((graph : List ℕ) → r ≡ answer.compareSets o
         (spec.signsIn (now (rho .entry)) (arithAt (entriesIn (now (code .entry)) graph) p))
         (spec.signsIn (now (rho .entry)) (arithAt (entriesIn (now (code .entry)) graph) q))) ⌝ }
@@ -42,6 +44,7 @@ fn comparison(code: &[u16; CODE], rho: &[u8; 32], o: Comparison, p: u16, q: u16)
 
 // The truth answers of boolean entry `n`, a part of entry `bound`.
 pub(crate) fn truths(code: &[u16; CODE], rho: &[u8; 32], bound: u16, n: u16) -> Truths
+    requires { ⌜ Tabled (now code) ⌝ }
     ensures { λ r. ⌜ ((graph : List ℕ) → r ≡ spec.truthsIn (now (rho .entry)) (booleanBelow (booleanTrees (entriesIn (now (code .entry)) graph) bound) n)) ⌝ }
 {
     let node = prepared::boolean_node(code, bound, n);
@@ -73,6 +76,7 @@ pub(crate) fn exit_truths(
     bound: u16,
     n: u16,
 ) -> Truths
+    requires { ⌜ Tabled (now code) ⌝ }
     ensures { λ r. ⌜ r ≡ spec.truthsIn (now (rho .entry))
         (done (commandBelow (commandTrees (entriesIn (now (code .entry)) (now (graph .entry))) bound) n)) ⌝ }
 {

@@ -22,9 +22,11 @@ ghost use Rattle.program.specs.Tree.{arithBelow, arithTrees, arithAt, booleanBe
 ghost use Rattle.signs.specs.Sign.{has};
 ghost use Rattle.analysis.specs.Index as spec;
 ghost use Rattle.analysis.specs.Signs.{signsIn};
+ghost use Rattle.analysis.specs.Tabled.{Tabled};
 
 // Whether the index at arithmetic entry `n`, a part of entry `bound`, may be negative.
 fn index_negative(code: &[u16; CODE], rho: &[u8; 32], bound: u16, n: u16) -> bool
+    requires { ⌜ Tabled (now code) ⌝ }
     ensures { λ r. ⌜ ((graph : List ℕ) →
         r ≡ has (signsIn (now (rho .entry)) (arithBelow (arithTrees (entriesIn (now (code .entry)) graph) bound) n)) Sign.Minus) ⌝ }
 {
@@ -34,6 +36,7 @@ fn index_negative(code: &[u16; CODE], rho: &[u8; 32], bound: u16, n: u16) -> boo
 
 // Whether one in arithmetic entry `n`, a part of entry `bound`, may be.
 fn arith_negative(code: &[u16; CODE], rho: &[u8; 32], bound: u16, n: u16) -> bool
+    requires { ⌜ Tabled (now code) ⌝ }
     ensures { λ r. ⌜ ((graph : List ℕ) →
         r ≡ spec.anyNegative (spec.arithIndexes (now (rho .entry)) (arithBelow (arithTrees (entriesIn (now (code .entry)) graph) bound) n))) ⌝ }
 {
@@ -56,6 +59,7 @@ fn arith_negative(code: &[u16; CODE], rho: &[u8; 32], bound: u16, n: u16) -> boo
 
 // Whether one in either of two arithmetic entries may be.
 fn either_negative(code: &[u16; CODE], rho: &[u8; 32], p: u16, q: u16) -> bool
+    requires { ⌜ Tabled (now code) ⌝ }
     ensures { λ r. ⌜ ((graph : List ℕ) →
         r ≡ (spec.anyNegative (spec.arithIndexes (now (rho .entry)) (arithAt (entriesIn (now (code .entry)) graph) p))
         || spec.anyNegative (spec.arithIndexes (now (rho .entry)) (arithAt (entriesIn (now (code .entry)) graph) q)))) ⌝ }
@@ -67,6 +71,7 @@ fn either_negative(code: &[u16; CODE], rho: &[u8; 32], p: u16, q: u16) -> bool
 
 // Whether one in boolean entry `n`, a part of entry `bound`, may be.
 fn boolean_negative(code: &[u16; CODE], rho: &[u8; 32], bound: u16, n: u16) -> bool
+    requires { ⌜ Tabled (now code) ⌝ }
     ensures { λ r. ⌜ ((graph : List ℕ) →
         r ≡ spec.anyNegative (spec.booleanIndexes (now (rho .entry)) (booleanBelow (booleanTrees (entriesIn (now (code .entry)) graph) bound) n))) ⌝ }
 {
@@ -96,6 +101,7 @@ fn exit_negative(
     bound: u16,
     n: u16,
 ) -> bool
+    requires { ⌜ Tabled (now code) ⌝ }
     ensures { λ r. ⌜ r ≡ spec.anyNegative (spec.booleanIndexes (now (rho .entry))
         (done (commandBelow (commandTrees (entriesIn (now (code .entry)) (now (graph .entry))) bound) n))) ⌝ }
 {
@@ -113,6 +119,7 @@ fn exit_negative(
 
 // Whether the index of a store may be, or one in its index or value.
 fn store_negative(code: &[u16; CODE], rho: &[u8; 32], i: u16, a: u16) -> bool
+    requires { ⌜ Tabled (now code) ⌝ }
     ensures { λ r. ⌜ ((graph : List ℕ) →
         r ≡ (has (signsIn (now (rho .entry)) (arithAt (entriesIn (now (code .entry)) graph) i)) Sign.Minus
         || (spec.anyNegative (spec.arithIndexes (now (rho .entry)) (arithAt (entriesIn (now (code .entry)) graph) i))
@@ -130,6 +137,7 @@ pub(crate) fn may_be_negative(
     rho: &[u8; 32],
     action: ActionNode,
 ) -> bool
+    requires { ⌜ Tabled (now code) ⌝ }
     ensures { λ r. ⌜ r ≡ spec.mayBeNegative (now (rho .entry)) (decodedMeaning (entriesIn (now (code .entry)) (now (graph .entry))) action) ⌝ }
 {
     match action {

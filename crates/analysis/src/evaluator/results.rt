@@ -23,6 +23,7 @@ ghost use Rattle.program.specs.Meaning as action;
 ghost use Rattle.signs.specs.Sign as sign;
 ghost use Rattle.analysis.specs.Changing.{packed, nameFor, Before, ResultsIn};
 ghost use Rattle.analysis.specs.Results as spec;
+ghost use Rattle.analysis.specs.Tabled.{Tabled};
 
 // A set before others, where it is to be there.
 fn before(set: u8, there: bool, others: u64) -> u64
@@ -117,6 +118,7 @@ fn unchanged(holds: bool) -> u64
 
 // A[i] := a.
 fn element_stored(code: &[u16; CODE], rho: &[u8; 32], x: u16, i: u16, a: u16) -> u64
+    requires { ⌜ Tabled (now code) ⌝ }
     ensures { λ r. ⌜ ((graph : List ℕ) → ResultsIn (now (rho .entry))
         (action.stores x (arithAt (entriesIn (now (code .entry)) graph) i) (arithAt (entriesIn (now (code .entry)) graph) a)) r) ⌝ }
 {
@@ -135,6 +137,7 @@ pub(crate) fn results(
     rho: &[u8; 32],
     action: ActionNode,
 ) -> u64
+    requires { ⌜ Tabled (now code) ⌝ }
     ensures { λ r. ⌜ ResultsIn (now (rho .entry)) (decodedMeaning (entriesIn (now (code .entry)) (now (graph .entry))) action) r ⌝ }
 {
     match action {

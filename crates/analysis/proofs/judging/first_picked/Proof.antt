@@ -49,5 +49,5 @@ returns-2 c ns g ρ x y h =
 pub first-picked-spec : {M : Type 1} → statement M
 first-picked-spec =
     tie.close
-    (tie.spec Inv-loop μ-loop (λ c κs. search needs) (λ c κs. search needs) loop-holds (λ c κs. c .before .before .before .before .before .pre .0) returns (λ c κs. search needs)
+    (tie.spec Inv-loop μ-loop (λ c κs. search needs) (λ c κs. search needs) loop-holds (λ c κs. let s = c .before .before .before .before .before in (s .pre .0, s .pre .2)) returns (λ c κs. search needs)
     loop-less loop-again returns-2)

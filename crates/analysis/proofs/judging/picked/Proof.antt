@@ -8,7 +8,7 @@ use Rattle.analysis.proofs.judging.picked.Tie as tie
 any-missing-requires : tie.Need-any-missing-requires
 any-missing-requires c κs =
     let n = c .before in
-    (rw (n .name-count .ensures) (n .before .before .before .before .before .before .pre), n .before .results .ensures .few)
+    (rw (n .name-count .ensures) (n .before .before .before .before .before .before .pre .0), n .before .results .ensures .few)
 
 returns : tie.Need-returns
 returns c ns g ρ x y h =

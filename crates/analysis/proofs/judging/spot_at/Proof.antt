@@ -52,6 +52,7 @@ first-picked-requires c κs =
         weighed = rw (← n .name-count .ensures, w .before .read-memory .ensures) (w .weight .ensures);
       },
       s .pre .0 .ready .linked,
+      s .pre .0 .ready .tabled,
     )
 
 -- what was found

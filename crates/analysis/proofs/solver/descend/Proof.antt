@@ -31,7 +31,7 @@ offer-from-requires : tie.Need-offer-from-requires Inv-loop μ-loop
 offer-from-requires c κs =
     let t = c .before .before .before .before in
     let l = t .before .before in
-    (l .before .before .pre .0, l .loop .inv .0 .growing, t .if1 .taken)
+    (l .before .before .pre .0, l .loop .inv .0 .growing, t .if1 .taken, l .before .before .pre .2)
 
 -- the turn's place is one of the room
 inside : (c : tie.Then1 Inv-loop μ-loop) → c .before .before .loop .k < c .before .before .before .before .args .p .room

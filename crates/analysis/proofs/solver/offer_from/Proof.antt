@@ -33,7 +33,7 @@ offer-successors-requires c κs =
     let r = w .before .before .before in
     let n = r .before .before .before .before .before in
     let s = n .before .before in
-    (s .pre .0, s .pre .1, rw (r .read-memory .ensures, n .name-count .ensures) (rw (n .name-count .ensures) at (w .weight .ensures)))
+    (s .pre .0, s .pre .1, rw (r .read-memory .ensures, n .name-count .ensures) (rw (n .name-count .ensures) at (w .weight .ensures)), s .pre .3)
 
 -- the record's memory as it was read
 read : (c : tie.After-read-memory) → let n = c .before .before .before .before .before in let a = n .before .before .args in

@@ -39,7 +39,7 @@ inside c = omega (arith, c .loop-test .taken, c .before .before .before .edge-co
 offer-edge-requires : tie.Need-offer-edge-requires Inv-loop μ-loop
 offer-edge-requires c κs =
     let l = c .before .before .before in
-    (l .loop .inv .1 .growing, l .before .before .before .before .pre .2)
+    (l .loop .inv .1 .growing, l .before .before .before .before .pre .2, l .before .before .before .before .pre .3)
 
 loop-less : tie.Need-loop-less Inv-loop μ-loop
 loop-less c =

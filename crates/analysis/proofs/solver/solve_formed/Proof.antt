@@ -25,7 +25,7 @@ descend-requires : tie.Need-descend-requires
 descend-requires c κs =
     let o = c .before .before .before .before in
     let n = o .before .before .before .before .before .before in
-    (n .before .before .before .pre .linked, rw (n .name-count .ensures) at (o .offer-initial .ensures .0 .growing))
+    (n .before .before .before .pre .linked, rw (n .name-count .ensures) at (o .offer-initial .ensures .0 .growing), n .before .before .before .pre .tabled)
 
 replied-requires : tie.Need-replied-requires
 replied-requires c κs = let x = c .before .before .descend .ensures .0 .growing in omega (arith, x .few, x .most)

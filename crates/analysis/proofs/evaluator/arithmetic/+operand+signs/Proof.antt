@@ -26,7 +26,7 @@ use Rattle.program.proofs.prepared.arith_node.Reads as arith-node-reads
 use Rattle.analysis.proofs.evaluator.arithmetic.number_signs.Reads as number-signs-reads
 use Rattle.analysis.proofs.evaluator.set_of.Reads as set-of-reads
 use Rattle.analysis.proofs.evaluator.element.Reads as element-reads
-use Rattle.signs.proofs.grid.operate.Reads as operate-reads
+use Rattle.analysis.proofs.set_table.operate.Reads as operate-reads
 use Rattle.analysis.proofs.evaluator.arithmetic.+operand+signs.{statement}
 use Rattle.analysis.proofs.evaluator.arithmetic.+operand+signs.Tie.{close}
 
@@ -51,7 +51,7 @@ signs-below t = and 2 signs-kinds.ps (falls 2 signs-kinds.ps _<_ μ-signs t) sig
 -- ---- operand
 
 abbrev operand-claims : ℕ → operand-lts.Claims
-operand-claims t = (arith-node-reads.Asked, arith-node-reads.Learnt, number-signs-reads.Asked, number-signs-reads.Learnt, set-of-reads.Asked, set-of-reads.Learnt, signs-below t, signs.Post)
+operand-claims t = (arith-node-reads.Asked, arith-node-reads.Learnt, number-signs-reads.Asked, number-signs-reads.Learnt, set-of-reads.Asked, set-of-reads.Learnt, signs-below t, signs.Post, element-reads.Asked, element-reads.Learnt)
 
 operand-returns : (t : ℕ) → operand-lts.Need-returns (operand-claims t) (operand-at t) operand.Post
 unfolding arithMade signsIn
@@ -60,6 +60,19 @@ operand-returns t c graph = let k = c .before in rw (arith-told _ _ _ (k .before
 operand-returns-2 : (t : ℕ) → operand-lts.Need-returns-2 (operand-claims t) (operand-at t) operand.Post
 unfolding arithMade signsIn
 operand-returns-2 t c graph = let k = c .before .before in rw (arith-told _ _ _ (k .before .before .before .arith-node .ensures graph) (k .before .node2 .given .1)) (c .set-of .ensures)
+
+-- an index is lower than its element
+operand-signs-requires : (t : ℕ) → operand-lts.Need-signs-requires (operand-claims t) (operand-at t) operand.Post
+operand-signs-requires t c κs =
+    let a = c .before .before .before in
+    (omega (arith, arith-lower _ _ _ (a .arith-node .ensures []) (c .before .node3 .given .1) tt, a .before .pre .0), a .before .pre .1)
+
+operand-returns-3 : (t : ℕ) → operand-lts.Need-returns-3 (operand-claims t) (operand-at t) operand.Post
+unfolding arithMade signsIn
+operand-returns-3 t c graph =
+    let v = c .before in
+    let k = v .before in
+    rw (arith-told _ _ _ (k .before .before .before .arith-node .ensures graph) (k .before .node3 .given .1), ← v .signs .ensures graph) (c .element .ensures)
 
 -- ---- signs
 
@@ -72,13 +85,13 @@ lower : (t : ℕ) (c : signs-lts.After-arith-node (signs-claims t) (signs-at t) 
 lower t c told p = omega (arith, arith-lower _ _ _ (c .arith-node .ensures []) told p, c .before .pre .0)
 
 signs-operand-requires : (t : ℕ) → signs-lts.Need-operand-requires (signs-claims t) (signs-at t) signs.Post
-signs-operand-requires t c κs = (lower t (c .before .before .before) (c .before .node3 .given .1) tt, tt)
+signs-operand-requires t c κs = (lower t (c .before .before .before) (c .before .node3 .given .1) tt, c .before .before .before .before .pre .1)
 
 signs-operand-requires-2 : (t : ℕ) → signs-lts.Need-operand-requires-2 (signs-claims t) (signs-at t) signs.Post
-signs-operand-requires-2 t c κs = (lower t (c .before .before .before) (c .before .node4 .given .1) tt, tt)
+signs-operand-requires-2 t c κs = (lower t (c .before .before .before) (c .before .node4 .given .1) tt, c .before .before .before .before .pre .1)
 
 signs-operand-requires-3 : (t : ℕ) → signs-lts.Need-operand-requires-3 (signs-claims t) (signs-at t) signs.Post
-signs-operand-requires-3 t c κs = let k = c .before in (lower t (k .before .before .before) (k .before .node4 .given .1) tt, tt)
+signs-operand-requires-3 t c κs = let k = c .before in (lower t (k .before .before .before) (k .before .node4 .given .1) tt, k .before .before .before .before .pre .1)
 
 signs-returns : (t : ℕ) → signs-lts.Need-returns (signs-claims t) (signs-at t) signs.Post
 unfolding arithMade signsIn
@@ -98,7 +111,7 @@ signs-returns-3 t c graph =
 signs-returns-4 : (t : ℕ) → signs-lts.Need-returns-4 (signs-claims t) (signs-at t) signs.Post
 unfolding arithMade signsIn
 signs-returns-4 t c graph =
-    let b = c .before in
+    let b = c .before .before in
     let a = b .before in
     let k = a .before in
     rw (arith-told _ _ _ (k .before .before .before .arith-node .ensures graph) (k .before .node4 .given .1), ← a .operand2 .ensures graph, ← b .operand3 .ensures graph) (c .operate .ensures)
@@ -119,12 +132,13 @@ pub +operand+signs-spec : {M : Type 1} → statement M
     (λ c. search needs)
     (λ c κs. tt)
     (λ c. search needs)
-    (λ c κs. (omega (arith, c .before .before .before .pre .0), tt))
+    (operand-signs-requires t)
+    (λ c κs. tt)
     (λ c. search needs)
-    (λ c κs. (omega (arith, c .before .before .before .pre .0), tt))
+    (λ c κs. (omega (arith, c .before .before .before .pre .0), c .before .before .before .pre .1))
     (operand-returns t)
     (operand-returns-2 t)
-    (λ c. c .signs .ensures)
+    (operand-returns-3 t)
     (λ c. c .signs2 .ensures))
     (λ t.
     signs-lts.spec
@@ -142,7 +156,7 @@ pub +operand+signs-spec : {M : Type 1} → statement M
     (λ c. search needs)
     (signs-operand-requires-2 t)
     (signs-operand-requires-3 t)
-    (λ c κs. tt)
+    (λ c κs. c .before .before .before .before .before .before .before .pre .1)
     (signs-returns t)
     (signs-returns-2 t)
     (signs-returns-3 t)

@@ -42,10 +42,10 @@ lower : (t : ℕ) (c : lts.After-command-node (claims t) (exit-truths-at t) read
 lower t c told p = omega (arith, command-lower _ _ _ (c .command-node .ensures []) told p, c .before .pre .0)
 
 exit-truths-requires : (t : ℕ) → lts.Need-exit-truths-requires (claims t) (exit-truths-at t) reads.Post
-exit-truths-requires t c κs = (lower t (c .before .before .before) (c .before .node2 .given .1) tt, tt)
+exit-truths-requires t c κs = (lower t (c .before .before .before) (c .before .node2 .given .1) tt, c .before .before .before .before .pre .1)
 
 exit-truths-requires-2 : (t : ℕ) → lts.Need-exit-truths-requires-2 (claims t) (exit-truths-at t) reads.Post
-exit-truths-requires-2 t c κs = let k = c .before in (lower t (k .before .before .before) (k .before .node2 .given .1) tt, tt)
+exit-truths-requires-2 t c κs = let k = c .before in (lower t (k .before .before .before) (k .before .node2 .given .1) tt, k .before .before .before .before .pre .1)
 
 returns : (t : ℕ) → lts.Need-returns (claims t) (exit-truths-at t) reads.Post
 unfolding commandMade done truthsIn
@@ -81,7 +81,7 @@ pub +exit-truths-spec : {M : Type 1} → statement M
     reads.Post
     (λ c κs. tt)
     (λ c. search needs)
-    (λ c κs. tt)
+    (λ c κs. c .before .before .before .before .pre .1)
     (λ c κs. tt)
     (λ c. search needs)
     (exit-truths-requires t)

@@ -41,19 +41,19 @@ lower : (t : ℕ) (c : lts.After-boolean-node (claims t) (truths-at t) reads.Pos
 lower t c told p = omega (arith, boolean-lower _ _ _ (c .boolean-node .ensures []) told p, c .before .pre .0)
 
 truths-requires : (t : ℕ) → lts.Need-truths-requires (claims t) (truths-at t) reads.Post
-truths-requires t c κs = (lower t (c .before .before .before) (c .before .node2 .given .1) tt, tt)
+truths-requires t c κs = (lower t (c .before .before .before) (c .before .node2 .given .1) tt, c .before .before .before .before .pre .1)
 
 truths-requires-2 : (t : ℕ) → lts.Need-truths-requires-2 (claims t) (truths-at t) reads.Post
-truths-requires-2 t c κs = let k = c .before in (lower t (k .before .before .before) (k .before .node2 .given .1) tt, tt)
+truths-requires-2 t c κs = let k = c .before in (lower t (k .before .before .before) (k .before .node2 .given .1) tt, k .before .before .before .before .pre .1)
 
 truths-requires-3 : (t : ℕ) → lts.Need-truths-requires-3 (claims t) (truths-at t) reads.Post
-truths-requires-3 t c κs = (lower t (c .before .before .before) (c .before .node3 .given .1) tt, tt)
+truths-requires-3 t c κs = (lower t (c .before .before .before) (c .before .node3 .given .1) tt, c .before .before .before .before .pre .1)
 
 truths-requires-4 : (t : ℕ) → lts.Need-truths-requires-4 (claims t) (truths-at t) reads.Post
-truths-requires-4 t c κs = let k = c .before in (lower t (k .before .before .before) (k .before .node3 .given .1) tt, tt)
+truths-requires-4 t c κs = let k = c .before in (lower t (k .before .before .before) (k .before .node3 .given .1) tt, k .before .before .before .before .pre .1)
 
 truths-requires-5 : (t : ℕ) → lts.Need-truths-requires-5 (claims t) (truths-at t) reads.Post
-truths-requires-5 t c κs = (lower t (c .before .before .before) (c .before .node4 .given .1) tt, tt)
+truths-requires-5 t c κs = (lower t (c .before .before .before) (c .before .node4 .given .1) tt, c .before .before .before .before .pre .1)
 
 returns : (t : ℕ) → lts.Need-returns (claims t) (truths-at t) reads.Post
 unfolding booleanMade truthsIn
@@ -99,7 +99,7 @@ pub +truths-spec : {M : Type 1} → statement M
     (λ c. search needs)
     (λ c κs. tt)
     (λ c. search needs)
-    (λ c κs. tt)
+    (λ c κs. c .before .before .before .before .pre .1)
     (λ c. search needs)
     (truths-requires t)
     (truths-requires-2 t)

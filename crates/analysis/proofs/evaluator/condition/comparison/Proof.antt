@@ -1,4 +1,5 @@
 -- `evaluator::condition::comparison`: both sides are whole trees, of entries below the capacity or leaves.
+use borrow.Author.Needs.{needs}
 use Rattle.program.proofs.Laws.{arith-whole}
 use Rattle.analysis.proofs.evaluator.condition.comparison.Statement.{statement}
 use Rattle.analysis.proofs.evaluator.condition.comparison.Tie as tie
@@ -11,4 +12,4 @@ returns c graph =
     rw (arith-whole (s .code .now) graph (s .p), arith-whole (s .code .now) graph (s .q), ← a .operand .ensures graph, ← b .operand2 .ensures graph) (c .compare-sets .ensures)
 
 pub comparison-spec : {M : Type 1} → statement M
-comparison-spec = tie.close (tie.spec (λ c κs. tt) (λ c κs. tt) (λ c κs. tt) returns)
+comparison-spec = tie.close (tie.spec (λ c κs. search needs) (λ c κs. search needs) (λ c κs. search needs) returns)

@@ -39,13 +39,13 @@ lower : (t : ℕ) (c : lts.After-arith-node (claims t) (arith-negative-at t) rea
 lower t c told p = omega (arith, arith-lower _ _ _ (c .arith-node .ensures []) told p, c .before .pre .0)
 
 arith-negative-requires : (t : ℕ) → lts.Need-arith-negative-requires (claims t) (arith-negative-at t) reads.Post
-arith-negative-requires t c κs = let k = c .before in (lower t (k .before .before .before) (k .before .node .given .1) tt, tt)
+arith-negative-requires t c κs = let k = c .before in (lower t (k .before .before .before) (k .before .node .given .1) tt, k .before .before .before .before .pre .1)
 
 arith-negative-requires-2 : (t : ℕ) → lts.Need-arith-negative-requires-2 (claims t) (arith-negative-at t) reads.Post
-arith-negative-requires-2 t c κs = (lower t (c .before .before .before) (c .before .node2 .given .1) tt, tt)
+arith-negative-requires-2 t c κs = (lower t (c .before .before .before) (c .before .node2 .given .1) tt, c .before .before .before .before .pre .1)
 
 arith-negative-requires-3 : (t : ℕ) → lts.Need-arith-negative-requires-3 (claims t) (arith-negative-at t) reads.Post
-arith-negative-requires-3 t c κs = let k = c .before in (lower t (k .before .before .before) (k .before .node2 .given .1) tt, tt)
+arith-negative-requires-3 t c κs = let k = c .before in (lower t (k .before .before .before) (k .before .node2 .given .1) tt, k .before .before .before .before .pre .1)
 
 returns : (t : ℕ) → lts.Need-returns (claims t) (arith-negative-at t) reads.Post
 unfolding arithMade arithIndexes anyNegative anyOf
@@ -82,7 +82,7 @@ pub +arith-negative-spec : {M : Type 1} → statement M
     (λ c. search needs)
     (λ c. search needs)
     (λ c. search needs)
-    (λ c κs. tt)
+    (λ c κs. c .before .before .before .before .pre .1)
     (arith-negative-requires t)
     (λ c. search needs)
     (arith-negative-requires-2 t)

@@ -39,19 +39,19 @@ lower : (t : ℕ) (c : lts.After-boolean-node (claims t) (boolean-negative-at t)
 lower t c told p = omega (arith, boolean-lower _ _ _ (c .boolean-node .ensures []) told p, c .before .pre .0)
 
 boolean-negative-requires : (t : ℕ) → lts.Need-boolean-negative-requires (claims t) (boolean-negative-at t) reads.Post
-boolean-negative-requires t c κs = (lower t (c .before .before .before) (c .before .node2 .given .1) tt, tt)
+boolean-negative-requires t c κs = (lower t (c .before .before .before) (c .before .node2 .given .1) tt, c .before .before .before .before .pre .1)
 
 boolean-negative-requires-2 : (t : ℕ) → lts.Need-boolean-negative-requires-2 (claims t) (boolean-negative-at t) reads.Post
-boolean-negative-requires-2 t c κs = let k = c .before in (lower t (k .before .before .before) (k .before .node2 .given .1) tt, tt)
+boolean-negative-requires-2 t c κs = let k = c .before in (lower t (k .before .before .before) (k .before .node2 .given .1) tt, k .before .before .before .before .pre .1)
 
 boolean-negative-requires-3 : (t : ℕ) → lts.Need-boolean-negative-requires-3 (claims t) (boolean-negative-at t) reads.Post
-boolean-negative-requires-3 t c κs = (lower t (c .before .before .before) (c .before .node3 .given .1) tt, tt)
+boolean-negative-requires-3 t c κs = (lower t (c .before .before .before) (c .before .node3 .given .1) tt, c .before .before .before .before .pre .1)
 
 boolean-negative-requires-4 : (t : ℕ) → lts.Need-boolean-negative-requires-4 (claims t) (boolean-negative-at t) reads.Post
-boolean-negative-requires-4 t c κs = let k = c .before in (lower t (k .before .before .before) (k .before .node3 .given .1) tt, tt)
+boolean-negative-requires-4 t c κs = let k = c .before in (lower t (k .before .before .before) (k .before .node3 .given .1) tt, k .before .before .before .before .pre .1)
 
 boolean-negative-requires-5 : (t : ℕ) → lts.Need-boolean-negative-requires-5 (claims t) (boolean-negative-at t) reads.Post
-boolean-negative-requires-5 t c κs = (lower t (c .before .before .before) (c .before .node4 .given .1) tt, tt)
+boolean-negative-requires-5 t c κs = (lower t (c .before .before .before) (c .before .node4 .given .1) tt, c .before .before .before .before .pre .1)
 
 returns : (t : ℕ) → lts.Need-returns (claims t) (boolean-negative-at t) reads.Post
 unfolding booleanMade booleanIndexes anyNegative anyOf
@@ -91,7 +91,7 @@ pub +boolean-negative-spec : {M : Type 1} → statement M
     (λ c κs. tt)
     (λ c. search needs)
     (λ c. search needs)
-    (λ c κs. tt)
+    (λ c κs. c .before .before .before .before .pre .1)
     (λ c. search needs)
     (boolean-negative-requires t)
     (boolean-negative-requires-2 t)

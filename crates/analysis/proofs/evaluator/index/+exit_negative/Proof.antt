@@ -41,10 +41,10 @@ lower : (t : ℕ) (c : lts.After-command-node (claims t) (exit-negative-at t) re
 lower t c told p = omega (arith, command-lower _ _ _ (c .command-node .ensures []) told p, c .before .pre .0)
 
 exit-negative-requires : (t : ℕ) → lts.Need-exit-negative-requires (claims t) (exit-negative-at t) reads.Post
-exit-negative-requires t c κs = (lower t (c .before .before .before) (c .before .node2 .given .1) tt, tt)
+exit-negative-requires t c κs = (lower t (c .before .before .before) (c .before .node2 .given .1) tt, c .before .before .before .before .pre .1)
 
 exit-negative-requires-2 : (t : ℕ) → lts.Need-exit-negative-requires-2 (claims t) (exit-negative-at t) reads.Post
-exit-negative-requires-2 t c κs = let k = c .before in (lower t (k .before .before .before) (k .before .node2 .given .1) tt, tt)
+exit-negative-requires-2 t c κs = let k = c .before in (lower t (k .before .before .before) (k .before .node2 .given .1) tt, k .before .before .before .before .pre .1)
 
 returns : (t : ℕ) → lts.Need-returns (claims t) (exit-negative-at t) reads.Post
 unfolding commandMade done booleanIndexes
@@ -78,7 +78,7 @@ pub +exit-negative-spec : {M : Type 1} → statement M
     reads.Post
     (λ c κs. tt)
     (λ c. search needs)
-    (λ c κs. tt)
+    (λ c κs. c .before .before .before .before .pre .1)
     (λ c. search needs)
     (exit-negative-requires t)
     (exit-negative-requires-2 t)
