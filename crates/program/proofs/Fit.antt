@@ -1,5 +1,5 @@
 -- What the questions say of a program that passes them all.
-use mathlib.Core.Path.{_≡_, ap}
+use mathlib.Core.Path.{_≡_, refl, ap}
 use mathlib.Core.Bool.{true}
 use mathlib.Core.List.{List}
 use Prim.Native.Nat.{ℕ, suc, _+_, _*_, _-_, _/_, _%_, _≤_, _<_}
@@ -9,7 +9,7 @@ use lib.Dec.{leb, eqb}
 use lib.ListN.{length, getD, take, List·getD-eq-default}
 use lib.Seq.{take-all}
 use borrow.Author.Tests.{leb-true, eqb-true}
-use Rattle.program.specs.File.{wordAt, namesField, tableField, programFields, headFound, headAt, fieldStart, fieldHead, headSpan, layoutOf, spanOf, LaidOut, nameCount, sizeAt, sizes, entryCount, tableStart, entry, cellCount}
+use Rattle.program.specs.File.{wordAt, namesField, tableField, programFields, headFound, headAt, placeAfter, fieldStart, fieldHead, headSpan, layoutOf, spanOf, LaidOut, nameCount, sizeAt, sizes, entryCount, tableStart, entry, cellCount}
 use Rattle.program.specs.Kind.{isCommand}
 use Rattle.program.specs.Questions.{wholeEntries, headValidity, headsValidity, nameValidity, entryValidity, tableValidity, uses, useValidity, toBeUsed, usedValidity, lastCommand, lastValidity, usesValidity, contentValidity, validity}
 use Rattle.program.specs.declared.Field.{Field}
@@ -20,7 +20,7 @@ use Rattle.program.specs.declared.Table.the-variants.{Arithmetic, Boolea
 use Rattle.program.specs.declared.Validity.the-variants.{Fit}
 use Rattle.program.proofs.Asking.{ask-fit, turn-fit, each-fit}
 use Rattle.program.proofs.Cells.{sizes-length, size-at}
-use Rattle.program.proofs.Heads.{whole, field-fit}
+use Rattle.program.proofs.Heads.{whole, field-fit, StartsAt}
 use Rattle.program.proofs.Reading.{laid-count, laid-start}
 use Rattle.program.proofs.Tests.{two, three}
 
@@ -86,6 +86,14 @@ module _ (s : List ℕ) (e : headsValidity s 0 programFields ≡ Fit) where
       }
 
 module _ (s : List ℕ) (fit : validity s ≡ Fit) where
+  heads-fit : headsValidity s 0 programFields ≡ Fit
+  unfolding validity
+  heads-fit = turn-fit _ 0 fit
+
+  pub first-starts : StartsAt s 0 0
+  unfolding placeAfter
+  first-starts = record { fit = heads-fit; few = omega arith; same = refl }
+
   content-fit : contentValidity s ≡ Fit
   unfolding validity
   content-fit = turn-fit _ 2 fit
@@ -95,16 +103,14 @@ module _ (s : List ℕ) (fit : validity s ≡ Fit) where
   uses-fit = turn-fit _ 4 content-fit
 
   pub counts : Counts s
-  unfolding validity
-  counts = counts-allowed s (turn-fit _ 0 fit)
+  counts = counts-allowed s heads-fit
 
   pub fit-laid-out : (l : Layout) → l ≡ layoutOf s → LaidOut s l
-  unfolding validity
-  fit-laid-out = laid-out s (turn-fit _ 0 fit)
+  fit-laid-out = laid-out s heads-fit
 
   pub table-whole : (t : Table) → tableStart s t + 7 * entryCount s t ≤ length s
-  unfolding validity tableStart entryCount
-  table-whole = entries-whole s (turn-fit _ 0 fit)
+  unfolding tableStart entryCount
+  table-whole = entries-whole s heads-fit
 
   pub span-whole : (l : Layout) → l ≡ layoutOf s → (t : Table) → spanOf l t .start + 7 * spanOf l t .count ≤ length s
   span-whole l e t = omega (arith, table-whole t, laid-start s l e t, laid-count s l e t)

@@ -1,5 +1,5 @@
 -- What questions 1 to 4 say of the heads of a program that passes them.
-use mathlib.Core.Path.{_≡_, refl}
+use mathlib.Core.Path.{_≡_, refl, ap}
 use mathlib.Core.Bool.{Bool, true, false, cond, false≢true}
 use mathlib.Core.List.{List}
 use Prim.Native.Nat.{ℕ, zero, suc, _+_, _/_, _≤_, _<_}
@@ -89,3 +89,25 @@ module _ (s : List ℕ) (fit : headsValidity s 0 programFields ≡ Fit) where
       → headSpan (fieldHead s k) f ≡ record { start = fieldStart s k + 3; count = wordAt s (fieldStart s k + 1) / f .width }
   unfolding fieldHead headSpan headFound
   field-span k h f = rw (field-whole k h .found)
+
+-- field k of a program whose heads are fit starts at a place: its length is there, and says where its content is and where the next field starts
+pub record StartsAt (s : List ℕ) (k at : ℕ) : Type 0 where
+  pub fit : headsValidity s 0 programFields ≡ Fit
+  pub few : k < 4
+  pub same : at ≡ fieldStart s k
+
+module _ {s : List ℕ} {k at : ℕ} (starts : StartsAt s k at) where
+  pub length-there : at + 1 + 1 < length s
+  unfolding headFound
+  length-there = omega (arith, field-whole s (starts .fit) k (starts .few) .known .inside, starts .same)
+
+  pub span-from : {n : ℕ} (f : Field) → n ≡ wordAt s (at + 1) → record { start = at + 3; count = n / f .width } ≡ headSpan (fieldHead s k) f
+  span-from f e = rw (e, starts .same, field-span s (starts .fit) k (starts .few) f)
+
+  pub next-from : {n m : ℕ} → suc k < 4 → n ≡ wordAt s (at + 1) → m ≡ n → StartsAt s (suc k) (at + 3 + m)
+  next-from h e f =
+      record {
+        fit = starts .fit;
+        few = h;
+        same = omega (arith, next-start s (starts .fit) k (starts .few), starts .same, ap (λ (x : ℕ). wordAt s (x + 1)) (starts .same));
+      }

@@ -94,7 +94,7 @@ fn draw_fit(s: &[u8], buffer: &mut [u8]) -> Drawn
         × (now (buffer .exit) ≡ spec.drawnBuffer (now (s .entry)) (now (buffer .entry))) ⌝ }
 {
     let mut graph = [0u16; GRAPH];
-    let l = file::layout(s);
+    let l = file::fit_layout(s);
     graphing::put_graph(s, l, &mut graph);
     let edges = prepared::edge_count(&graph);
     let end = 7 * file::long(edges);

@@ -5,6 +5,7 @@ ghost use mathlib.Core.List.{List};
 ghost use Prim.Native.Nat.{ℕ, _<_, _+_, _*_, min};
 ghost use lib.ListN.{length};
 ghost use Rattle.program.specs.File as spec;
+ghost use Rattle.program.specs.Questions;
 use crate::Entry;
 use crate::Field;
 use crate::FieldHeads;
@@ -12,6 +13,7 @@ use crate::Head;
 use crate::Layout;
 use crate::Span;
 use crate::Table;
+use crate::Validity;
 use crate::reader;
 
 pub(crate) fn wide(b: u8) -> u16
@@ -169,6 +171,38 @@ pub fn layout(s: &[u8]) -> Layout
     ensures { λ r. ⌜ r ≡ spec.layoutOf (now (s .entry)) ⌝ }
 {
     layout_by(reader::heads(s))
+}
+
+// The same of a well-formed program, whose heads are all there: each length is read where it stands.
+pub(crate) fn fit_layout(s: &[u8]) -> Layout
+    requires { ⌜ Questions.validity (now s) ≡ Validity.Fit ⌝ }
+    ensures { λ r. ⌜ r ≡ spec.layoutOf (now (s .entry)) ⌝ }
+{
+    let names = whole_word(s, 1);
+    let second = 3 + long(names);
+    let arithmetic = whole_word(s, second + 1);
+    let third = second + 3 + long(arithmetic);
+    let boolean = whole_word(s, third + 1);
+    let fourth = third + 3 + long(boolean);
+    let commands = whole_word(s, fourth + 1);
+    Layout {
+        names: Span {
+            start: 3,
+            count: names / 2,
+        },
+        arithmetic: Span {
+            start: second + 3,
+            count: arithmetic / 7,
+        },
+        boolean: Span {
+            start: third + 3,
+            count: boolean / 7,
+        },
+        commands: Span {
+            start: fourth + 3,
+            count: commands / 7,
+        },
+    }
 }
 
 // A table's part of a file.

@@ -305,7 +305,7 @@ fn fill(program: &[u8], code: &mut [u16; CODE], graph: &mut [u16; GRAPH]) -> Val
     if validation::refused(v) {
         return v;
     }
-    let l = file::layout(program);
+    let l = file::fit_layout(program);
     coding::put_code(program, l, code);
     graphing::put_graph(program, l, graph);
     v

@@ -23,7 +23,7 @@ module _ (c : tie.After-long) where
   count = c .long .ensures ∙ edges
 
 put-graph-requires : tie.Need-put-graph-requires
-put-graph-requires c κs = (c .before .before .before .before .pre, c .before .layout .ensures, refl)
+put-graph-requires c κs = (c .before .before .before .before .pre, c .before .fit-layout .ensures, refl)
 
 returns : tie.Need-returns
 unfolding drawn drawnBy drawnBuffer drawnBufferBy
