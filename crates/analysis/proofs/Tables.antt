@@ -1,7 +1,7 @@
 -- The set table behind a program's code: how it is put there, and what is read out of it.
 use mathlib.Core.Path.{_≡_, sym, ap, _∙_}
 use mathlib.Core.List.{List, [], _++_, append-nil}
-use Prim.Native.Nat.{ℕ, _-_, _≤_, _<_}
+use Prim.Native.Nat.{ℕ, _-_}
 use native.Mathlib.Omega.{arith}
 use lib.ListN.{length, getD, take, drop, length-drop, List·getD-append}
 use lib.Seq.{paste, take-all, drop-length, drop-at, getD-take, length-take-le}
@@ -11,8 +11,8 @@ use Rattle.signs.specs.declared.Operator.{Operator}
 use Rattle.signs.proofs.Laws.{table-rule, table-long}
 use Rattle.analysis.specs.Tabled.{Tabled, TablePut}
 
-pub table-put : (old : List ℕ) {table code : List ℕ} → length old ≡ codeLength → table ≡ setTable → code ≡ paste old tablePlace table 320 → TablePut old code
-table-put old {table} {code} long e put =
+pub table-put : (old : List ℕ) {code : List ℕ} → length old ≡ codeLength → code ≡ paste old tablePlace setTable 320 → TablePut old code
+table-put old {code} long put =
     record {
       tabled = record { behind = ap (drop tablePlace) front ∙ drop-at (take tablePlace old) setTable tablePlace short };
       before = λ i h. ap (λ (l : List ℕ). getD l i 0) front ∙ List·getD-append (take tablePlace old) setTable 0 i (omega (arith, short)) ∙ getD-take tablePlace old i 0 h;
@@ -27,9 +27,9 @@ table-put old {table} {code} long e put =
     front : code ≡ take tablePlace old ++ setTable
     front =
         put
-        ∙ ap (λ (l : List ℕ). take tablePlace old ++ take 320 table ++ l) none
+        ∙ ap (λ (l : List ℕ). take tablePlace old ++ take 320 setTable ++ l) none
         ∙ append-nil _
-        ∙ ap (λ (l : List ℕ). take tablePlace old ++ l) (take-all 320 table (omega (arith, table-long, ap length e)) ∙ e)
+        ∙ ap (λ (l : List ℕ). take tablePlace old ++ l) (take-all 320 setTable (omega (arith, table-long)))
 
 module _ {code : List ℕ} (t : Tabled code) where
   pub code-long : length code ≡ codeLength

@@ -21,7 +21,7 @@ pub(crate) fn put(code: &mut [u16; CODE])
     let table = grid::set_table();
     let mut k: usize = 0;
     while k < SETS {
-        code[TABLE + k] = table[k] as u16;
+        code[TABLE + k] = table[k / 8][k % 8] as u16;
         k += 1;
     }
 }

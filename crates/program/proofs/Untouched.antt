@@ -1,14 +1,14 @@
 -- A prepared program depends on the numbers of its code before the set table alone.
 use mathlib.Core.Path.{_≡_, refl, sym, ap, _∙_}
 use mathlib.Core.List.{List}
-use Prim.Native.Nat.{ℕ, _+_, _*_, _<_, _≤_}
+use Prim.Native.Nat.{ℕ, _+_, _*_, _<_}
 use native.Mathlib.Decide.{decLe}
 use native.Mathlib.Omega.{arith}
 use borrow.Author.Tests.{lt-ltb, le-ltb}
 use lib.ListN.{length, getD}
 use Rattle.program.specs.File.{firstCell}
 use Rattle.program.specs.Graph.{Graph}
-use Rattle.program.specs.Prepared.{expressionsMost, namesMost, nameCountPlace, arithmeticCountPlace, tablePlace, codeLength, numbersAt, entriesIn, sizeIn, cellIn, Coded, PreparedEdge, Prepared}
+use Rattle.program.specs.Prepared.{nameCountPlace, arithmeticCountPlace, tablePlace, codeLength, numbersAt, entriesIn, sizeIn, cellIn, Coded, PreparedEdge, Prepared}
 use Rattle.program.specs.declared.Table.{Table}
 use Rattle.program.specs.declared.Table.the-variants.{Arithmetic, Boolean, Commands}
 

@@ -1,13 +1,13 @@
 -- The laws of `signs` for the crates above, on one page. Their proofs are in the modules that they cite.
 use mathlib.Core.Path.{_≡_, refl, sym, subst}
 use mathlib.Core.Bool.{Bool, true, false, not, _&&_, _||_}
-use mathlib.Core.List.{List, List·Memᴰ}
-use Prim.Native.Nat.{ℕ, _%_, _<_}
+use mathlib.Core.List.{List, [], List·Memᴰ}
+use Prim.Native.Nat.{ℕ, _/_, _%_, _<_}
 use lib.Dec.{T}
 use lib.IntN.{ℤ}
-use lib.ListN.{length}
+use lib.ListN.{length, getD}
 use mir.Facts.{yes-and}
-use Rattle.signs.specs.Grid.{grid, operate, setTable, operateBy}
+use Rattle.signs.specs.Grid.{grid, operate, setRows, setTable, operateBy}
 use Rattle.signs.specs.Lists.{anyOf, pairs}
 use Rattle.signs.specs.Number.{apply, compares}
 use Rattle.signs.specs.Sign.{signOf, single, signs, has, setOf, members, unite, unionAll, added, removed}
@@ -112,6 +112,12 @@ has-operate = Operate.has-operate
 -- the set table: 320 numbers, each of them the operator on its two sets
 pub table-rule : (o : Operator) (a b : ℕ) → operateBy setTable o a b ≡ operate o a b
 table-rule = Operate.table-rule
+
+pub table-rows : (k : ℕ) → k < 320 → getD (getD setRows (k / 8) []) (k % 8) 0 ≡ getD setTable k 0
+table-rows = Operate.table-rows
+
+pub table-small : (k : ℕ) → k < 320 → getD setTable k 0 < 8
+table-small = Operate.table-small
 
 pub table-long : length setTable ≡ 320
 table-long = Operate.table-long

@@ -1,15 +1,16 @@
 -- An operator on sets: its result has what the grid's entry of some pair of members has. The set table has its results.
 use mathlib.Core.Path.{_≡_, refl, _∙_}
 use mathlib.Core.Bool.{Bool}
-use Prim.Native.Nat.{ℕ, _+_, _*_, _%_, _<_}
+use mathlib.Core.List.{[]}
+use Prim.Native.Nat.{ℕ, _+_, _*_, _/_, _%_, _<_}
 use lib.Dec.{eqb, eqb→eq, ltb, ltb→lt}
 use lib.ListN.{length, getD}
 use Rattle.signs.specs.Lists.{pairs}
-use Rattle.signs.specs.Grid.{grids, gridNumber, signNumber, grid, operate, setTable, operateBy}
+use Rattle.signs.specs.Grid.{grids, gridNumber, signNumber, grid, operate, setRows, setTable, operateBy}
 use Rattle.signs.specs.Sign.{has, members}
 use Rattle.signs.specs.declared.Operator.{Operator}
 use Rattle.signs.specs.declared.Sign.{Sign}
-use Rattle.signs.proofs.Finite.{everySign, at-sign, at-operator, everyBelow, at-sets}
+use Rattle.signs.proofs.Finite.{everySign, at-sign, at-operator, everyBelow, at-below, at-sets}
 use Rattle.signs.proofs.Lists.{anyOf-pairs}
 use Rattle.signs.proofs.Membership.{has-unionAll, anyOf-member-pairs, members-remainder, somePair}
 use Rattle.signs.proofs.Open.{definitions}
@@ -40,6 +41,15 @@ table-rule o a b = eqb→eq _ _ (at-sets (right o) (at-operator (λ o. everyBelo
   where
     right : Operator → ℕ → ℕ → Bool
     right o a b = eqb (getD setTable (64 * gridNumber o + 8 * a + b) 0 % 256) (operate o a b)
+
+-- its numbers are those of its rows
+pub table-rows : (k : ℕ) → k < 320 → getD (getD setRows (k / 8) []) (k % 8) 0 ≡ getD setTable k 0
+unfolding definitions
+table-rows k h = eqb→eq _ _ (at-below 320 (λ k. eqb (getD (getD setRows (k / 8) []) (k % 8) 0) (getD setTable k 0)) tt k h)
+
+pub table-small : (k : ℕ) → k < 320 → getD setTable k 0 < 8
+unfolding definitions
+table-small k h = ltb→lt (getD setTable k 0) 8 (at-below 320 (λ k. ltb (getD setTable k 0) 8) tt k h)
 
 pub table-long : length setTable ≡ 320
 unfolding definitions

@@ -1,8 +1,8 @@
 -- The operators on signs and on sets of signs (document 01, "Signs").
 use Prim.Native.Nat.{ℕ, _+_, _*_, _%_}
-use mathlib.Core.List.{List, [], _∷_, flatMap}
+use mathlib.Core.List.{List, [], _∷_, flatten}
 use lib.ListN.{getD}
-use Rattle.signs.specs.Lists.{pairs, indices}
+use Rattle.signs.specs.Lists.{pairs, tabulate, indices}
 use Rattle.signs.specs.Sign.{members, unionAll}
 use Rattle.signs.specs.declared.Operator.{Operator}
 use Rattle.signs.specs.declared.Operator.the-variants.{Add, Sub, Mul, Div, Pow}
@@ -45,9 +45,12 @@ operate o a b = unionAll (pairs (grid o) (members a) (members b))
 unfoldable pub operators : List Operator
 operators = Add ∷ Sub ∷ Mul ∷ Div ∷ Pow ∷ []
 
--- the operators on sets as "one constant table of 320 sign sets": operator by operator, left set by left set, right set by right set
+-- the operators on sets as "one constant table of 320 sign sets": a row of eight for each operator and left set, with a column for each right set
+unfoldable pub setRows : List (List ℕ)
+setRows = pairs (λ o a. tabulate 8 (operate o a)) operators (indices 8)
+
 unfoldable pub setTable : List ℕ
-setTable = flatMap (λ o. pairs (operate o) (indices 8) (indices 8)) operators
+setTable = flatten setRows
 
 -- an operator's place in it for two sets, each by its remainder by 8
 unfoldable pub setPlace : Operator → ℕ → ℕ → ℕ
