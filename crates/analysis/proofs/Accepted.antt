@@ -22,10 +22,10 @@ use Rattle.semantics.specs.Step.{leaves}
 use Rattle.analysis.specs.Index.{mayBeNegative}
 use Rattle.analysis.specs.Records.{initialWidth, recordWidth, recordCount, recordAt, recordsOf, nodeOf, memoryOf, sameSigns, gives, listed, hasAt, hasInitial, bothWhole, initialFormed, solutionFormed}
 use Rattle.analysis.specs.Results.{results}
-use Rattle.analysis.specs.Verdict.{missingInitial, isHere, spotAt, firstSpot, missingResult, markOf, indexMark, verdictBy, unlessRefused, unlessMalformed, judged}
+use Rattle.analysis.specs.Verdict.{missingInitial, isHere, spotAt, firstSpot, missingResult, markOf, indexMark, verdictBy, verdictUnlessRefused, unlessMalformed, verdictOver}
 use Rattle.analysis.specs.declared.Mark.{Mark}
 use Rattle.analysis.specs.declared.Mark.the-variants.{Clean}
-use Rattle.analysis.specs.declared.Records.{Records}
+use Rattle.analysis.specs.declared.RecordList.{RecordList}
 use Rattle.analysis.specs.declared.Spot.{Spot}
 use Rattle.analysis.specs.declared.Spot.the-variants.{At as Here, Nowhere}
 use Rattle.analysis.specs.declared.Verdict.{Verdict}
@@ -64,18 +64,18 @@ by-missing (At k) spot m mark e = absurd (let z : _≡_ {A = ℕ} 0 1 = cc in om
 by-missing Nothing (Here k e) m mark p = absurd (let z : _≡_ {A = ℕ} 0 1 = cc in omega arith)
 by-missing Nothing Nowhere m mark e = (refl, refl, cc)
 
-pub not-refused-accepted : (v : Validity) (w : Verdict) (mark : Mark) → unlessRefused v w ≡ Accepted mark → (v ≡ Fit) × (w ≡ Accepted mark)
-unfolding unlessRefused
+pub not-refused-accepted : (v : Validity) (w : Verdict) (mark : Mark) → verdictUnlessRefused v w ≡ Accepted mark → (v ≡ Fit) × (w ≡ Accepted mark)
+unfolding verdictUnlessRefused
 not-refused-accepted Fit w mark e = (refl, e)
 not-refused-accepted (Refused x) w mark e = absurd (let z : _≡_ {A = ℕ} 0 1 = cc in omega arith)
 
-well-formed-accepted : (list : Records) (v : Validity) (w : Verdict) (mark : Mark) → unlessMalformed list v w ≡ Accepted mark → w ≡ Accepted mark
+well-formed-accepted : (list : RecordList) (v : Validity) (w : Verdict) (mark : Mark) → unlessMalformed list v w ≡ Accepted mark → w ≡ Accepted mark
 unfolding unlessMalformed
 well-formed-accepted list Fit w mark e = e
 well-formed-accepted list (Refused x) w mark e = absurd (let z : _≡_ {A = ℕ} 0 1 = cc in omega arith)
 
-pub accepted : (ns : List ℕ) (g : Graph) (initial solution : List ℕ) (mark : Mark) → judged ns g initial solution ≡ Accepted mark → Judged ns g initial solution mark
-unfolding judged
+pub accepted : (ns : List ℕ) (g : Graph) (initial solution : List ℕ) (mark : Mark) → verdictOver ns g initial solution ≡ Accepted mark → Judged ns g initial solution mark
+unfolding verdictOver
 accepted ns g initial solution mark e =
     let whole = not-refused-accepted (bothWhole ns initial solution) _ mark e .1 in
     let first = well-formed-accepted _ (initialFormed ns initial) _ mark whole in

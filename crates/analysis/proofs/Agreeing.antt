@@ -10,7 +10,7 @@ use lib.Dec.{T, eqb}
 use mir.Val.{boolByte}
 use lib.ListN.{length, getD, set, take, length-set}
 use lib.Seq.{getD-set-same, getD-set-other, getD-take, length-take-le, take-all}
-use Rattle.analysis.specs.Membership.{agreeing}
+use Rattle.analysis.specs.Parts.Membership.{agreeing}
 use Rattle.analysis.specs.Records.{sameSigns}
 use Rattle.analysis.proofs.Accepted.{signs-same}
 use Rattle.analysis.proofs.Chains.{same-more}

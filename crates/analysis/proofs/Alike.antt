@@ -10,7 +10,7 @@ use lib.Seq.{set-out}
 use borrow.Author.Tests.{ltb-true, ltb-false}
 use Rattle.program.specs.Syntax.{Arith, number, variable, element, operator, Boolean, truth, comparison, conjunction, shortCircuit, negation}
 use Rattle.program.specs.Meaning.{Meaning, nothing, assigns, stores, condition}
-use Rattle.analysis.specs.Changing.{Alike, packed, digits, setsOf, nameFor, ResultsIn}
+use Rattle.analysis.specs.Parts.Changing.{Alike, packed, digits, setsOf, nameFor, ResultsIn}
 use Rattle.analysis.specs.Index.{arithIndexes, booleanIndexes, indexSets, anyNegative, mayBeNegative}
 use Rattle.analysis.specs.Results.{assignedSets, storedSets, results}
 use Rattle.analysis.specs.Signs.{mayIndex, signsIn, truthsIn}

@@ -14,7 +14,7 @@ use Rattle.signs.specs.Lists.{anyOf, tabulate}
 use Rattle.signs.proofs.Lists.{or-assoc, or-false, anyOf-append}
 use Rattle.program.specs.File.{byteAt, wordAt}
 use Rattle.program.specs.Graph.{wordBytes}
-use Rattle.analysis.specs.Membership.{anyBelow, among, bucket, Indexed}
+use Rattle.analysis.specs.Parts.Membership.{anyBelow, among, bucket, Indexed}
 use Rattle.analysis.specs.Records.{recordWidth, recordCount, recordAt, recordsOf, recordFor, nodeOf, memoryOf, sameSigns, gives, listed, hasAt}
 use Rattle.analysis.proofs.Chains.{last-same, record-inside}
 

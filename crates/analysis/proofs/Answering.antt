@@ -12,17 +12,17 @@ use Rattle.program.specs.Asking.{ask, thenAsk}
 use Rattle.program.specs.Drawing.{over}
 use Rattle.program.specs.File.{sizes}
 use Rattle.program.specs.Graph.{Graph, graph}
-use Rattle.program.specs.Prepared.{Coded, nameCountPlace}
+use Rattle.program.specs.Parts.Prepared.{Coded, nameCountPlace}
 use Rattle.program.specs.Questions.{validity}
 use Rattle.program.specs.declared.Refusal.{Refusal}
 use Rattle.program.specs.declared.Validity.{Validity}
 use Rattle.program.specs.declared.Validity.the-variants.{Fit, Refused}
 use Rattle.program.proofs.Lists.{length-tabulate}
-use Rattle.analysis.specs.Membership.{Indexed}
+use Rattle.analysis.specs.Parts.Membership.{Indexed}
 use Rattle.analysis.specs.Records.{initialWidth, recordWidth, recordAt, recordsOf, wholeRecords, initialWhole, initialFormed, wrongByte}
-use Rattle.analysis.specs.Solver.{Found, offer, descend, solution, roomOf, finishedOr, solvedWith, bufferWith, initialValidity, solutionIn, solved, solvedBuffer, solvedNumbers}
-use Rattle.analysis.specs.Solving.{foundIn, Growing, Extended, Answered}
-use Rattle.analysis.specs.declared.Records.the-variants.{Initial}
+use Rattle.analysis.specs.Solver.{Found, offer, descend, solution, roomOf, finishedOr, solvedWith, bufferWith, initialValidity, solutionIn, solved, solvedBuffer, solvedNumbers, solverRow}
+use Rattle.analysis.specs.Parts.Solving.{foundIn, Growing, Extended, Answered}
+use Rattle.analysis.specs.declared.RecordList.the-variants.{Initial}
 use Rattle.analysis.specs.declared.Solved.{Solved}
 use Rattle.analysis.specs.declared.Solving.the-variants.{Refused as Refuses, Malformed}
 use Rattle.analysis.specs.declared.solver.Progress.{Progress}
@@ -115,6 +115,6 @@ validity-refused s initial x e = rw e
 -- the clauses of the contract
 pub answered-all : (s initial buffer : List ℕ) {buffer′ : List ℕ} {r : Solved}
     → Answered (initialValidity s initial) (initialFormed (sizes s) initial) (solution (sizes s) (graph s) initial (roomOf (sizes s) (length buffer))) buffer buffer′ r
-    → ((r ≡ solved s initial buffer) × (buffer′ ≡ solvedBuffer s initial buffer)) × (solvedNumbers r ≡ solvedNumbers (solved s initial buffer))
-unfolding solved solvedBuffer solutionIn
+    → ((r ≡ solved s initial buffer) × (buffer′ ≡ solvedBuffer s initial buffer)) × (solvedNumbers r ≡ solverRow s initial buffer)
+unfolding solverRow solved solvedBuffer solutionIn
 answered-all s initial buffer a = ((a .reply, a .buffer), ap solvedNumbers (a .reply))

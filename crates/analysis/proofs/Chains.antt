@@ -11,7 +11,7 @@ use lib.Dec.{T, eqb}
 use lib.ListN.{length, getD, set, take, length-set}
 use lib.Seq.{getD-set-same, getD-set-other}
 use Rattle.signs.proofs.Lists.{or-false}
-use Rattle.analysis.specs.Membership.{lastBelow, anyBelow, among, bucket, spread, Factored, Chained, Indexed, Sought}
+use Rattle.analysis.specs.Parts.Membership.{lastBelow, anyBelow, among, bucket, spread, Factored, Chained, Indexed, Sought}
 use Rattle.analysis.specs.Records.{recordAt, sameSigns}
 use Rattle.analysis.proofs.Accepted.{signs-same}
 

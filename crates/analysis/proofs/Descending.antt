@@ -13,16 +13,16 @@ use Rattle.signs.specs.Lists.{tabulate, passing, indices}
 use Rattle.program.specs.File.{wordAt}
 use Rattle.program.specs.Graph.{Graph, edgeAt}
 use Rattle.program.specs.Meaning.{meaning}
-use Rattle.program.specs.Prepared.{Prepared, Linked, Following, entriesIn, decodedMeaning, actionIn, sourceIn, targetIn, firstIn, nextIn, edgeCountPlace}
+use Rattle.program.specs.Parts.Prepared.{Prepared, Linked, Following, entriesIn, decodedMeaning, actionIn, sourceIn, targetIn, firstIn, nextIn, edgeCountPlace}
 use Rattle.program.proofs.Lists.{getD-tabulate}
 use Rattle.program.proofs.Laws.{next-is-beyond, first-is-followed, next-is-followed}
 use Rattle.semantics.specs.Step.{leaves}
-use Rattle.analysis.specs.Changing.{setsOf, ResultsIn}
-use Rattle.analysis.specs.Judging.{ReadInto}
+use Rattle.analysis.specs.Parts.Changing.{setsOf, ResultsIn}
+use Rattle.analysis.specs.Parts.Judging.{ReadInto}
 use Rattle.analysis.specs.Records.{recordAt, nodeOf, memoryOf}
 use Rattle.analysis.specs.Results.{results}
 use Rattle.analysis.specs.Solver.{Found, offer, offerResults, offerSuccessors, descend}
-use Rattle.analysis.specs.Solving.{foundIn, along}
+use Rattle.analysis.specs.Parts.Solving.{foundIn, along}
 use Rattle.analysis.specs.declared.solver.Progress.{Progress}
 use Rattle.analysis.proofs.Growing.{offer-full}
 use Rattle.analysis.proofs.Laid.{node-reads}

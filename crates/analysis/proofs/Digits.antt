@@ -12,7 +12,7 @@ use Rattle.signs.specs.declared.Sign.{Sign}
 use Rattle.signs.specs.declared.Sign.the-variants.{Minus, Zero, Plus}
 use Rattle.signs.proofs.Laws.{has-empty, has-single, has-added, single-below, added-below}
 use Rattle.signs.proofs.Lists.{or-right}
-use Rattle.analysis.specs.Changing.{packed, digits, setsOf, Before}
+use Rattle.analysis.specs.Parts.Changing.{packed, digits, setsOf, Before}
 use Rattle.analysis.specs.Results.{assignedSets, setsWith, storedSets}
 
 -- how many numbers have at most k digits

@@ -10,7 +10,7 @@ use lib.Arith.{digits-div, digits-mod}
 use lib.Dec.{leb}
 use lib.Pow.{pow-mono, pow-pos}
 use mir.Val.{boolByte}
-use Rattle.analysis.specs.Doubling.{doubled, takenOff}
+use Rattle.analysis.specs.Parts.Doubling.{doubled, takenOff}
 
 -- a width doubled k times is at least the k-th power of two, so it is a number of 32 bits only where k is below 32
 power-below : (width k : ℕ) → 0 < width → 2 ^ k ≤ doubled width k

@@ -16,7 +16,7 @@ use Rattle.signs.specs.Truth.{among}
 use Rattle.signs.specs.declared.Reason.the-variants.{IndexTooLarge}
 use Rattle.signs.proofs.Laws.{has-member}
 use Rattle.program.specs.File.{cellsOf, cellCount, firstCell, isVariable, isArray}
-use Rattle.program.specs.Sorted.{meaningNamed, arithNamed, booleanNamed}
+use Rattle.program.specs.Parts.Sorted.{meaningNamed, arithNamed, booleanNamed}
 use Rattle.program.specs.Syntax.{Arith, Boolean}
 use Rattle.program.proofs.Lists.{getD-tabulate}
 use Rattle.program.proofs.Tests.{is-true}

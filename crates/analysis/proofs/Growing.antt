@@ -12,13 +12,13 @@ use lib.ListN.{length, getD, take, drop, length-append, length-drop}
 use lib.Seq.{length-take-le, take-at, drop-at, drop-drop}
 use Rattle.signs.specs.Lists.{tabulate}
 use Rattle.program.specs.Drawing.{over}
-use Rattle.program.specs.DrawingParts.{overAt}
+use Rattle.program.specs.Parts.DrawingParts.{overAt}
 use Rattle.program.proofs.Lists.{length-tabulate, tabulate-same}
-use Rattle.analysis.specs.Changing.{setsOf}
-use Rattle.analysis.specs.Membership.{among, bucket, Indexed}
+use Rattle.analysis.specs.Parts.Changing.{setsOf}
+use Rattle.analysis.specs.Parts.Membership.{among, bucket, Indexed}
 use Rattle.analysis.specs.Records.{initialWidth, recordWidth, recordCount, recordAt, recordsOf, recordFor, listed}
 use Rattle.analysis.specs.Solver.{Found, offer}
-use Rattle.analysis.specs.Solving.{foundIn, Growing, Extended}
+use Rattle.analysis.specs.Parts.Solving.{foundIn, Growing, Extended}
 use Rattle.analysis.specs.declared.solver.Progress.{Progress}
 use Rattle.analysis.proofs.Among.{listed-among, record-kept, indexed-kept}
 use Rattle.analysis.proofs.Chains.{record-inside}

@@ -14,8 +14,8 @@ use borrow.Author.Tests.{lt-ltb, le-ltb}
 use Rattle.program.specs.File.{byteAt}
 use Rattle.program.specs.Graph.{wordBytes}
 use Rattle.program.proofs.Lists.{length-tabulate, getD-tabulate}
-use Rattle.analysis.specs.Membership.{factor, weighted, spread, bucket, changed}
-use Rattle.analysis.specs.RecordParts.{paddedByte, padded}
+use Rattle.analysis.specs.Parts.Membership.{factor, weighted, spread, bucket, changed}
+use Rattle.analysis.specs.Parts.RecordParts.{paddedByte, padded}
 use Rattle.analysis.specs.Records.{recordFor, sameSigns}
 use Rattle.analysis.specs.declared.Change.{Change}
 use Rattle.analysis.proofs.Among.{same-word}

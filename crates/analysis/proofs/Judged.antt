@@ -11,18 +11,18 @@ use Rattle.program.specs.Asking.{ask, askPlain, thenAsk}
 use Rattle.program.specs.File.{nameCount, sizes}
 use Rattle.program.specs.Graph as drawn
 use Rattle.program.specs.Graph.{graph}
-use Rattle.program.specs.Prepared.{Prepared, PreparedLinked}
+use Rattle.program.specs.Parts.Prepared.{Prepared, PreparedLinked}
 use Rattle.program.specs.Questions.{validity}
 use Rattle.program.specs.declared.Refusal.{Refusal}
 use Rattle.program.specs.declared.Validity.{Validity}
 use Rattle.program.specs.declared.Validity.the-variants.{Fit, Refused}
 use Rattle.program.proofs.Laws.{sizes-length, counts, ask-fit, prepared-still}
 use Rattle.program.proofs.Tests.{two}
-use Rattle.analysis.specs.Judging.{namesIn, marked}
+use Rattle.analysis.specs.Parts.Judging.{namesIn, marked}
 use Rattle.analysis.specs.Records.{initialWidth, recordWidth, recordAt, recordCount, wholeRecords, bothWhole}
-use Rattle.analysis.specs.Soundness.{ThirdTermFor, ThirdTerm}
-use Rattle.analysis.specs.Tabled.{TablePut, Ready}
-use Rattle.analysis.specs.Verdict.{unlessRefused, judged, verdict, solutionValidity, markingBy, marking, offending, verdictNumbers}
+use Rattle.analysis.specs.Soundness.{ThirdTermFor}
+use Rattle.analysis.specs.Parts.Tabled.{TablePut, Ready}
+use Rattle.analysis.specs.Verdict.{verdictUnlessRefused, verdictOver, verdict, solutionValidity, markingBy, marking, offending, verdictNumbers, verdictRow}
 use Rattle.analysis.specs.declared.Marking.the-variants.{Refused as Declined}
 use Rattle.analysis.specs.declared.Verdict.{Verdict}
 use Rattle.analysis.specs.declared.Verdict.the-variants.{Refused as Refuses, InitialMissing, ResultMissing}
@@ -70,17 +70,17 @@ ready-names r = let c = r .prepared .coded in (omega (arith, c .some, c .count),
 
 -- the verdict of a program file: refused, or judged over its graph
 pub verdict-refused : (s initial solution : List ℕ) (x : Refusal) → validity s ≡ Refused x → verdict s initial solution ≡ Refuses x
-unfolding verdict unlessRefused
+unfolding verdict verdictUnlessRefused
 verdict-refused s initial solution x p = rw p
 
-pub verdict-judged : (s initial solution : List ℕ) → validity s ≡ Fit → verdict s initial solution ≡ judged (sizes s) (graph s) initial solution
-unfolding verdict unlessRefused
+pub verdict-judged : (s initial solution : List ℕ) → validity s ≡ Fit → verdict s initial solution ≡ verdictOver (sizes s) (graph s) initial solution
+unfolding verdict verdictUnlessRefused
 verdict-judged s initial solution p = rw p
 
 -- a verdict, with document 01's numbers and the third term
 pub promised : (s initial solution : List ℕ) {r : Verdict} → r ≡ verdict s initial solution
-    → (r ≡ verdict s initial solution) × ((verdictNumbers r ≡ verdictNumbers (verdict s initial solution)) × ThirdTermFor s initial solution r)
-unfolding ThirdTerm
+    → (r ≡ verdict s initial solution) × ((verdictNumbers r ≡ verdictRow s initial solution) × ThirdTermFor s initial solution r)
+unfolding verdictRow
 promised s initial solution k = (k, (ap verdictNumbers k, subst (ThirdTermFor s initial solution) (sym k) (third-term s initial solution)))
 
 -- the index mark of a list by itself: refused, or over the prepared program

@@ -12,20 +12,20 @@ use borrow.Author.Tests.{ltb-true, ne-eqb}
 use lib.Dec.{eqb, leb}
 use Rattle.program.specs.Asking.{ask, askEach, isRefused}
 use Rattle.program.specs.Drawing.{over}
-use Rattle.program.specs.DrawingParts.{overAt}
+use Rattle.program.specs.Parts.DrawingParts.{overAt}
 use Rattle.program.specs.File.{byteAt, wordAt}
 use Rattle.program.specs.Graph.{Graph, wordBytes}
-use Rattle.program.specs.Prepared.{Coded, sizeIn, nameCountPlace}
+use Rattle.program.specs.Parts.Prepared.{Coded, sizeIn, nameCountPlace}
 use Rattle.program.specs.declared.Validity.{Validity}
 use Rattle.program.specs.declared.Validity.the-variants.{Fit}
 use Rattle.program.proofs.Asking.{then-first, then-second}
 use Rattle.signs.proofs.Lists.{or-false}
 use Rattle.program.proofs.Laws.{ask-fit, each-fit, each-goes-on, each-same}
 use Rattle.analysis.specs.Abstraction.{wellFormed}
-use Rattle.analysis.specs.Changing.{Alike}
-use Rattle.analysis.specs.Judging.{ReadInto}
-use Rattle.analysis.specs.Membership.{Front, changed}
-use Rattle.analysis.specs.RecordParts.{padded, SizesIn, recordFormed}
+use Rattle.analysis.specs.Parts.Changing.{Alike}
+use Rattle.analysis.specs.Parts.Judging.{ReadInto}
+use Rattle.analysis.specs.Parts.Membership.{Front, changed}
+use Rattle.analysis.specs.Parts.RecordParts.{padded, SizesIn, recordFormed}
 use Rattle.analysis.specs.Records.{initialWidth, recordWidth, recordCount, recordAt, nodeOf, memoryOf, recordFor, memoryFormed, initialFormed, solutionFormed}
 use Rattle.analysis.specs.declared.Change.{Change}
 use Rattle.analysis.proofs.Hashes.{part-at, padded-at, padded-past}
@@ -89,7 +89,7 @@ module _ {ns code : List ℕ} {names : ℕ} (y : SizesIn ns code names) (bytes :
   unfolding initialFormed recordCount initialWidth
   initial-asked = ap (λ (n : ℕ). askEach (length bytes / n) (λ k. memoryFormed ns bytes (n * k))) (sym (y .count))
 
-  pub solution-asked : (g : Graph) {nodes : ℕ} → g .fresh ≡ nodes → askEach (length bytes / (2 + names)) (λ k. recordFormed ns nodes bytes ((2 + names) * k)) ≡ solutionFormed ns g bytes
+  pub solution-asked : (g : Graph) {nodes : ℕ} → g .nodes ≡ nodes → askEach (length bytes / (2 + names)) (λ k. recordFormed ns nodes bytes ((2 + names) * k)) ≡ solutionFormed ns g bytes
   unfolding solutionFormed recordCount recordWidth recordFormed
   solution-asked g {nodes} e =
       ap (λ (n : ℕ). askEach (length bytes / (2 + n)) (λ k. recordFormed ns nodes bytes ((2 + n) * k))) (sym (y .count))
@@ -205,12 +205,12 @@ module _ (at names : ℕ) (rho : List ℕ) (c : Change) (f : Front names rho) (b
 -- ---- What question 17 says of a list where it is answered yes
 
 module _ (ns : List ℕ) (g : Graph) (bytes : List ℕ) (fit : solutionFormed ns g bytes ≡ Fit) (k : ℕ) (h : k < recordCount (recordWidth ns) bytes) where
-  record-fit : recordFormed ns (g .fresh) bytes (recordWidth ns * k) ≡ Fit
+  record-fit : recordFormed ns (g .nodes) bytes (recordWidth ns * k) ≡ Fit
   unfolding solutionFormed recordFormed
   record-fit = each-fit _ _ fit k h
 
   -- each node is one of the graph's, and each memory is well formed
-  pub node-formed : wordAt bytes (recordWidth ns * k) < g .fresh
+  pub node-formed : wordAt bytes (recordWidth ns * k) < g .nodes
   unfolding recordFormed
   node-formed = ltb-true _ _ (ask-fit _ 17 _ (then-first _ _ record-fit))
 

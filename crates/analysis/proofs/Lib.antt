@@ -6,6 +6,8 @@ pub mod Doubling
 pub mod Tables
 pub mod Searching
 pub mod Judged
+pub mod Readback
+pub mod Exits
 pub mod Values
 pub mod Negative
 pub mod Meanings
@@ -23,4 +25,5 @@ pub mod Growing
 pub mod Descending
 pub mod Answering
 pub mod ThirdTerm
+pub mod Laws
 pub mod Examples

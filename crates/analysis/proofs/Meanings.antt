@@ -10,7 +10,7 @@ use mir.Facts.{and-yes}
 use Rattle.signs.specs.Number.{reasonNumber}
 use Rattle.signs.specs.declared.Reason.the-variants.{ConditionFalse}
 use Rattle.program.specs.File.{firstCell, isVariable, isArray}
-use Rattle.program.specs.Sorted.{meaningNamed, arithNamed, booleanNamed}
+use Rattle.program.specs.Parts.Sorted.{meaningNamed, arithNamed, booleanNamed}
 use Rattle.program.specs.Syntax.{Arith, Boolean}
 use Rattle.program.specs.Meaning.{Meaning, nothing, assigns, stores, condition}
 use Rattle.semantics.specs.Action.{pass, storeTo, effect}

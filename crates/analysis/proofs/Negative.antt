@@ -22,7 +22,7 @@ use Rattle.signs.specs.declared.Value.{Value}
 use Rattle.signs.specs.declared.Value.the-variants.{Number as Exactly, Undefined as Unfit}
 use Rattle.signs.proofs.Lists.{or-left, or-right, anyOf-append}
 use Rattle.program.specs.File.{firstCell, isArray}
-use Rattle.program.specs.Sorted.{arithNamed, booleanNamed}
+use Rattle.program.specs.Parts.Sorted.{arithNamed, booleanNamed}
 use Rattle.program.specs.Syntax.{Arith, number, variable, element, operator, Boolean, truth, comparison, conjunction, shortCircuit, negation}
 use Rattle.semantics.specs.Expression.{cellValue, fault, faultNumber, Place, at, nowhere, placeOf, valueAt, operated, combine, value, compareValues, conjoin, andThen, negate, truthIn}
 use Rattle.semantics.specs.declared.Evaluation.{Evaluation}

@@ -13,16 +13,16 @@ use Rattle.program.specs.File.{wordAt}
 use Rattle.program.specs.FirstSuch.{firstOf, firstSuch}
 use Rattle.program.specs.Graph.{Graph, edgeAt}
 use Rattle.program.specs.Meaning.{meaning}
-use Rattle.program.specs.Prepared.{Prepared, Following, entriesIn, sourceIn, targetIn, actionIn, decodedMeaning, edgeCountPlace}
+use Rattle.program.specs.Parts.Prepared.{Prepared, Following, entriesIn, sourceIn, targetIn, actionIn, decodedMeaning, edgeCountPlace}
 use Rattle.program.specs.declared.ActionNode.{ActionNode}
 use Rattle.program.specs.declared.First.the-variants.{At, Nothing}
 use Rattle.program.proofs.Laws.{first-at, first-more, first-such, none-such, such-stops, such-goes-on}
 use Rattle.semantics.specs.Step.{leaves}
-use Rattle.analysis.specs.Changing.{setsOf, ResultsIn}
+use Rattle.analysis.specs.Parts.Changing.{setsOf, ResultsIn}
 use Rattle.analysis.specs.Index.{mayBeNegative}
-use Rattle.analysis.specs.Judging.{anyMissing, picks, firstPicked, spotOf, namesIn, ReadInto, Filled, Searched}
-use Rattle.analysis.specs.Membership.{among, changed, Front}
-use Rattle.analysis.specs.RecordParts.{padded}
+use Rattle.analysis.specs.Parts.Judging.{anyMissing, picks, firstPicked, spotOf, namesIn, ReadInto, Filled, Searched}
+use Rattle.analysis.specs.Parts.Membership.{among, changed, Front}
+use Rattle.analysis.specs.Parts.RecordParts.{padded}
 use Rattle.analysis.specs.Records.{initialWidth, recordWidth, recordCount, recordAt, recordFor, nodeOf, memoryOf, hasAt}
 use Rattle.analysis.specs.Verdict.{missingInitial, isHere, firstSpot}
 use Rattle.analysis.specs.declared.Change.{Change}

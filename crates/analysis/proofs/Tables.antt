@@ -5,11 +5,11 @@ use Prim.Native.Nat.{ℕ, _-_}
 use native.Mathlib.Omega.{arith}
 use lib.ListN.{length, getD, take, drop, length-drop, List·getD-append}
 use lib.Seq.{paste, take-all, drop-length, drop-at, getD-take, length-take-le}
-use Rattle.program.specs.Prepared.{tablePlace, codeLength}
+use Rattle.program.specs.Parts.Prepared.{tablePlace, codeLength}
 use Rattle.signs.specs.Grid.{setTable, operate, operateBy}
 use Rattle.signs.specs.declared.Operator.{Operator}
 use Rattle.signs.proofs.Laws.{table-rule, table-long}
-use Rattle.analysis.specs.Tabled.{Tabled, TablePut}
+use Rattle.analysis.specs.Parts.Tabled.{Tabled, TablePut}
 
 pub table-put : (old : List ℕ) {code : List ℕ} → length old ≡ codeLength → code ≡ paste old tablePlace setTable 320 → TablePut old code
 table-put old {code} long put =

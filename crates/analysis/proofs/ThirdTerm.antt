@@ -1,6 +1,6 @@
 -- The third term (document 01; book, Propositions 4.9 and 4.31): an accepted solution has the memory's record at the node reached, after any list
 -- of step calls and any budgeted run; and a clean mark means that no call meets a negative index.
-use mathlib.Core.Path.{_≡_, refl, subst, _∙_}
+use mathlib.Core.Path.{_≡_, refl, subst, ap, _∙_}
 use mathlib.Core.Bool.{not, _&&_}
 use mathlib.Core.List.{List, [], _∷_}
 use Prim.Native.Nat.{ℕ, _<_}
@@ -13,24 +13,25 @@ use Rattle.signs.specs.Lists.{allOf, indices}
 use Rattle.program.specs.File.{cellCount, sizes}
 use Rattle.program.specs.Graph.{Graph, graph, edges, edgeCount, edgeAt}
 use Rattle.program.specs.Questions.{validity}
-use Rattle.program.specs.Sorted.{meaningNamed, actionNamed}
+use Rattle.program.specs.Parts.Sorted.{meaningNamed, actionNamed}
 use Rattle.program.specs.declared.Validity.{Validity}
 use Rattle.program.specs.declared.Validity.the-variants.{Fit, Refused}
 use Rattle.program.proofs.Laws.{ask-fit, turn-fit, edge-faithful, meaning-named}
 use Rattle.program.proofs.Tests.{passed}
 use Rattle.program.specs.Meaning.{meaning}
 use Rattle.semantics.specs.Action.{effect, isDefined}
-use Rattle.semantics.specs.Budget.{runFrom, budgeted}
-use Rattle.semantics.specs.Replay.{replay, outcomes}
-use Rattle.semantics.specs.Step.{Configuration, fresh, begun, leaves, edgeEffect, memoryValidity, stepValidity, outcomeBy, unlessRefused, outcome, along, step}
+use Rattle.semantics.specs.Budget.{Result, runFrom, budgeted}
+use Rattle.semantics.specs.Parts.Replaying.{replay, outcomes, step}
+use Rattle.semantics.specs.Step.{Configuration, fresh, begun, leaves, edgeEffect, memoryValidity, stepValidity, outcomeBy, outcomeUnlessRefused, outcome, along}
 use Rattle.semantics.specs.declared.Effect.{Effect}
 use Rattle.semantics.specs.declared.Outcome.{Outcome}
 use Rattle.semantics.specs.declared.Outcome.the-variants.{Taken, Undefined as Stays, Refused as Refuses}
 use Rattle.semantics.specs.declared.Effect.the-variants.{Undefined as Fails, Unchanged, Stored}
-use Rattle.semantics.proofs.Laws.{memory-fit, leaves-below, taken-takable, taken-step, untaken-step, along-length, lowest-found, run-ends, budgeted-run, refused-run}
+use Rattle.semantics.proofs.Laws.{memory-fit, leaves-below, taken-takable, taken-step, untaken-step, along-length, lowest-found, run-ends, budgeted-run, refused-run, program-replay, program-outcomes, program-budgeted}
 use Rattle.analysis.specs.Abstraction.{abstractMemory}
-use Rattle.analysis.specs.Soundness.{isNegativeIndex, meetsInCall, meetsInEffect, hasConfiguration, noEdgeMeets, Sound, ThirdTermFor, ThirdTerm}
-use Rattle.analysis.specs.Verdict.{judged, verdict}
+use Rattle.analysis.specs.Soundness.{isNegativeIndex, meetsInCall, meetsInEffect, hasConfiguration, noEdgeMeets, Sound, ThirdTermFor}
+use Rattle.analysis.specs.Parts.Covering.{SoundOn}
+use Rattle.analysis.specs.Verdict.{verdictOver, verdict}
 use Rattle.analysis.specs.declared.Mark.{Mark}
 use Rattle.analysis.specs.declared.Mark.the-variants.{Clean}
 use Rattle.analysis.proofs.Accepted.{Judged, accepted, not-refused-accepted, has-start, has-result, clean-index}
@@ -83,10 +84,10 @@ module _ (ns : List ℕ) (g : Graph) (named : (e : ℕ) → e < length (g .edges
       by (Refuses x) p = rw (untaken-step ns g c e (λ q. let z : _≡_ {A = ℕ} 0 1 = cc in omega arith)) has
 
   call-never-meets : mark ≡ Clean → (c : Configuration) (e : ℕ) → Covered c → T (not (meetsInCall (outcome ns g c e)))
-  unfolding outcome unlessRefused outcomeBy meetsInCall meetsInEffect stepValidity
+  unfolding outcome outcomeUnlessRefused outcomeBy meetsInCall meetsInEffect stepValidity
   call-never-meets clean c e has = by (stepValidity ns g (c .run .node) (c .memory) e) (edgeEffect ns g (c .memory) e) refl refl
     where
-      by : (v : Validity) (x : Effect) → stepValidity ns g (c .run .node) (c .memory) e ≡ v → edgeEffect ns g (c .memory) e ≡ x → T (not (meetsInCall (unlessRefused v (outcomeBy x))))
+      by : (v : Validity) (x : Effect) → stepValidity ns g (c .run .node) (c .memory) e ≡ v → edgeEffect ns g (c .memory) e ≡ x → T (not (meetsInCall (outcomeUnlessRefused v (outcomeBy x))))
       by Fit (Fails f) p q = not-T (isNegativeIndex f) (λ t. never-meets clean c e has (passed (ask-fit _ 15 0 (turn-fit _ 2 p))) (rw q t))
       by Fit Unchanged p q = tt
       by Fit (Stored k z) p q = tt
@@ -123,8 +124,8 @@ module _ (ns : List ℕ) (g : Graph) (named : (e : ℕ) → e < length (g .edges
       by (Refused x) p = rw (refused-run ns g budget m x p) has
 
   -- the third term of a graph
-  pub sound : Sound ns g initial solution mark
-  unfolding Sound hasConfiguration fresh
+  pub sound : SoundOn ns g initial solution mark
+  unfolding SoundOn hasConfiguration fresh
   sound m t calls budget =
       let start : Covered (begun m) = has-start ns g initial solution mark j (abstractMemory ns m) t in
       let reached = covered-replay calls (begun m) start in
@@ -137,10 +138,26 @@ module _ (ns : List ℕ) (g : Graph) (named : (e : ℕ) → e < length (g .edges
         run-no-edge-meets = λ clean. no-edge-meets clean (budgeted ns g budget m .final) ran;
       }
 
+-- where a file is fit, its steps and runs are those of its graph, and so is what holds of them
+sound-file : (s initial solution : List ℕ) (mark : Mark) → validity s ≡ Fit → SoundOn (sizes s) (graph s) initial solution mark → Sound s initial solution mark
+unfolding SoundOn Sound
+sound-file s initial solution mark fit on m t calls budget =
+    let k = on m t calls budget in
+    let reached = program-replay s fit (begun m) calls in
+    let ran = ap (λ (r : Result). r .final) (program-budgeted s fit budget m) in
+    record {
+      reached = rw reached (k .reached);
+      run-reached = rw ran (k .run-reached);
+      no-call-meets = λ clean. rw (program-outcomes s fit (begun m) calls) (k .no-call-meets clean);
+      no-edge-meets = λ clean. rw reached (k .no-edge-meets clean);
+      run-no-edge-meets = λ clean. rw ran (k .run-no-edge-meets clean);
+    }
+
 -- the third term of a program file
-pub third-term : (s initial solution : List ℕ) → ThirdTerm s initial solution
-unfolding ThirdTerm ThirdTermFor verdict edges edgeCount edgeAt
+pub third-term : (s initial solution : List ℕ) → ThirdTermFor s initial solution (verdict s initial solution)
+unfolding ThirdTermFor verdict edges edgeCount edgeAt
 third-term s initial solution mark e =
-    let fit = not-refused-accepted (validity s) (judged (sizes s) (graph s) initial solution) mark e in
-    sound (sizes s) (graph s) (λ k h. edge-faithful s (fit .0) k _ h .named) initial solution mark
-    (accepted (sizes s) (graph s) initial solution mark (fit .1))
+    let fit = not-refused-accepted (validity s) (verdictOver (sizes s) (graph s) initial solution) mark e in
+    sound-file s initial solution mark (fit .0)
+    (sound (sizes s) (graph s) (λ k h. edge-faithful s (fit .0) k _ h .named) initial solution mark
+    (accepted (sizes s) (graph s) initial solution mark (fit .1)))

@@ -24,7 +24,7 @@ use Rattle.signs.specs.declared.Value.the-variants.{Number as Exactly, Undefine
 use Rattle.signs.proofs.Laws.{has-single, has-unionAll, operate-sound, compareSets-sound, among-certain, among-negated, conjoined-entry, andThen-entry}
 use Rattle.signs.proofs.Lists.{or-left, or-right, anyOf-map}
 use Rattle.program.specs.File.{cellsOf, firstCell, isArray}
-use Rattle.program.specs.Sorted.{arithNamed, booleanNamed}
+use Rattle.program.specs.Parts.Sorted.{arithNamed, booleanNamed}
 use Rattle.program.specs.Syntax.{Arith, number, variable, element, operator, Boolean, truth, comparison, conjunction, shortCircuit, negation}
 use Rattle.program.proofs.Lists.{getD-tabulate}
 use Rattle.program.proofs.Tests.{is-true}

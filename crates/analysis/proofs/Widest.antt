@@ -15,13 +15,13 @@ use Rattle.signs.proofs.Laws.{has-empty, operate-monotone}
 use Rattle.signs.proofs.Lists.{or-mono}
 use Rattle.signs.proofs.Membership.{Within}
 use Rattle.program.specs.Graph.{Graph}
-use Rattle.program.specs.Prepared.{Prepared, edgeCountPlace}
+use Rattle.program.specs.Parts.Prepared.{Prepared, edgeCountPlace}
 use Rattle.program.specs.Syntax.{Arith, number, variable, element, operator, Boolean, truth, comparison, conjunction, shortCircuit, negation}
 use Rattle.program.proofs.Laws.{none-such}
 use Rattle.program.specs.Meaning.{Meaning, nothing, assigns, stores, condition}
 use Rattle.semantics.specs.Step.{leaves}
 use Rattle.analysis.specs.Index.{arithIndexes, booleanIndexes, indexSets, anyNegative, mayBeNegative}
-use Rattle.analysis.specs.Judging.{picks, firstPicked, spotOf, widest, NeverNegative}
+use Rattle.analysis.specs.Parts.Judging.{picks, firstPicked, spotOf, widest, NeverNegative}
 use Rattle.analysis.specs.Records.{recordWidth, recordCount, recordAt, nodeOf, memoryOf}
 use Rattle.analysis.specs.Signs.{mayIndex, signsIn}
 use Rattle.analysis.specs.Verdict.{isHere, spotAt, firstSpot}

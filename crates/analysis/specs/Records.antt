@@ -11,8 +11,8 @@ use Rattle.program.specs.Graph.{Graph, wordBytes}
 use Rattle.program.specs.declared.Refusal.{Refusal}
 use Rattle.program.specs.declared.Validity.{Validity}
 use Rattle.analysis.specs.Abstraction.{wellFormed}
-use Rattle.analysis.specs.declared.Records.{Records}
-use Rattle.analysis.specs.declared.Records.the-variants.{Initial, Solution}
+use Rattle.analysis.specs.declared.RecordList.{RecordList}
+use Rattle.analysis.specs.declared.RecordList.the-variants.{Initial, Solution}
 use Rattle.analysis.specs.declared.WrongByte.{WrongByte}
 
 -- "A start list is such records; a sheet puts a two-byte node of the graph before each": the bytes of a record of each
@@ -92,14 +92,14 @@ solutionFormed ns g bytes =
     askEach (recordCount (recordWidth ns) bytes)
     (λ k.
     let at = recordWidth ns * k in
-    thenAsk (ask (ltb (wordAt bytes at) (g .fresh)) 17 at) (memoryFormed ns bytes (at + 2)))
+    thenAsk (ask (ltb (wordAt bytes at) (g .nodes)) 17 at) (memoryFormed ns bytes (at + 2)))
 
 -- the wrong byte of a list that such a question is answered with
-unfoldable pub wrongByte : Records → Refusal → WrongByte
+unfoldable pub wrongByte : RecordList → Refusal → WrongByte
 wrongByte list x = record { list = list; offset = x .offset }
 
 -- 17 in document 01's numbers: the number, the list (1 for the start list, 2 for the sheet) and the place
-unfoldable pub listNumber : Records → ℕ
+unfoldable pub listNumber : RecordList → ℕ
 listNumber Initial = 1
 listNumber Solution = 2
 

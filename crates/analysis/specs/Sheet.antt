@@ -15,8 +15,8 @@ use Rattle.analysis.specs.Solver.{Found, solution, roomOf}
 use Rattle.analysis.specs.Verdict.{indexMark, markNumbers}
 
 -- "Its sheet buffer has 65,536 bytes": the solver's list for an input
-unfoldable pub found : List ℕ → Found
-found input =
+unfoldable pub listed : List ℕ → Found
+listed input =
     let s = programPart input in
     solution (sizes s) (graph s) (initialPart input) (roomOf (sizes s) 65536)
 
@@ -24,7 +24,7 @@ found input =
 -- record K arrow E"
 unfoldable pub listing : List ℕ → List (List ℕ) → List (List ℕ)
 listing s rs =
-    ((graph s .fresh ∷ length (graph s .edges) ∷ length rs ∷ [])
+    ((graph s .nodes ∷ length (graph s .edges) ∷ length rs ∷ [])
     ∷ tabulate (length rs) (λ k. k ∷ nodeOf (getD rs k []) ∷ memoryOf (sizes s) (getD rs k [])))
     ++ (markNumbers (indexMark (sizes s) (graph s) (flatten rs)) ∷ [])
 
@@ -44,4 +44,4 @@ rowsBy input f Fit = listing (programPart input) (f .records)
 rowsBy input f (Refused x) = (x .number ∷ x .offset ∷ []) ∷ []
 
 unfoldable pub printedRows : List ℕ → List (List ℕ)
-printedRows input = let f = found input in rowsBy input f (printValidity input f)
+printedRows input = let f = listed input in rowsBy input f (printValidity input f)

@@ -16,7 +16,7 @@ use Rattle.program.specs.Meaning.{meaning}
 use Rattle.semantics.specs.Step.{leaves}
 use Rattle.analysis.specs.Records.{initialWidth, recordWidth, recordsOf, recordFor, nodeOf, memoryOf, listed, initialWhole, initialFormed, wrongByte, wrongByteNumbers}
 use Rattle.analysis.specs.Results.{results}
-use Rattle.analysis.specs.declared.Records.the-variants.{Initial}
+use Rattle.analysis.specs.declared.RecordList.the-variants.{Initial}
 use Rattle.analysis.specs.declared.Solved.{Solved}
 use Rattle.analysis.specs.declared.Solving.{Solving}
 use Rattle.analysis.specs.declared.Solving.the-variants.{Finished, Full, Refused as Refuses, Malformed}
@@ -105,3 +105,7 @@ solvingNumbers (Malformed w) = wrongByteNumbers w
 -- a reply in document 01's numbers: the answer's, then the count
 unfoldable pub solvedNumbers : Solved → List ℕ
 solvedNumbers r = solvingNumbers (r .solving) ++ (r .count ∷ [])
+
+-- the row that solving into a buffer answers
+unfoldable pub solverRow : List ℕ → List ℕ → List ℕ → List ℕ
+solverRow s initial buffer = solvedNumbers (solved s initial buffer)

@@ -20,3 +20,7 @@ split s place = splitBy (validity s) (recordWidth (sizes s)) place
 -- a reply in document 01's numbers: the validity's, then record and column
 unfoldable pub splitNumbers : Split → List ℕ
 splitNumbers x = validityNumbers (x .validity) ++ (x .«record» ∷ x .column ∷ [])
+
+-- the row that splitting a place answers
+unfoldable pub splitRow : List ℕ → ℕ → List ℕ
+splitRow s place = splitNumbers (split s place)

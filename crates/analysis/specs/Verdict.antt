@@ -22,8 +22,8 @@ use Rattle.analysis.specs.declared.Mark.{Mark}
 use Rattle.analysis.specs.declared.Mark.the-variants.{Clean, Unclean}
 use Rattle.analysis.specs.declared.Marking.{Marking}
 use Rattle.analysis.specs.declared.Marking.the-variants.{Refused as Declined, Malformed as Misshapen, Marked}
-use Rattle.analysis.specs.declared.Records.{Records}
-use Rattle.analysis.specs.declared.Records.the-variants.{Initial, Solution}
+use Rattle.analysis.specs.declared.RecordList.{RecordList}
+use Rattle.analysis.specs.declared.RecordList.the-variants.{Initial, Solution}
 use Rattle.analysis.specs.declared.Spot.{Spot}
 use Rattle.analysis.specs.declared.Spot.the-variants.{At as Here, Nowhere}
 use Rattle.analysis.specs.declared.Verdict.{Verdict}
@@ -74,25 +74,25 @@ verdictBy Nothing (Here k e) mark = ResultMissing k e
 verdictBy Nothing Nowhere mark = Accepted mark
 
 -- a verdict where no question is refused, and where no record of a list is malformed
-unfoldable pub unlessRefused : Validity → Verdict → Verdict
-unlessRefused Fit v = v
-unlessRefused (Refused x) v = Refuses x
+unfoldable pub verdictUnlessRefused : Validity → Verdict → Verdict
+verdictUnlessRefused Fit v = v
+verdictUnlessRefused (Refused x) v = Refuses x
 
-unfoldable pub unlessMalformed : Records → Validity → Verdict → Verdict
+unfoldable pub unlessMalformed : RecordList → Validity → Verdict → Verdict
 unlessMalformed list Fit v = v
 unlessMalformed list (Refused x) v = Malformed (wrongByte list x)
 
 -- 16, 17 of the start list and then of the solution, 41, 42
-unfoldable pub judged : List ℕ → Graph → List ℕ → List ℕ → Verdict
-judged ns g initial solution =
-    unlessRefused (bothWhole ns initial solution)
+unfoldable pub verdictOver : List ℕ → Graph → List ℕ → List ℕ → Verdict
+verdictOver ns g initial solution =
+    verdictUnlessRefused (bothWhole ns initial solution)
     (unlessMalformed Initial (initialFormed ns initial)
     (unlessMalformed Solution (solutionFormed ns g solution)
     (verdictBy (missingInitial ns initial solution) (missingResult ns g solution) (indexMark ns g solution))))
 
 -- the verdict for a program file, of which questions 1 to 11 are asked first
 unfoldable pub verdict : List ℕ → List ℕ → List ℕ → Verdict
-verdict s initial solution = unlessRefused (validity s) (judged (sizes s) (graph s) initial solution)
+verdict s initial solution = verdictUnlessRefused (validity s) (verdictOver (sizes s) (graph s) initial solution)
 
 -- the index mark of a list of records by itself, of which 16 and 17 are asked after questions 1 to 11 of the program file
 unfoldable pub solutionValidity : List ℕ → List ℕ → Validity
@@ -134,3 +134,10 @@ unfoldable pub markingNumbers : Marking → List ℕ
 markingNumbers (Declined x) = x .number ∷ x .offset ∷ []
 markingNumbers (Misshapen w) = wrongByteNumbers w
 markingNumbers (Marked mark) = 0 ∷ markNumbers mark
+
+-- the rows that judging a candidate solution and marking a list of records answer
+unfoldable pub verdictRow : List ℕ → List ℕ → List ℕ → List ℕ
+verdictRow s initial solution = verdictNumbers (verdict s initial solution)
+
+unfoldable pub markRow : List ℕ → List ℕ → List ℕ
+markRow s solution = markingNumbers (marking s solution)

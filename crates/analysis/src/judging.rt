@@ -7,17 +7,17 @@ ghost use Prim.Native.Nat.{ℕ, _+_, _/_, _%_, _≤_, _<_};
 ghost use lib.ListN.{length, set, getD};
 ghost use Rattle.program.specs.File;
 ghost use Rattle.program.specs.Graph;
-ghost use Rattle.program.specs.Prepared;
-ghost use Rattle.analysis.specs.Changing;
-ghost use Rattle.analysis.specs.Judging as parts;
+ghost use Rattle.program.specs.Parts.Prepared;
+ghost use Rattle.analysis.specs.Parts.Changing;
+ghost use Rattle.analysis.specs.Parts.Judging as parts;
 ghost use Rattle.analysis.specs.Records;
 ghost use Rattle.analysis.specs.Soundness;
-ghost use Rattle.analysis.specs.Tabled;
+ghost use Rattle.analysis.specs.Parts.Tabled;
 ghost use Rattle.analysis.specs.Verdict as spec;
 use crate::Change;
 use crate::Mark;
 use crate::Marking;
-use crate::Records as Lists;
+use crate::RecordList;
 use crate::Spot;
 use crate::Verdict;
 use crate::WrongByte;
@@ -327,7 +327,7 @@ fn judge_formed(
         × (Records.wholeRecords (2 + parts.namesIn (now code)) (now solution) ≡ true) ⌝ }
     ensures { λ r. ⌜ ((ns : List ℕ) (g : Graph.Graph) → Prepared.Prepared ns g (now (code .entry)) (now (graph .entry))
         → Records.solutionFormed ns g (now (solution .entry)) ≡ Validity.Fit
-        → r ≡ parts.found ns g (now (initial .entry)) (now (solution .entry))) ⌝ }
+        → r ≡ parts.formedVerdict ns g (now (initial .entry)) (now (solution .entry))) ⌝ }
 {
     let names = prepared::name_count(code);
     let mut index = [0u16; INDEX];
@@ -339,7 +339,7 @@ fn judge_formed(
     }
 }
 
-fn malformed(list: Lists, x: Refusal) -> WrongByte
+fn malformed(list: RecordList, x: Refusal) -> WrongByte
     ensures { λ r. ⌜ r ≡ Records.wrongByte list x ⌝ }
 {
     WrongByte {
@@ -365,7 +365,7 @@ fn judge_prepared(
 ) -> Verdict
     requires { ⌜ Tabled.Ready (now code) (now graph) ⌝ }
     ensures { λ r. ⌜ ((ns : List ℕ) (g : Graph.Graph) → Prepared.Prepared ns g (now (code .entry)) (now (graph .entry))
-        → r ≡ spec.judged ns g (now (initial .entry)) (now (solution .entry))) ⌝ }
+        → r ≡ spec.verdictOver ns g (now (initial .entry)) (now (solution .entry))) ⌝ }
 {
     let names = prepared::name_count(code);
     let whole = validation::ask(both_whole(initial, solution, names), 16, 0);
@@ -374,12 +374,12 @@ fn judge_prepared(
     }
     let first = lists::initial_formed(code, initial);
     if let Validity::Refused(x) = first {
-        return Verdict::Malformed(malformed(Lists::Initial, x));
+        return Verdict::Malformed(malformed(RecordList::Initial, x));
     }
     let second = lists::solution_formed(code, prepared::node_count(graph), solution);
     match second {
         Validity::Fit => judge_formed(code, graph, initial, solution),
-        Validity::Refused(x) => Verdict::Malformed(malformed(Lists::Solution, x)),
+        Validity::Refused(x) => Verdict::Malformed(malformed(RecordList::Solution, x)),
     }
 }
 
@@ -409,14 +409,14 @@ fn mark_prepared(code: &[u16; CODE], graph: &[u16; GRAPH], solution: &[u8]) -> M
     let formed = lists::solution_formed(code, prepared::node_count(graph), solution);
     match formed {
         Validity::Fit => Marking::Marked(mark_formed(code, graph, solution)),
-        Validity::Refused(x) => Marking::Malformed(malformed(Lists::Solution, x)),
+        Validity::Refused(x) => Marking::Malformed(malformed(RecordList::Solution, x)),
     }
 }
 
 // The verdict on a candidate solution.
 pub fn judge(program: &[u8], initial: &[u8], solution: &[u8]) -> Verdict
     ensures { λ r. ⌜ r ≡ spec.verdict (now (program .entry)) (now (initial .entry)) (now (solution .entry)) ⌝ }
-    ensures numbers { λ r. ⌜ spec.verdictNumbers r ≡ spec.verdictNumbers (spec.verdict (now (program .entry)) (now (initial .entry)) (now (solution .entry))) ⌝ }
+    ensures numbers { λ r. ⌜ spec.verdictNumbers r ≡ spec.verdictRow (now (program .entry)) (now (initial .entry)) (now (solution .entry)) ⌝ }
     ensures third { λ r. ⌜ Soundness.ThirdTermFor (now (program .entry)) (now (initial .entry)) (now (solution .entry)) r ⌝ }
 {
     let mut code = [0u16; CODE];
@@ -432,7 +432,7 @@ pub fn judge(program: &[u8], initial: &[u8], solution: &[u8]) -> Verdict
 }
 
 // The offending record of 41 or 42, a part of the list that it lies in; else an empty part.
-pub fn verdict<'a>(program: &[u8], initial: &'a [u8], solution: &'a [u8]) -> &'a [u8]
+pub fn offending<'a>(program: &[u8], initial: &'a [u8], solution: &'a [u8]) -> &'a [u8]
     ensures { λ r. ⌜ now r ≡ spec.offending (File.sizes (now (program .entry))) (now (initial .entry)) (now (solution .entry))
         (spec.verdict (now (program .entry)) (now (initial .entry)) (now (solution .entry))) ⌝ }
 {
@@ -454,7 +454,7 @@ pub fn verdict<'a>(program: &[u8], initial: &'a [u8], solution: &'a [u8]) -> &'a
 // The index mark of a list of records by itself.
 pub fn index_mark(program: &[u8], solution: &[u8]) -> Marking
     ensures { λ r. ⌜ r ≡ spec.marking (now (program .entry)) (now (solution .entry)) ⌝ }
-    ensures numbers { λ r. ⌜ spec.markingNumbers r ≡ spec.markingNumbers (spec.marking (now (program .entry)) (now (solution .entry))) ⌝ }
+    ensures numbers { λ r. ⌜ spec.markingNumbers r ≡ spec.markRow (now (program .entry)) (now (solution .entry)) ⌝ }
 {
     let mut code = [0u16; CODE];
     let mut graph = [0u16; GRAPH];

@@ -5,12 +5,12 @@ ghost use mathlib.Core.Bool.{true};
 ghost use mathlib.Core.List.{List};
 ghost use Prim.Native.Nat.{ℕ, _<_, _≤_, _+_};
 ghost use lib.ListN.{length, getD, take};
-ghost use Rattle.program.specs.DrawingParts;
+ghost use Rattle.program.specs.Parts.DrawingParts;
 ghost use Rattle.program.specs.Graph;
-ghost use Rattle.program.specs.Prepared;
+ghost use Rattle.program.specs.Parts.Prepared;
 ghost use Rattle.analysis.specs.Abstraction;
-ghost use Rattle.analysis.specs.Membership.{Front, changed};
-ghost use Rattle.analysis.specs.RecordParts as parts;
+ghost use Rattle.analysis.specs.Parts.Membership.{Front, changed};
+ghost use Rattle.analysis.specs.Parts.RecordParts as parts;
 ghost use Rattle.analysis.specs.Records as spec;
 use crate::Change;
 use program::Validity;
@@ -123,7 +123,7 @@ fn record_formed(code: &[u16; CODE], names: usize, nodes: u16, bytes: &[u8], at:
 // Question 17 of a solution.
 pub(crate) fn solution_formed(code: &[u16; CODE], nodes: u16, bytes: &[u8]) -> Validity
     requires { ⌜ getD (now code) Prepared.nameCountPlace 0 ≤ 32 ⌝ }
-    ensures { λ r. ⌜ ((ns : List ℕ) (g : Graph.Graph) → Prepared.Coded ns (now (code .entry)) → g .fresh ≡ nodes → r ≡ spec.solutionFormed ns g (now (bytes .entry))) ⌝ }
+    ensures { λ r. ⌜ ((ns : List ℕ) (g : Graph.Graph) → Prepared.Coded ns (now (code .entry)) → g .nodes ≡ nodes → r ≡ spec.solutionFormed ns g (now (bytes .entry))) ⌝ }
 {
     let names = prepared::name_count(code);
     let width = 2 + names;

@@ -5,8 +5,8 @@ ghost use mathlib.Core.List.{List};
 ghost use Prim.Native.Nat.{ℕ, suc, _+_, _*_, _/_, _%_, _<_, _≤_};
 ghost use lib.ListN;
 ghost use lib.ListN.{length, getD, set, take, drop, replicate};
-ghost use Rattle.analysis.specs.Membership as spec;
-ghost use Rattle.analysis.specs.RecordParts as parts;
+ghost use Rattle.analysis.specs.Parts.Membership as spec;
+ghost use Rattle.analysis.specs.Parts.RecordParts as parts;
 ghost use Rattle.analysis.specs.Records;
 use crate::Change;
 

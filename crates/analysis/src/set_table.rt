@@ -2,9 +2,9 @@
 
 ghost use mathlib.Core.Path.{_≡_};
 ghost use lib.ListN.{length};
-ghost use Rattle.program.specs.Prepared.{codeLength};
+ghost use Rattle.program.specs.Parts.Prepared.{codeLength};
 ghost use Rattle.signs.specs.Grid as spec;
-ghost use Rattle.analysis.specs.Tabled as parts;
+ghost use Rattle.analysis.specs.Parts.Tabled as parts;
 use program::prepared::CODE;
 use program::prepared::TABLE;
 use signs::Operator;

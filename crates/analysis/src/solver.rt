@@ -6,17 +6,17 @@ ghost use mathlib.Core.List.{List, [], foldl, map};
 ghost use Prim.Native.Nat.{ℕ, _+_, _/_, _%_, _<_, _≤_, min};
 ghost use lib.ListN.{length, getD, set};
 ghost use Rattle.program.specs.Graph.{Graph};
-ghost use Rattle.program.specs.Prepared.{Prepared, Linked};
+ghost use Rattle.program.specs.Parts.Prepared.{Prepared, Linked};
 ghost use Rattle.program.specs.declared.Validity.the-variants.{Fit};
-ghost use Rattle.analysis.specs.Changing.{digitsEnd, setsOf};
-ghost use Rattle.analysis.specs.Judging.{ReadInto, namesIn};
-ghost use Rattle.analysis.specs.Membership.{Weighed};
+ghost use Rattle.analysis.specs.Parts.Changing.{digitsEnd, setsOf};
+ghost use Rattle.analysis.specs.Parts.Judging.{ReadInto, namesIn};
+ghost use Rattle.analysis.specs.Parts.Membership.{Weighed};
 ghost use Rattle.analysis.specs.Records as records;
 ghost use Rattle.analysis.specs.Solver as spec;
-ghost use Rattle.analysis.specs.Solving as parts;
-ghost use Rattle.analysis.specs.Tabled.{Tabled, Ready};
+ghost use Rattle.analysis.specs.Parts.Solving as parts;
+ghost use Rattle.analysis.specs.Parts.Tabled.{Tabled, Ready};
 use crate::Change;
-use crate::Records;
+use crate::RecordList;
 use crate::Solved;
 use crate::Solving;
 use crate::WrongByte;
@@ -308,11 +308,11 @@ fn solve_formed(
 
 // The reply where question 17 is refused.
 fn malformed(x: Refusal) -> Solved
-    ensures { λ r. ⌜ r ≡ record { solving = Solving.Malformed (records.wrongByte Records.Initial x); count = 0 } ⌝ }
+    ensures { λ r. ⌜ r ≡ record { solving = Solving.Malformed (records.wrongByte RecordList.Initial x); count = 0 } ⌝ }
 {
     Solved {
         solving: Solving::Malformed(WrongByte {
-            list: Records::Initial,
+            list: RecordList::Initial,
             offset: x.offset,
         }),
         count: 0,
@@ -357,7 +357,7 @@ fn solve_prepared(
 pub fn solve(program: &[u8], initial: &[u8], buffer: &mut [u8]) -> Solved
     ensures { λ r. ⌜ (r ≡ spec.solved (now (program .entry)) (now (initial .entry)) (now (buffer .entry)))
         × (now (buffer .exit) ≡ spec.solvedBuffer (now (program .entry)) (now (initial .entry)) (now (buffer .entry))) ⌝ }
-    ensures numbers { λ r. ⌜ spec.solvedNumbers r ≡ spec.solvedNumbers (spec.solved (now (program .entry)) (now (initial .entry)) (now (buffer .entry))) ⌝ }
+    ensures numbers { λ r. ⌜ spec.solvedNumbers r ≡ spec.solverRow (now (program .entry)) (now (initial .entry)) (now (buffer .entry)) ⌝ }
 {
     let mut code = [0u16; CODE];
     let mut graph = [0u16; GRAPH];

@@ -2,7 +2,7 @@
 
 ghost use Prim.Native.Nat.{_<_};
 ghost use mathlib.Core.Path.{_≡_};
-ghost use Rattle.analysis.specs.Doubling as doubling;
+ghost use Rattle.analysis.specs.Parts.Doubling as doubling;
 ghost use Rattle.analysis.specs.Splitter as spec;
 ghost use Rattle.program.specs.declared.Validity.the-variants.{Fit};
 use crate::Split;
@@ -62,7 +62,7 @@ fn split_by(width: u32, place: u32) -> Split
 // The record and the column of the byte at a place of a solution of a program.
 pub fn split(program: &[u8], place: u32) -> Split
     ensures { λ r. ⌜ r ≡ spec.split (now (program .entry)) place ⌝ }
-    ensures numbers { λ r. ⌜ spec.splitNumbers r ≡ spec.splitNumbers (spec.split (now (program .entry)) place) ⌝ }
+    ensures numbers { λ r. ⌜ spec.splitNumbers r ≡ spec.splitRow (now (program .entry)) place ⌝ }
 {
     let v = validation::validate(program);
     match v {

@@ -14,7 +14,7 @@
 //    answers and, for the run before the first call and after each, whether the sheet has the memory's record at the run's node; then the sheet's index mark.
 use analysis::Mark;
 use analysis::Marking;
-use analysis::Records;
+use analysis::RecordList;
 use analysis::Solving;
 use analysis::Split;
 use analysis::Verdict;
@@ -50,10 +50,10 @@ fn long_place(x: u32) -> usize {
     x as usize
 }
 
-fn print_list(list: Records) {
+fn print_list(list: RecordList) {
     match list {
-        Records::Initial => printing::text(b" of the start list"),
-        Records::Solution => printing::text(b" of the sheet"),
+        RecordList::Initial => printing::text(b" of the start list"),
+        RecordList::Solution => printing::text(b" of the sheet"),
     }
 }
 
@@ -160,7 +160,7 @@ fn answer_judge(s: &[u8], initial: &[u8], sheet: &[u8]) {
 // The offending record is a part of either list, so that here and above the two have one lifetime.
 fn answer_offending<'a>(s: &[u8], initial: &'a [u8], sheet: &'a [u8]) {
     printing::text(b"; offending");
-    print_records(judging::verdict(s, initial, sheet), 0);
+    print_records(judging::offending(s, initial, sheet), 0);
 }
 
 fn answer_mark(s: &[u8], sheet: &[u8]) {

@@ -4,17 +4,18 @@ use mathlib.Core.List.{List}
 use Prim.Native.Nat.{ℕ, _+_, _≤_, _<_}
 use lib.IntN.{ℤ}
 use lib.ListN.{length, getD, take, drop}
-use Rattle.program.specs.Drawing.{drawnNumbers}
+use Rattle.program.specs.Drawing.{drawnNumbers, drawingRow}
 use Rattle.program.specs.File.{sizes}
-use Rattle.program.specs.Questions.{inputValidity, programPart, initialPart}
+use Rattle.program.specs.Questions.{inputValidity, programPart, initialPart, inputRow, validationRow}
 use Rattle.program.specs.declared.Validity.the-variants.{Fit}
 use Rattle.program.proofs.Laws as Program
-use Rattle.semantics.specs.Budget.{endedNumbers}
-use Rattle.semantics.specs.Step.{Configuration, steppedNumbers}
-use Rattle.analysis.specs.Solver.{solvedNumbers}
-use Rattle.analysis.specs.Splitter.{splitNumbers}
-use Rattle.analysis.specs.Verdict.{verdict, offending}
+use Rattle.semantics.specs.Budget.{endedNumbers, runRow}
+use Rattle.semantics.specs.Step.{Configuration, steppedNumbers, stepRow}
+use Rattle.analysis.specs.Solver.{solvedNumbers, solverRow}
+use Rattle.analysis.specs.Splitter.{splitNumbers, splitRow}
+use Rattle.analysis.specs.Verdict.{verdict, offending, markRow, verdictRow}
 use Rattle.figures.specs.declared.Totals.{Totals}
+use Rattle.figures.specs.Figures.{figuresRow, joinRow}
 use Rattle.desk.specs.Reply.{replyRoom, told}
 use Rattle.desk.specs.Rows.{validated, inputValidated, partsBy, parts, drew, stepped, ran, judged, offended, listNamed, partNamed, marked, solved, split, figured, joined}
 use Rattle.desk.proofs.Lengths
@@ -26,7 +27,7 @@ pub rows-fit :
     (s other third : List ℕ) (m : List ℤ) (c : Configuration) (n : ℕ)
     → Fitting (validated s) × Fitting (inputValidated s) × Fitting (parts s) × Fitting (drew s other) × Fitting (stepped s c n) × Fitting (ran s n m)
     × Fitting (judged s other third) × Fitting (offended s other third) × Fitting (marked s other) × Fitting (solved s other third) × Fitting (split s n)
-unfolding validated inputValidated parts drew drawnNumbers stepped steppedNumbers ran endedNumbers judged offended marked solved solvedNumbers split splitNumbers
+unfolding validated validationRow inputValidated inputRow parts drew drawingRow drawnNumbers stepped stepRow steppedNumbers ran runRow endedNumbers judged verdictRow offended marked markRow solved solverRow solvedNumbers split splitRow splitNumbers
 rows-fit s other third m c n = (
   Lengths.validity-fits _,
   Lengths.validity-fits _,
@@ -43,7 +44,7 @@ rows-fit s other third m c n = (
 
 -- a row of figures has eight or nine
 pub figures-fit : (marks : List ℤ) (a b : Totals) → FiguresFitting (figured marks) × FiguresFitting (joined a b)
-unfolding figured joined
+unfolding figured figuresRow joined joinRow
 figures-fit marks a b = (Lengths.figures-fits _, Lengths.figures-fits _)
 
 pub none-told : (row reply : List ℕ) → Fitting row → told row reply ≡ 0 → length reply < replyRoom

@@ -14,9 +14,9 @@ use Rattle.program.specs.declared.Validity.the-variants.{Fit, Refused}
 use Rattle.program.specs.Questions.{validity}
 use Rattle.program.proofs.Laws.{sizes-length, first-found, such-first}
 use Rattle.analysis.specs.Records.{initialWidth, recordWidth, recordCount, recordAt, listNumber}
-use Rattle.analysis.specs.Verdict.{missingInitial, isHere, spotAt, firstSpot, missingResult, verdictBy, unlessRefused, unlessMalformed, judged, verdict, offending}
+use Rattle.analysis.specs.Verdict.{missingInitial, isHere, spotAt, firstSpot, missingResult, verdictBy, verdictUnlessRefused, unlessMalformed, verdictOver, verdict, offending}
 use Rattle.analysis.specs.declared.Mark.{Mark}
-use Rattle.analysis.specs.declared.Records.{Records}
+use Rattle.analysis.specs.declared.RecordList.{RecordList}
 use Rattle.analysis.specs.declared.Spot.{Spot}
 use Rattle.analysis.specs.declared.Spot.the-variants.{At as Here, Nowhere}
 use Rattle.analysis.specs.declared.Verdict.{Verdict}
@@ -43,8 +43,8 @@ record Named (initials solutions : ℕ) (v : Verdict) : Type 0 where
   later : (k e : ℕ) → v ≡ ResultMissing k e → k < solutions
 
 module _ (initials solutions : ℕ) where
-  unless-named : (x : Validity) (v : Verdict) → Named initials solutions v → Named initials solutions (unlessRefused x v)
-  unfolding unlessRefused
+  unless-named : (x : Validity) (v : Verdict) → Named initials solutions v → Named initials solutions (verdictUnlessRefused x v)
+  unfolding verdictUnlessRefused
   unless-named Fit v p = p
   unless-named (Refused x) v p =
       record {
@@ -52,7 +52,7 @@ module _ (initials solutions : ℕ) where
         later = λ k a e. never (cc);
       }
 
-  formed-named : (list : Records) (x : Validity) (v : Verdict) → Named initials solutions v → Named initials solutions (unlessMalformed list x v)
+  formed-named : (list : RecordList) (x : Validity) (v : Verdict) → Named initials solutions v → Named initials solutions (unlessMalformed list x v)
   unfolding unlessMalformed
   formed-named list Fit v p = p
   formed-named list (Refused x) v p =
@@ -99,10 +99,10 @@ spot-there ns g solution picks k e p =
     let same = at-same (found .at) _ k e (sym (found .answer) ∙ p) in
     omega (arith, found .below)
 
-judged-named : (ns : List ℕ) (g : Graph) (initial solution : List ℕ)
-    → Named (recordCount (initialWidth ns) initial) (recordCount (recordWidth ns) solution) (judged ns g initial solution)
-unfolding judged missingInitial missingResult
-judged-named ns g initial solution =
+over-named : (ns : List ℕ) (g : Graph) (initial solution : List ℕ)
+    → Named (recordCount (initialWidth ns) initial) (recordCount (recordWidth ns) solution) (verdictOver ns g initial solution)
+unfolding verdictOver missingInitial missingResult
+over-named ns g initial solution =
     unless-named _ _ _ _
     (formed-named _ _ _ _ _
     (formed-named _ _ _ _ _ (found-named _ _ _ _ _ (λ k e. such-first _ _ k e .below) (λ k e p. spot-there ns g solution _ k e p))))
@@ -113,7 +113,7 @@ pub offending-inside : (s initial solution : List ℕ) → let row = offended s 
 unfolding offended offendingBy listNamed listNumber verdict recordCount initialWidth recordWidth
 offending-inside s initial solution =
     rw (← sizes-length s)
-    (by (verdict s initial solution) refl (unless-named _ _ (validity s) _ (judged-named (sizes s) (graph s) initial solution)))
+    (by (verdict s initial solution) refl (unless-named _ _ (validity s) _ (over-named (sizes s) (graph s) initial solution)))
   where
     by : (v : Verdict) → verdict s initial solution ≡ v → Named (length initial / length (sizes s)) (length solution / (2 + length (sizes s))) (verdict s initial solution)
         → (let row = offendingBy (length (sizes s)) v in getD row 1 0 + getD row 2 0 ≤ length (listNamed initial solution (getD row 0 0)))

@@ -28,7 +28,7 @@ use Rattle.figures.specs.Figures.{listFigures, joinFigures}
 use Rattle.figures.specs.declared.Figures.{Figures}
 use Rattle.figures.specs.declared.Totals.{Totals}
 use Rattle.semantics.specs.Budget.{Result, ends, lowestDefined, goesOn, runFrom, endsUnlessRefused, budgeted, programBudgeted, budgetReply}
-use Rattle.semantics.specs.Step.{Configuration, begun, along, memoryValidity, stepValidity, outcomeBy, unlessRefused, outcome, programOutcome, stepReply}
+use Rattle.semantics.specs.Step.{Configuration, begun, along, memoryValidity, stepValidity, outcomeBy, outcomeUnlessRefused, outcome, programOutcome, stepReply}
 use Rattle.semantics.specs.declared.Effect.{Effect}
 use Rattle.semantics.specs.declared.Effect.the-variants.{Undefined as Fails, Unchanged, Stored}
 use Rattle.semantics.specs.declared.Ended.{Ended}
@@ -40,12 +40,12 @@ use Rattle.semantics.specs.declared.Stepped.{Stepped}
 use Rattle.analysis.specs.Records.{initialWidth, recordWidth, recordCount, wholeRecords, initialWhole, bothWhole, memoryFormed, initialFormed, solutionFormed, wrongByte}
 use Rattle.analysis.specs.Solver.{Found, finishedOr, solvedWith, initialValidity, solved}
 use Rattle.analysis.specs.Splitter.{splitBy, split}
-use Rattle.analysis.specs.Verdict.{unlessRefused as unlessDeclined, unlessMalformed, verdictBy, judged, verdict, solutionValidity, markingBy, marking}
+use Rattle.analysis.specs.Verdict.{verdictUnlessRefused, unlessMalformed, verdictBy, verdictOver, verdict, solutionValidity, markingBy, marking}
 use Rattle.analysis.specs.declared.Mark.{Mark}
 use Rattle.analysis.specs.declared.Marking.{Marking}
 use Rattle.analysis.specs.declared.Marking.the-variants.{Refused as MarkRefused, Malformed as MarkMalformed}
-use Rattle.analysis.specs.declared.Records.{Records}
-use Rattle.analysis.specs.declared.Records.the-variants.{Initial, Solution}
+use Rattle.analysis.specs.declared.RecordList.{RecordList}
+use Rattle.analysis.specs.declared.RecordList.the-variants.{Initial, Solution}
 use Rattle.analysis.specs.declared.Solved.{Solved}
 use Rattle.analysis.specs.declared.Solving.{Solving}
 use Rattle.analysis.specs.declared.Solving.the-variants.{Refused as SolveRefused, Malformed as SolveMalformed}
@@ -62,7 +62,7 @@ use Rattle.desk.proofs.Never.{never}
 
 pub drawn-placed : (s buffer : List ℕ) → Placed 7244 (drawn s buffer .validity)
 unfolding drawn drawValidity drawnBy
-drawn-placed s buffer = by (drawValidity s buffer) (placed-then _ _ (validity-placed s) (λ _. placed-ask _ 13 0 (omega arith) (omega arith)))
+drawn-placed s buffer = by (drawValidity s buffer) (placed-then _ _ (validity-placed s) (λ _. placed-ask _ 13 0 tt (omega arith)))
   where
     by : (v : Validity) → Placed 7244 v → Placed 7244 (drawnBy s v .validity)
     by Fit p = p
@@ -81,8 +81,8 @@ split-placed s place = by (validity s) (validity-placed s)
 abbrev OutcomeTold : Outcome → Type 0
 OutcomeTold o = (x : Refusal) → o ≡ Refuses x → Told 7244 x
 
-outcome-unless : (v : Validity) (o : Outcome) → Placed 7244 v → OutcomeTold o → OutcomeTold (unlessRefused v o)
-unfolding unlessRefused
+outcome-unless : (v : Validity) (o : Outcome) → Placed 7244 v → OutcomeTold o → OutcomeTold (outcomeUnlessRefused v o)
+unfolding outcomeUnlessRefused
 outcome-unless Fit o p q = q
 outcome-unless (Refused y) o p q = λ x e. let same : y ≡ x = cc in p x (ap Refused same)
 
@@ -95,8 +95,8 @@ effect-outcome (Stored c z) x e = never (cc)
 step-placed : (ns : List ℕ) (g : Graph) (node : ℕ) (m : List ℤ) (e : ℕ) → Placed 7244 (stepValidity ns g node m e)
 unfolding stepValidity memoryValidity inTurn
 step-placed ns g node m e =
-    placed-then _ _ (placed-ask _ 12 0 (omega arith) (omega arith))
-    (λ _. placed-then _ _ (placed-ask _ 14 0 (omega arith) (omega arith)) (λ _. placed-then _ _ (placed-ask _ 15 0 (omega arith) (omega arith)) (λ _. placed-fit)))
+    placed-then _ _ (placed-ask _ 12 0 tt (omega arith))
+    (λ _. placed-then _ _ (placed-ask _ 14 0 tt (omega arith)) (λ _. placed-then _ _ (placed-ask _ 15 0 tt (omega arith)) (λ _. placed-fit)))
 
 pub step-told : (s : List ℕ) (c : Configuration) (e : ℕ) → OutcomeTold (stepReply s c e .outcome)
 unfolding stepReply programOutcome outcome
@@ -130,12 +130,12 @@ ends-told (Refused y) m r p q = λ x e. let same : y ≡ x = cc in p x (ap Refus
 pub budget-told : (s : List ℕ) (budget : ℕ) (m : List ℤ) → EndingTold (budgetReply s budget m .ending)
 unfolding budgetReply programBudgeted budgeted memoryValidity
 budget-told s budget m =
-    ends-told _ m _ (validity-placed s) (ends-told _ m _ (placed-ask _ 12 0 (omega arith) (omega arith)) (run-told budget (sizes s) (graph s) (begun m)))
+    ends-told _ m _ (validity-placed s) (ends-told _ m _ (placed-ask _ 12 0 tt (omega arith)) (run-told budget (sizes s) (graph s) (begun m)))
 
 -- ---- Lists of records
 
 further : {a b : ℕ} {v : Validity} → a ≤ b → Placed a v → Placed b v
-further l p x e = let told = p x e in record { numbered = told .numbered; near = omega (arith, told .near) }
+further l p x e = let told = p x e in record { numbered = told .numbered; asked = told .asked; near = omega (arith, told .near) }
 
 -- record k of a list lies inside it
 pub record-inside : (width n k : ℕ) → k < n / width → width * k + width ≤ n
@@ -143,7 +143,7 @@ record-inside width n k h = omega (arith, mul-suc width k, mul-div-le n width, m
 
 memory-placed : {most : ℕ} (ns bytes : List ℕ) (at : ℕ) → at + length ns ≤ most → Placed most (memoryFormed ns bytes at)
 unfolding memoryFormed
-memory-placed ns bytes at l = placed-each _ _ (λ i h. placed-ask _ 17 (at + i) (omega arith) (omega arith))
+memory-placed ns bytes at l = placed-each _ _ (λ i h. placed-ask _ 17 (at + i) tt (omega arith))
 
 initial-placed : (ns bytes : List ℕ) → Placed (length bytes) (initialFormed ns bytes)
 unfolding initialFormed initialWidth recordCount
@@ -155,7 +155,7 @@ solution-placed ns g bytes =
     placed-each _ _
     (λ k h.
     let inside : (2 + length ns) * k + (2 + length ns) ≤ length bytes = record-inside (2 + length ns) (length bytes) k h in
-    placed-then _ _ (placed-ask _ 17 _ (omega arith) (omega arith)) (λ _. memory-placed ns bytes ((2 + length ns) * k + 2) (omega arith)))
+    placed-then _ _ (placed-ask _ 17 _ tt (omega arith)) (λ _. memory-placed ns bytes ((2 + length ns) * k + 2) (omega arith)))
 
 -- 4,096 records of at most 34 bytes
 whole-short : (width : ℕ) (bytes : List ℕ) → wholeRecords width bytes ≡ true → width ≤ 34 → length bytes ≤ 139264
@@ -175,8 +175,8 @@ pub record VerdictTold (v : Verdict) : Type 0 where
   pub refused : (x : Refusal) → v ≡ Declines x → Told 7244 x
   pub wrong : (w : WrongByte) → v ≡ Malformed w → w .offset ≤ 139264
 
-verdict-unless : (v : Validity) (d : Verdict) → Placed 7244 v → (v ≡ Fit → VerdictTold d) → VerdictTold (unlessDeclined v d)
-unfolding unlessDeclined
+verdict-unless : (v : Validity) (d : Verdict) → Placed 7244 v → (v ≡ Fit → VerdictTold d) → VerdictTold (verdictUnlessRefused v d)
+unfolding verdictUnlessRefused
 verdict-unless Fit d p q = q refl
 verdict-unless (Refused y) d p q =
     record {
@@ -184,7 +184,7 @@ verdict-unless (Refused y) d p q =
       wrong = λ w e. never (cc);
     }
 
-verdict-formed : (list : Records) (v : Validity) (d : Verdict) → Placed 139264 v → VerdictTold d → VerdictTold (unlessMalformed list v d)
+verdict-formed : (list : RecordList) (v : Validity) (d : Verdict) → Placed 139264 v → VerdictTold d → VerdictTold (unlessMalformed list v d)
 unfolding unlessMalformed wrongByte
 verdict-formed list Fit d p q = q
 verdict-formed list (Refused y) d p q =
@@ -205,10 +205,10 @@ both-short ns initial solution l e =
     let known = two (wholeRecords (length ns) initial) (wholeRecords (2 + length ns) solution) (ask-fit _ 16 0 e) in
     (whole-short (length ns) initial (known .0) (omega arith), whole-short (2 + length ns) solution (known .1) (omega arith))
 
-judged-told : (ns : List ℕ) (g : Graph) (initial solution : List ℕ) → length ns ≤ 32 → VerdictTold (judged ns g initial solution)
-unfolding judged bothWhole
-judged-told ns g initial solution l =
-    verdict-unless _ _ (placed-ask _ 16 0 (omega arith) (omega arith))
+over-told : (ns : List ℕ) (g : Graph) (initial solution : List ℕ) → length ns ≤ 32 → VerdictTold (verdictOver ns g initial solution)
+unfolding verdictOver bothWhole
+over-told ns g initial solution l =
+    verdict-unless _ _ (placed-ask _ 16 0 tt (omega arith))
     (λ whole.
     let short = both-short ns initial solution l whole in
     verdict-formed Initial _ _ (further (short .0) (initial-placed ns initial))
@@ -217,7 +217,7 @@ judged-told ns g initial solution l =
 pub verdict-told : (s initial solution : List ℕ) → VerdictTold (verdict s initial solution)
 unfolding verdict
 verdict-told s initial solution =
-    verdict-unless _ _ (validity-placed s) (λ fit. judged-told (sizes s) (graph s) initial solution (few-names s fit))
+    verdict-unless _ _ (validity-placed s) (λ fit. over-told (sizes s) (graph s) initial solution (few-names s fit))
 
 -- ---- The index mark by itself
 
@@ -242,7 +242,7 @@ marking-by (Refused y) f mark p q =
 pub marking-told : (s solution : List ℕ) → MarkingTold (marking s solution)
 unfolding marking solutionValidity recordWidth
 marking-told s solution =
-    marking-by _ _ _ (placed-then _ _ (validity-placed s) (λ _. placed-ask _ 16 0 (omega arith) (omega arith)))
+    marking-by _ _ _ (placed-then _ _ (validity-placed s) (λ _. placed-ask _ 16 0 tt (omega arith)))
     (λ e.
     let few = few-names s (then-first _ _ e) in
     further (whole-short (2 + length (sizes s)) solution (ask-fit _ 16 0 (then-second _ _ e)) (omega arith)) (solution-placed (sizes s) (graph s) solution))
@@ -275,7 +275,7 @@ solved-with (Refused y) f found p q =
 pub solved-told : (s initial buffer : List ℕ) → SolvingTold (solved s initial buffer .solving)
 unfolding solved initialValidity initialWhole initialWidth
 solved-told s initial buffer =
-    solved-with _ _ _ (placed-then _ _ (validity-placed s) (λ _. placed-ask _ 16 0 (omega arith) (omega arith)))
+    solved-with _ _ _ (placed-then _ _ (validity-placed s) (λ _. placed-ask _ 16 0 tt (omega arith)))
     (λ e.
     let few = few-names s (then-first _ _ e) in
     further (whole-short (length (sizes s)) initial (ask-fit _ 16 0 (then-second _ _ e)) (omega arith)) (initial-placed (sizes s) initial))

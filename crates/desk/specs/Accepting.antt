@@ -2,8 +2,6 @@
 use Prim.Native.Nat.{ℕ}
 use mathlib.Core.Path.{_≡_}
 use mathlib.Core.List.{List, [], _∷_}
-use Rattle.program.specs.File.{sizes}
-use Rattle.program.specs.Graph.{graph}
 use Rattle.analysis.specs.Soundness.{Sound}
 use Rattle.analysis.specs.declared.Mark.{Mark}
 use Rattle.analysis.specs.declared.Mark.the-variants.{Clean, Unclean}
@@ -18,4 +16,4 @@ markTold (k ∷ e ∷ rest) = Unclean k e
 -- and every budget, the sheet has the record of what is reached; and where nothing follows the 0, no index below zero is met
 unfoldable pub ThirdTermTold : List ℕ → List ℕ → List ℕ → List ℕ → Type 0
 ThirdTermTold s initial solution row =
-    (rest : List ℕ) → row ≡ 0 ∷ rest → Sound (sizes s) (graph s) initial solution (markTold rest)
+    (rest : List ℕ) → row ≡ 0 ∷ rest → Sound s initial solution (markTold rest)

@@ -13,19 +13,19 @@ use crate::Row;
 use crate::reply;
 use analysis::Mark;
 use analysis::Marking;
-use analysis::Records as Lists;
+use analysis::RecordList;
 use analysis::Verdict;
 use analysis::WrongByte;
 use analysis::judging;
 use program::file;
 
 // The number of a list: 1 for the start list, 2 for the sheet.
-pub(crate) fn list_number(list: Lists) -> u32
+pub(crate) fn list_number(list: RecordList) -> u32
     ensures { λ r. ⌜ r ≡ Records.listNumber list ⌝ }
 {
     match list {
-        Lists::Initial => 1,
-        Lists::Solution => 2,
+        RecordList::Initial => 1,
+        RecordList::Solution => 2,
     }
 }
 
@@ -86,11 +86,19 @@ fn offending_row(names: u16, v: Verdict) -> Row
     let names = names as u32;
     match v {
         Verdict::InitialMissing { record } => {
-            Row::Three(list_number(Lists::Initial), names * record as u32, names)
+            Row::Three(
+                list_number(RecordList::Initial),
+                names * record as u32,
+                names,
+            )
         }
         Verdict::ResultMissing { record, edge: _ } => {
             let width = 2 + names;
-            Row::Three(list_number(Lists::Solution), width * record as u32, width)
+            Row::Three(
+                list_number(RecordList::Solution),
+                width * record as u32,
+                width,
+            )
         }
         Verdict::Refused(_) => Row::Three(0, 0, 0),
         Verdict::Malformed(_) => Row::Three(0, 0, 0),

@@ -7,9 +7,10 @@ use lib.IntN.{ℤ, pos}
 use lib.Signed.{leZ}
 use Rattle.program.proofs.Places.{Placed}
 use Rattle.program.specs.declared.Validity.the-variants.{Fit}
-use Rattle.figures.specs.Figures.{InRange, variance, listFigures, joinFigures, Exact}
+use Rattle.figures.specs.Figures.{InRange, variance, listFigures, joinFigures, figuresNumbers, Exact}
 use Rattle.figures.specs.Fraction.{gcd, lowest, nought, LowestTerms}
 use Rattle.figures.specs.Totals.{longest, totals}
+use Rattle.figures.specs.declared.Figures.{Figures}
 use Rattle.figures.specs.declared.Fraction.{Fraction}
 use Rattle.figures.specs.declared.Totals.{Totals}
 use Rattle.figures.proofs.Divisors
@@ -17,6 +18,7 @@ use Rattle.figures.proofs.Exactness
 use Rattle.figures.proofs.Joint
 use Rattle.figures.proofs.Lowest
 use Rattle.figures.proofs.Placing
+use Rattle.figures.proofs.Readback
 
 -- ---- Fractions
 
@@ -74,3 +76,9 @@ joint-replies = Joint.joint-replies
 pub joint-again : (xs ys zs : List ℤ) → InRange xs → InRange ys → InRange zs → joinFigures (totals xs) (totals ys) .validity ≡ Fit
     → joinFigures (joinFigures (totals xs) (totals ys) .totals) (totals zs) ≡ listFigures (xs ++ ys ++ zs)
 joint-again = Joint.joint-again
+
+-- ---- Rows of numbers
+
+-- a reply is fixed by its row alone
+pub figures-row : (f g : Figures) → figuresNumbers f ≡ figuresNumbers g → f ≡ g
+figures-row = Readback.figures-row

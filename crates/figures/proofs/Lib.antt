@@ -9,5 +9,6 @@ pub mod Lowest
 pub mod Joint
 pub mod Placing
 pub mod Exactness
+pub mod Readback
 pub mod Laws
 pub mod Examples

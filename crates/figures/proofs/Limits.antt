@@ -17,7 +17,7 @@ use Rattle.signs.proofs.Signed as Signed
 use Rattle.program.proofs.Laws.{ask-fit, then-first, then-second, each-fit}
 use Rattle.program.proofs.Tests.{two, three}
 use Rattle.program.specs.declared.Validity.the-variants.{Fit}
-use Rattle.figures.specs.Bounds.{Limited, Bounded}
+use Rattle.figures.specs.Parts.Bounds.{Limited, Bounded}
 use Rattle.figures.specs.Figures.{inRange, InRange, markValidity, listValidity}
 use Rattle.figures.specs.Totals.{longest, highest, highestSquare, square, totals, joined, spread, countable, possible}
 use Rattle.figures.specs.declared.Totals.{Totals}

@@ -15,9 +15,9 @@ pub list-placed : (marks : List ℤ) → Placed longest (listFigures marks .vali
 unfolding listValidity markValidity
 list-placed marks =
     rw (list-answer marks)
-    (placed-then _ _ (placed-ask _ 23 0 (omega arith) (omega arith))
-    (λ fit. placed-each (length marks) (markValidity marks) (λ k h. placed-ask _ 24 k (omega arith) (omega (arith, counted (length marks) (ask-fit _ 23 0 fit) .few)))))
+    (placed-then _ _ (placed-ask _ 23 0 tt (omega arith))
+    (λ fit. placed-each (length marks) (markValidity marks) (λ k h. placed-ask _ 24 k tt (omega (arith, counted (length marks) (ask-fit _ 23 0 fit) .few)))))
 
 pub join-placed : (a b : Totals) → Placed longest (joinFigures a b .validity)
 unfolding joinValidity
-join-placed a b = rw (join-answer a b) (placed-ask _ 23 0 (omega arith) (omega arith))
+join-placed a b = rw (join-answer a b) (placed-ask _ 23 0 tt (omega arith))

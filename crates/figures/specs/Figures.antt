@@ -74,3 +74,10 @@ totalsNumbers t = pos (t .count) ∷ t .sum ∷ t .squares ∷ []
 unfoldable pub figuresNumbers : Figures → List ℤ
 figuresNumbers f =
     map pos (validityNumbers (f .validity)) ++ totalsNumbers (f .totals) ++ fractionNumbers (f .mean) ++ fractionNumbers (f .variance)
+
+-- the rows that the figures of a list of marks and of two classes joined answer
+unfoldable pub figuresRow : List ℤ → List ℤ
+figuresRow marks = figuresNumbers (listFigures marks)
+
+unfoldable pub joinRow : Totals → Totals → List ℤ
+joinRow a b = figuresNumbers (joinFigures a b)

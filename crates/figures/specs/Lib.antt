@@ -1,5 +1,5 @@
 pub mod Fraction
 pub mod Totals
-pub mod Bounds
 pub mod Figures
 pub mod Examples
+pub mod Parts

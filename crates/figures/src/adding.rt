@@ -2,7 +2,7 @@
 
 ghost use Prim.Native.Nat.{_≤_};
 ghost use mathlib.Core.Path.{_≡_};
-ghost use Rattle.figures.specs.Bounds.{Bounded};
+ghost use Rattle.figures.specs.Parts.Bounds.{Bounded};
 ghost use Rattle.figures.specs.Figures;
 ghost use Rattle.figures.specs.Totals as spec;
 ghost use Rattle.program.specs.declared.Validity.the-variants.{Fit};

@@ -5,7 +5,7 @@ ghost use mathlib.Core.Bool.{true};
 ghost use mathlib.Core.Path.{_≡_};
 ghost use lib.ListN.{length};
 ghost use Rattle.program.specs.Asking;
-ghost use Rattle.figures.specs.Bounds.{Bounded};
+ghost use Rattle.figures.specs.Parts.Bounds.{Bounded};
 ghost use Rattle.figures.specs.Figures as spec;
 ghost use Rattle.figures.specs.Totals as sums;
 ghost use Rattle.program.specs.declared.Validity.the-variants.{Fit};
@@ -127,7 +127,7 @@ fn of_totals(count: u32, sum: i64, squares: i64) -> Figures
 // The figures of a list of marks.
 pub fn of_list(marks: &[i32]) -> Figures
     ensures { λ r. ⌜ r ≡ spec.listFigures (now (marks .entry)) ⌝ }
-    ensures numbers { λ r. ⌜ spec.figuresNumbers r ≡ spec.figuresNumbers (spec.listFigures (now (marks .entry))) ⌝ }
+    ensures numbers { λ r. ⌜ spec.figuresNumbers r ≡ spec.figuresRow (now (marks .entry)) ⌝ }
 {
     let v = check(marks);
     match v {
@@ -171,7 +171,7 @@ fn of_both(
 // The figures of two classes joined, by their totals.
 pub fn of_join(first: Totals, second: Totals) -> Figures
     ensures { λ r. ⌜ r ≡ spec.joinFigures first second ⌝ }
-    ensures numbers { λ r. ⌜ spec.figuresNumbers r ≡ spec.figuresNumbers (spec.joinFigures first second) ⌝ }
+    ensures numbers { λ r. ⌜ spec.figuresNumbers r ≡ spec.joinRow first second ⌝ }
 {
     of_both(
         first.count,

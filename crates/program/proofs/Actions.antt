@@ -6,9 +6,9 @@ use Prim.Native.Nat.{ℕ, _+_, _<_}
 use lib.Dec.{T}
 use lib.ListN.{getD}
 use Rattle.program.specs.File.{sizes, entryCount, entry}
-use Rattle.program.specs.Graph.{perform, leave, Edge, edge, guardAction, part, graph, edges, edgeCount, actionKind, actionEntry, actionTable, actionOf}
+use Rattle.program.specs.Graph.{perform, leave, Edge, edge, guardAction, part, graph, edges, edgeCount, actionKind, actionEntry}
 use Rattle.program.specs.Questions.{validity}
-use Rattle.program.specs.Sorted.{actionNamed, actionPoints}
+use Rattle.program.specs.Parts.Sorted.{actionNamed, actionPoints, actionTable, actionOf}
 use Rattle.program.specs.Syntax.{Command}
 use Rattle.program.specs.Tree.{booleanAt}
 use Rattle.program.specs.declared.Table.the-variants.{Boolean as Booleans}

@@ -4,9 +4,10 @@ use mathlib.Core.Bool.{Bool, true, false, false≢true, not, _&&_, _||_}
 use mathlib.Core.List.{List, [], _∷_}
 use Prim.Native.Nat.{ℕ}
 use Rattle.program.specs.Asking.{ask, inTurn}
-use Rattle.program.specs.Checking.{OperandChecked, anyAnswer, Standing, EntryChecked}
-use Rattle.program.specs.Counting.{Counted}
-use Rattle.program.specs.File.{LaidOut, spanOf, entry}
+use Rattle.program.specs.Parts.Checking.{OperandChecked, anyAnswer, Standing, EntryChecked}
+use Rattle.program.specs.Parts.Counting.{Counted}
+use Rattle.program.specs.Parts.Layouts.{LaidOut}
+use Rattle.program.specs.File.{spanOf, entry}
 use Rattle.program.specs.Kind.{Role, Half, Roles, Unknown, Known, shape}
 use Rattle.program.specs.Questions.{named, points, sameTable, limit, eachOperand, shapeValidity, entryValidity, refersTo, shapeUses, entryUses}
 use Rattle.program.specs.declared.Entry.{Entry}

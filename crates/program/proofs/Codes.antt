@@ -7,9 +7,9 @@ use native.Mathlib.Omega.{arith}
 use borrow.Author.Tests.{lt-ltb}
 use lib.ListN.{length, getD, set, replicate, length-set}
 use lib.Seq.{getD-set-same, getD-set-other}
-use Rattle.program.specs.Prepared.{noEntry, booleanPlace, sizePlace, cellPlace, nameCountPlace, arithmeticCountPlace, codeLength, numbersAt, sizeIn, cellIn, Coded}
+use Rattle.program.specs.Parts.Prepared.{noEntry, booleanPlace, sizePlace, cellPlace, nameCountPlace, arithmeticCountPlace, codeLength, numbersAt, sizeIn, cellIn, Coded}
 use Rattle.program.specs.File.{nameCount, sizeAt, sizes, layoutOf, spanOf, tableStart, entryOffset, entryCount, entry, cellsOf, cellCount, firstCell}
-use Rattle.program.specs.Preparing.{Copied, NamesPut, NamesDone, fourthIn, CellsPut, CodeIn}
+use Rattle.program.specs.Parts.Preparing.{Copied, NamesPut, NamesDone, fourthIn, CellsPut, CodeIn}
 use Rattle.program.specs.Questions.{validity}
 use Rattle.program.specs.declared.Entry.{Entry}
 use Rattle.program.specs.declared.Layout.{Layout}

@@ -7,8 +7,8 @@ use native.Mathlib.Omega.{arith}
 use lib.ListN.{length, getD, set, length-set}
 use lib.Seq.{getD-set-same, getD-set-other}
 use Rattle.program.specs.File.{byteAt, wordAt, entryAt}
-use Rattle.program.specs.Prepared.{numbersAt}
-use Rattle.program.specs.Preparing.{Copied}
+use Rattle.program.specs.Parts.Prepared.{numbersAt}
+use Rattle.program.specs.Parts.Preparing.{Copied}
 
 -- four numbers put at a place
 module _ (out : List ℕ) (j a b c d : ℕ) where

@@ -11,7 +11,7 @@ use lib.Dec.{eqb}
 use lib.ListN.{length, getD, set, length-set, replicate}
 use lib.Seq.{getD-set-same, getD-set-other}
 use Rattle.program.specs.Asking.{ask}
-use Rattle.program.specs.Counting.{capacity, slot, Counted, UsesIn}
+use Rattle.program.specs.Parts.Counting.{capacity, slot, Counted, UsesIn}
 use Rattle.program.specs.File.{tableField, entryOffset, entryCount}
 use Rattle.program.specs.Questions.{sameTable, toBeUsed, uses, tableUses, useValidity}
 use Rattle.program.specs.declared.Table.{Table}

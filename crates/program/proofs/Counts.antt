@@ -10,7 +10,8 @@ use Rattle.program.specs.File.{entryCount, entry}
 use Rattle.program.specs.Graph.{leave, edge, part, graph, edges, edgeCount, nodeCount}
 use Rattle.program.specs.Kind.{Role, Unused, Half, Variable, Array, To, Shape, Unknown, Known, kinds, shape, tableOf, commandKind}
 use Rattle.program.specs.Questions.{sameTable, limit, refersTo, shapeUses, entryUses, tableUses, uses, lastCommand, validity}
-use Rattle.program.specs.Syntax.{Command, commandSize}
+use Rattle.program.specs.Parts.Sorted.{commandSize}
+use Rattle.program.specs.Syntax.{Command}
 use Rattle.program.specs.Tree.{commandNode, commandTrees, commandAt, script, commandMade}
 use Rattle.program.specs.declared.Entry.{Entry}
 use Rattle.program.specs.declared.Sort.the-variants.{Expression, Condition, Command as Commanding, Guarded}

@@ -9,10 +9,10 @@ use lib.Seq.{take-suc, take-length}
 use borrow.Author.Tests.{le-leb, lt-leb}
 use Rattle.program.specs.Asking.{ask, thenAsk}
 use Rattle.program.specs.Drawing.{drawValidity, over}
-use Rattle.program.specs.DrawingParts.{overAt, edgeRow, rowsIn}
+use Rattle.program.specs.Parts.DrawingParts.{overAt, edgeRow, rowsIn}
 use Rattle.program.specs.Graph.{Action, perform, test, leave, edge, actionKind, edgeAt, graph, edges, edgeCount, wordBytes, edgeBytes, graphBytes}
-use Rattle.program.specs.Prepared.{edgeIn}
-use Rattle.program.specs.Preparing.{GraphIn}
+use Rattle.program.specs.Parts.Prepared.{edgeIn}
+use Rattle.program.specs.Parts.Preparing.{GraphIn}
 use Rattle.program.specs.Questions.{validity}
 use Rattle.program.specs.Syntax.{skip}
 use Rattle.program.specs.declared.Refusal.{Refusal}

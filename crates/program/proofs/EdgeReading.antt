@@ -6,9 +6,11 @@ use native.Mathlib.Nat.{le-of-suc-le-suc, not-suc-le-zero}
 use native.Mathlib.Omega.{arith}
 use lib.ListN.{length, getD, drop}
 use lib.Seq.{getD-append-add}
-use Rattle.program.specs.Drawing.{over, edgeRead, edgeNumbers}
+use Rattle.program.specs.Parts.DrawingParts.{edgeNumbers}
+use Rattle.program.specs.Drawing.{over, edgeRead}
 use Rattle.program.specs.File.{byteAt, wordAt, entryCount}
-use Rattle.program.specs.Graph.{Edge, edges, edgeCount, actionKind, actionEntry, actionTable, wordBytes, edgeBytes, graphBytes}
+use Rattle.program.specs.Parts.Sorted.{actionTable}
+use Rattle.program.specs.Graph.{Edge, edges, edgeCount, actionKind, actionEntry, wordBytes, edgeBytes, graphBytes}
 use Rattle.program.specs.Questions.{validity}
 use Rattle.program.specs.declared.Table.{Table}
 use Rattle.program.specs.declared.Table.the-variants.{Arithmetic, Boolean, Commands}

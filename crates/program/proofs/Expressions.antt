@@ -9,8 +9,8 @@ use borrow.Author.Tests.{lt-ltb}
 use Rattle.program.specs.File.{sizes, entryCount, entry}
 use Rattle.program.specs.Kind.{kinds, shape, tableOf, arithKind, booleanKind}
 use Rattle.program.specs.Questions.{sameTable, limit, validity}
-use Rattle.program.specs.Sorted.{arithNamed, booleanNamed, arithPoints, booleanPoints}
-use Rattle.program.specs.Syntax.{Arith, arithEntry, Boolean, booleanEntry}
+use Rattle.program.specs.Parts.Sorted.{arithNamed, booleanNamed, arithPoints, booleanPoints, arithEntry}
+use Rattle.program.specs.Syntax.{Arith, Boolean, booleanEntry}
 use Rattle.program.specs.Tree.{arithBelow, arithNode, arithTrees, arithAt, booleanBelow, booleanNode, booleanTrees, booleanAt, arithMade, booleanMade}
 use Rattle.program.specs.declared.Sort.the-variants.{Expression, Condition}
 use Rattle.program.specs.declared.Table.the-variants.{Arithmetic, Boolean as Booleans}

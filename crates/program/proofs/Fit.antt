@@ -9,7 +9,8 @@ use lib.Dec.{leb, eqb}
 use lib.ListN.{length, getD, take, List·getD-eq-default}
 use lib.Seq.{take-all}
 use borrow.Author.Tests.{leb-true, eqb-true}
-use Rattle.program.specs.File.{wordAt, namesField, tableField, programFields, headFound, headAt, placeAfter, fieldStart, fieldHead, headSpan, layoutOf, spanOf, LaidOut, nameCount, sizeAt, sizes, entryCount, tableStart, entry, cellCount}
+use Rattle.program.specs.Parts.Layouts.{LaidOut}
+use Rattle.program.specs.File.{wordAt, namesField, tableField, programFields, headFound, headAt, placeAfter, fieldStart, fieldHead, headSpan, layoutOf, spanOf, nameCount, sizeAt, sizes, entryCount, tableStart, entry, cellCount}
 use Rattle.program.specs.Kind.{isCommand}
 use Rattle.program.specs.Questions.{wholeEntries, headValidity, headsValidity, nameValidity, entryValidity, tableValidity, uses, useValidity, toBeUsed, usedValidity, lastCommand, lastValidity, usesValidity, contentValidity, validity}
 use Rattle.program.specs.declared.Field.{Field}

@@ -7,7 +7,7 @@ use native.Mathlib.Decide.{ℕ-discrete, decLe}
 use native.Mathlib.Omega.{arith}
 use lib.Dec.{eqb}
 use lib.ListN.{getD}
-use Rattle.program.specs.Prepared.{lowestFrom, edgeCountPlace, sourceIn, firstIn, nextIn, Linked, Following}
+use Rattle.program.specs.Parts.Prepared.{lowestFrom, edgeCountPlace, sourceIn, firstIn, nextIn, Linked, Following}
 use Rattle.program.proofs.Links.{lowest-at-least, lowest-leaves, lowest-passes}
 
 -- following the links of a node

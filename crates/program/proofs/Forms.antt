@@ -6,7 +6,7 @@ use native.Mathlib.Omega.{arith}
 use lib.IntN.{pos}
 use borrow.Author.Tests.{lt-ltb, le-ltb}
 use Rattle.program.specs.Kind.{arithKind, booleanKind, commandKind}
-use Rattle.program.specs.Node.{arithForm, arithTree, booleanForm, booleanTree, commandForm, commandTree}
+use Rattle.program.specs.Parts.Node.{arithForm, arithTree, booleanForm, booleanTree, commandForm, commandTree}
 use Rattle.program.specs.Tree.{Entries, arithBelow, arithTrees, arithAt, booleanBelow, booleanTrees, booleanAt, commandBelow, commandTrees, commandAt, arithMade, booleanMade, commandMade}
 use Rattle.program.specs.declared.ArithNode.{ArithNode}
 use Rattle.program.specs.declared.ArithNode.the-variants.{Number, Variable, Element, Operator}

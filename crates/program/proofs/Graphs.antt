@@ -6,12 +6,12 @@ use native.Mathlib.Omega.{arith}
 use lib.ListN.{length, getD, set, length-append, length-set, List·getD-append}
 use lib.Seq.{getD-append-add, getD-set-same, getD-set-other}
 use borrow.Author.Tests.{lt-ltb}
-use Rattle.program.specs.DrawingParts.{overAt}
+use Rattle.program.specs.Parts.DrawingParts.{overAt}
 use Rattle.program.specs.File.{layoutOf, spanOf, entryCount, entryOffset, entryAt, entry}
 use Rattle.program.specs.Graph.{Edge, edgeAt, graph, edges, edgeCount, nodeCount}
-use Rattle.program.specs.GraphingParts.{edgeWords, Strip, strip, freshOf, nextOf, partAt, Drew, Room}
-use Rattle.program.specs.Prepared.{edgePlace, nodeCountPlace, edgeCountPlace, numbersAt, entriesIn, edgeIn}
-use Rattle.program.specs.Preparing.{Copied, EdgeWords, GraphIn}
+use Rattle.program.specs.Parts.GraphingParts.{edgeWords, Strip, strip, freshOf, nextOf, partAt, Drew, Room}
+use Rattle.program.specs.Parts.Prepared.{edgePlace, nodeCountPlace, edgeCountPlace, numbersAt, entriesIn, edgeIn}
+use Rattle.program.specs.Parts.Preparing.{Copied, EdgeWords, GraphIn}
 use Rattle.program.specs.Questions.{lastCommand, validity}
 use Rattle.program.specs.Tree.{script}
 use Rattle.program.specs.declared.Layout.{Layout}

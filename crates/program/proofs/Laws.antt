@@ -1,29 +1,33 @@
 -- The theorems on programs and their graphs for the crates above, on one page. Their proofs are in the modules that they cite.
 use mathlib.Core.Path.{_≡_}
-use mathlib.Core.Bool.{Bool, true, false}
+use mathlib.Core.Bool.{Bool, true, false, _&&_}
 use mathlib.Core.List.{List}
 use Prim.Native.Nat.{ℕ, suc, _+_, _*_, _/_, _%_, _≤_, _<_}
-use lib.Dec.{T}
+use lib.Dec.{T, leb}
 use lib.IntN.{pos}
 use lib.ListN.{length, getD, take, drop}
-use Rattle.program.specs.Asking.{ask, thenAsk, isRefused, inTurn, askEach}
-use Rattle.program.specs.Drawing.{over, edgeRead, edgeNumbers}
+use Rattle.program.specs.Asking.{ask, thenAsk, isRefused, inTurn, askEach, validityNumbers}
+use Rattle.program.specs.Parts.DrawingParts.{edgeNumbers}
+use Rattle.program.specs.Drawing.{over, drawnNumbers, edgeRead}
 use Rattle.program.specs.File.{nameCount, sizeAt, sizes, entryCount, entry, cellsOf, cellCount, firstCell}
 use Rattle.program.specs.FirstSuch.{firstOf, firstSuch}
-use Rattle.program.specs.Graph.{Graph, Action, Edge, edges, edgeCount, nodeCount, graphBytes}
+use Rattle.program.specs.Graph.{Graph, Action, Edge, done, edges, edgeCount, nodeCount, graphBytes}
 use Rattle.program.specs.Kind.{isGuarded}
+use Rattle.program.specs.Parts.Guards.{guards, allFalse}
 use Rattle.program.specs.Meaning.{meaning}
-use Rattle.program.specs.Node.{arithForm, arithTree, booleanForm, booleanTree, commandForm, commandTree}
-use Rattle.program.specs.Prepared as Prepared
-use Rattle.program.specs.Prepared.{tablePlace, codeLength, edgeCountPlace, entriesIn, firstIn, nextIn}
+use Rattle.program.specs.Parts.Node.{arithForm, arithTree, booleanForm, booleanTree, commandForm, commandTree}
+use Rattle.program.specs.Parts.Prepared as Prepared
+use Rattle.program.specs.Parts.Prepared.{tablePlace, codeLength, edgeCountPlace, entriesIn, firstIn, nextIn}
 use Rattle.program.specs.Questions.{validity, inputValidity, programPart, initialPart}
-use Rattle.program.specs.Sorted.{arithNamed, booleanNamed, commandNamed, actionNamed, meaningNamed, arithPoints, booleanPoints, isGuardedTree, commandPoints}
-use Rattle.program.specs.Syntax.{number, arithEntry, truth, booleanEntry, skip, commandEntry}
+use Rattle.program.specs.Parts.Sorted.{arithNamed, booleanNamed, commandNamed, actionNamed, meaningNamed, arithPoints, booleanPoints, isGuardedTree, commandPoints, arithEntry}
+use Rattle.program.specs.Syntax.{Boolean as BooleanTree, Command, number, truth, booleanEntry, skip, commandEntry}
 use Rattle.program.specs.Tree.{Entries, arithBelow, booleanBelow, commandBelow, arithNode, arithTrees, arithAt, booleanNode, booleanTrees, booleanAt, commandNode, commandTrees, commandAt, script}
 use Rattle.program.specs.declared.ArithNode.{ArithNode}
 use Rattle.program.specs.declared.BooleanNode.{BooleanNode}
 use Rattle.program.specs.declared.CommandNode.{CommandNode}
+use Rattle.program.specs.declared.Drawn.{Drawn}
 use Rattle.program.specs.declared.First.the-variants.{At, Nothing}
+use Rattle.program.specs.declared.Refusal.{Refusal}
 use Rattle.program.specs.declared.Table.the-variants.{Arithmetic, Boolean, Commands}
 use Rattle.program.specs.declared.Validity.{Validity}
 use Rattle.program.specs.declared.Validity.the-variants.{Fit}
@@ -41,6 +45,8 @@ use Rattle.program.proofs.Fit.{Counts as Allowed}
 use Rattle.program.proofs.Following
 use Rattle.program.proofs.Forms
 use Rattle.program.proofs.Forms.{ArithParts, BooleanParts, CommandParts}
+use Rattle.program.proofs.Guards
+use Rattle.program.proofs.Guards.{Joins}
 use Rattle.program.proofs.Inputs
 use Rattle.program.proofs.Made.{made}
 use Rattle.program.proofs.Nodes
@@ -49,6 +55,7 @@ use Rattle.program.proofs.Places
 use Rattle.program.proofs.Places.{Placed}
 use Rattle.program.proofs.Preparing
 use Rattle.program.proofs.Untouched
+use Rattle.program.proofs.Readback
 use Rattle.program.proofs.Readings
 use Rattle.program.proofs.Sorting
 use Rattle.program.proofs.Tests.{passed}
@@ -191,6 +198,28 @@ module _ {graph : List ℕ} (l : Prepared.Linked graph) where
       → Prepared.Following graph node P (nextIn graph e)
   next-is-followed = Following.next-followed l
 
+-- ---- The exit of a do
+
+-- `done` is "¬b of every guard of the loop, joined by ∧ left to right", in every meaning of ∧ that is associative and has true as its unit
+pub left-to-right : {A : Type 0} {h : BooleanTree → A} {join : A → A → A} {unit : A} → Joins h join unit → (c : Command) → h (done c) ≡ h (allFalse (guards c))
+left-to-right = Guards.left-to-right
+
+-- ---- Rows of numbers
+
+-- of answers that are read back out of their rows, two with the same row are the same; and the refusal that a row begins with
+pub same-row : {A B : Type 0} (row : A → B) (read : B → A) {a b : A} → read (row a) ≡ a → read (row b) ≡ b → row a ≡ row b → a ≡ b
+same-row = Readback.same-row
+
+abbrev pub refusalRead : List ℕ → Refusal
+refusalRead = Readback.refusalRead
+
+-- a reply is fixed by its row alone: of questions 1 to 11, and of a graph drawn
+pub validity-row : (v w : Validity) → validityNumbers v ≡ validityNumbers w → v ≡ w
+validity-row = Readback.validity-row
+
+pub drawn-row : (c d : Drawn) → drawnNumbers c ≡ drawnNumbers d → c ≡ d
+drawn-row = Readback.drawn-row
+
 -- ---- First such
 
 -- the first answer depends on the answers below n alone
@@ -290,7 +319,7 @@ module _ {most : ℕ} where
   pub placed-fit : Placed most Fit
   placed-fit = Places.placed-fit
 
-  pub placed-ask : (yes? : Bool) (n at : ℕ) → 1 ≤ n → at ≤ most → Placed most (ask yes? n at)
+  pub placed-ask : (yes? : Bool) (n at : ℕ) → T (leb 1 n && leb n 30) → at ≤ most → Placed most (ask yes? n at)
   placed-ask = Places.placed-ask
 
   pub placed-then : (a b : Validity) → Placed most a → (a ≡ Fit → Placed most b) → Placed most (thenAsk a b)

@@ -39,6 +39,8 @@ pub mod Untouched
 pub mod Agreeing
 pub mod Inputs
 pub mod Places
+pub mod Readback
+pub mod Guards
 pub mod Laws
 pub mod Open
 pub mod Examples

@@ -6,7 +6,7 @@ use native.Mathlib.Decide.{ℕ-discrete}
 use native.Mathlib.Omega.{arith}
 use borrow.Author.Tests.{eqb-true, eq-eqb, ne-eqb}
 use lib.Dec.{eqb}
-use Rattle.program.specs.Prepared.{lowestFrom}
+use Rattle.program.specs.Parts.Prepared.{lowestFrom}
 
 module _ (source : ℕ → ℕ) where
   -- an edge that leaves the node is the lowest; another is passed over

@@ -7,7 +7,7 @@ use native.Mathlib.Omega.{arith}
 use lib.ListN.{length, take, drop, set, getD, length-append, length-drop, List·getD-append}
 use lib.Seq.{length-take-le, set-split, take-at, drop-at, drop-drop, sets, sets-eq, getD-take, getD-append-add}
 use Rattle.program.specs.Drawing.{over}
-use Rattle.program.specs.DrawingParts.{overAt}
+use Rattle.program.specs.Parts.DrawingParts.{overAt}
 
 module _ (buffer : List ℕ) where
   -- one number

@@ -1,11 +1,12 @@
 -- The place of a refusal is small, and its number is one: every field's length is bounded before the next field is asked about.
 use mathlib.Core.Path.{_≡_, refl, sym, _∙_, ap}
-use mathlib.Core.Bool.{Bool, true, false, cond}
+use mathlib.Core.Bool.{Bool, true, false, cond, _&&_}
 use mathlib.Core.List.{List, [], _∷_}
 use Prim.Native.Nat.{ℕ, suc, _+_, _*_, _/_, _%_, _-_, _≤_, _<_}
 use native.Mathlib.Nat.{div-add-mod', mul-le-mul-left, mul-le-mul-right}
 use native.Mathlib.Omega.{arith}
-use lib.Dec.{eqb, leb}
+use lib.Dec.{T, eqb, leb, leb→le}
+use mir.Facts.{and-yes}
 use lib.ListN.{length}
 use borrow.Author.Tests.{leb-true, eqb-true}
 use Rattle.program.specs.Asking.{ask, thenAsk, isRefused, inTurn, askEach}
@@ -26,9 +27,10 @@ use Rattle.program.proofs.Heads.{whole, field-fit}
 use Rattle.program.proofs.Inputs.{table-end}
 use Rattle.program.proofs.Tests.{three}
 
--- a refusal has a number of document 01's, and its place is at most `most`; the same of an answer, where it is a refusal
+-- a refusal has a question's number, at least 1 and below the reasons and verdicts, and its place is at most `most`; the same of an answer, where it is a refusal
 pub record Told (most : ℕ) (x : Refusal) : Type 0 where
   pub numbered : 1 ≤ x .number
+  pub asked : x .number ≤ 30
   pub near : x .offset ≤ most
 
 abbrev pub Placed : ℕ → Validity → Type 0
@@ -38,10 +40,13 @@ module _ {most : ℕ} where
   pub placed-fit : Placed most Fit
   placed-fit x e = refused-unfit x (sym e)
 
-  pub placed-ask : (yes? : Bool) (n at : ℕ) → 1 ≤ n → at ≤ most → Placed most (ask yes? n at)
+  pub placed-ask : (yes? : Bool) (n at : ℕ) → T (leb 1 n && leb n 30) → at ≤ most → Placed most (ask yes? n at)
   unfolding ask
   placed-ask true n at h l x e = placed-fit x e
-  placed-ask false n at h l x e = let same : record { number = n; offset = at } ≡ x = cc in rw (← same) (record { numbered = h; near = l })
+  placed-ask false n at h l x e =
+      let same : record { number = n; offset = at } ≡ x = cc in
+      let both = and-yes (leb 1 n) (leb n 30) h in
+      rw (← same) (record { numbered = leb→le 1 n (both .0); asked = leb→le n 30 (both .1); near = l })
 
   pub placed-then : (a b : Validity) → Placed most a → (a ≡ Fit → Placed most b) → Placed most (thenAsk a b)
   unfolding thenAsk
@@ -61,9 +66,9 @@ module _ {most : ℕ} where
     where
       go : (b : Bool) → Placed most (headValidity (length s) (cond b (Found (headFound s at)) (Short at)) f)
       go true =
-          placed-then _ _ (placed-ask _ 2 at (omega arith) l)
-          (λ _. placed-then _ _ (placed-ask _ 3 at (omega arith) l) (λ _. placed-then _ _ (placed-ask _ 4 at (omega arith) l) (λ _. placed-fit)))
-      go false = placed-ask false 1 at (omega arith) l
+          placed-then _ _ (placed-ask _ 2 at tt l)
+          (λ _. placed-then _ _ (placed-ask _ 3 at tt l) (λ _. placed-then _ _ (placed-ask _ 4 at tt l) (λ _. placed-fit)))
+      go false = placed-ask false 1 at tt l
 
 -- the bytes that fields can have, and where the one after them starts
 unfoldable fieldsRoom : List Field → ℕ
@@ -94,9 +99,9 @@ module _ {most : ℕ} where
 -- questions 7 to 9 have their place where the entry starts
 shape-placed : {most : ℕ} (s : List ℕ) (t : Table) (n : ℕ) (x : Shape) → entryOffset s t n ≤ most → Placed most (shapeValidity s t n x)
 unfolding shapeValidity inTurn
-shape-placed s t n Unknown l = placed-ask false 7 _ (omega arith) l
+shape-placed s t n Unknown l = placed-ask false 7 _ tt l
 shape-placed s t n (Known x) l =
-    placed-then _ _ (placed-ask _ 8 _ (omega arith) l) (λ _. placed-then _ _ (placed-ask _ 9 _ (omega arith) l) (λ _. placed-fit))
+    placed-then _ _ (placed-ask _ 8 _ tt l) (λ _. placed-then _ _ (placed-ask _ 9 _ tt l) (λ _. placed-fit))
 
 -- all entries but the last command are entries
 to-be-used : (t : Table) (count : ℕ) → toBeUsed t count ≤ count
@@ -117,7 +122,7 @@ module _ (s : List ℕ) (heads : headsValidity s 0 programFields ≡ Fit) where
   module _ {most : ℕ} (far : 7244 ≤ most) where
     name-placed : (i : ℕ) → i < nameCount s → Placed most (nameValidity s i)
     unfolding nameValidity nameOffset
-    name-placed i h = placed-ask _ 6 _ (omega arith) (omega (arith, counts-allowed s heads .names))
+    name-placed i h = placed-ask _ 6 _ tt (omega (arith, counts-allowed s heads .names))
 
     entry-near : (t : Table) (n : ℕ) → n ≤ entryCount s t → entryOffset s t n ≤ most
     unfolding entryOffset
@@ -129,7 +134,7 @@ module _ (s : List ℕ) (heads : headsValidity s 0 programFields ≡ Fit) where
 
     use-placed : (t : Table) (n : ℕ) → n < toBeUsed t (entryCount s t) → Placed most (useValidity s t n)
     unfolding useValidity
-    use-placed t n h = placed-ask _ 10 _ (omega arith) (entry-near t n (omega (arith, to-be-used t (entryCount s t))))
+    use-placed t n h = placed-ask _ 10 _ tt (entry-near t n (omega (arith, to-be-used t (entryCount s t))))
 
     uses-placed : Placed most (usesValidity s)
     unfolding usesValidity usedValidity lastValidity lastCommand inTurn
@@ -137,7 +142,7 @@ module _ (s : List ℕ) (heads : headsValidity s 0 programFields ≡ Fit) where
         placed-then _ _ (placed-each _ _ (use-placed Arithmetic))
         (λ _. placed-then _ _ (placed-each _ _ (use-placed Boolean))
         (λ _. placed-then _ _ (placed-each _ _ (use-placed Commands))
-        (λ _. placed-then _ _ (placed-ask _ 11 _ (omega arith) (entry-near Commands _ (omega arith))) (λ _. placed-fit))))
+        (λ _. placed-then _ _ (placed-ask _ 11 _ tt (entry-near Commands _ (omega arith))) (λ _. placed-fit))))
 
     content-placed : Placed most (contentValidity s)
     unfolding contentValidity tableValidity inTurn
@@ -152,7 +157,7 @@ pub validity-placed : (s : List ℕ) → Placed 7244 (validity s)
 unfolding validity endValidity inTurn programFields namesField tableField placeAfter fieldsRoom
 validity-placed s =
     placed-then _ _ (heads-placed s 0 _ (omega arith))
-    (λ heads. placed-then _ _ (placed-ask _ 5 _ (omega arith) (fields-end s heads))
+    (λ heads. placed-then _ _ (placed-ask _ 5 _ tt (fields-end s heads))
     (λ _. placed-then _ _ (content-placed s heads (omega arith)) (λ _. placed-fit)))
 
 -- a well-formed file has no more bytes
@@ -173,5 +178,5 @@ unfolding inputValidity endValidity inTurn programFields namesField tableField p
 input-placed s =
     placed-then _ _ (heads-placed s 0 _ (omega arith))
     (λ heads. placed-then _ _ (head-placed s (fieldStart s 4) _ (omega (arith, fields-end s heads)))
-    (λ e. placed-then _ _ (placed-ask _ 5 _ (omega arith) (initial-end s heads e))
+    (λ e. placed-then _ _ (placed-ask _ 5 _ tt (initial-end s heads e))
     (λ _. placed-then _ _ (content-placed s heads (omega arith)) (λ _. placed-fit))))

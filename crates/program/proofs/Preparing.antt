@@ -8,14 +8,14 @@ use borrow.Author.Tests.{lt-ltb}
 use lib.Dec.{T}
 use Rattle.program.specs.Asking.{isRefused}
 use Rattle.program.specs.File.{sizes}
-use Rattle.program.specs.Graph.{Action, perform, test, leave, edge, edgeAt, graph, edges, edgeCount, nodeCount, actionOf}
-use Rattle.program.specs.LinkingParts.{LinkedFrom}
+use Rattle.program.specs.Graph.{Action, perform, test, leave, edge, edgeAt, graph, edges, edgeCount, nodeCount}
+use Rattle.program.specs.Parts.LinkingParts.{LinkedFrom}
 use Rattle.program.specs.Meaning.{performing, meaning}
-use Rattle.program.specs.Node.{commandForm, commandTree}
-use Rattle.program.specs.Prepared.{entriesIn, numbersAt, sourceIn, targetIn, performed, actionForm, actionIn, decodedMeaning, PreparedEdge, Prepared, PreparedFor, PreparedLinked}
-use Rattle.program.specs.Preparing.{CodeIn, GraphIn}
+use Rattle.program.specs.Parts.Node.{commandForm, commandTree}
+use Rattle.program.specs.Parts.Prepared.{entriesIn, numbersAt, sourceIn, targetIn, performed, actionForm, actionIn, decodedMeaning, PreparedEdge, Prepared, PreparedFor, PreparedLinked}
+use Rattle.program.specs.Parts.Preparing.{CodeIn, GraphIn}
 use Rattle.program.specs.Questions.{validity}
-use Rattle.program.specs.Sorted.{commandNamed, actionNamed, meaningNamed}
+use Rattle.program.specs.Parts.Sorted.{commandNamed, actionNamed, meaningNamed, actionOf}
 use Rattle.program.specs.Syntax.{Command, skip, assign, store, sequence, conditional, iteration, guarded, choice}
 use Rattle.program.specs.Tree.{Entries, commandAt, commandMade}
 use Rattle.program.specs.declared.CommandNode.{CommandNode}

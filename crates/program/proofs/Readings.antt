@@ -7,7 +7,7 @@ use native.Mathlib.Omega.{arith}
 use borrow.Author.Tests.{le-ltb}
 use Rattle.program.specs.Kind.{arithKind, booleanKind, commandKind}
 use Rattle.program.specs.File.{signed32}
-use Rattle.program.specs.Prepared.{entriesIn, cellKind, actionForm}
+use Rattle.program.specs.Parts.Prepared.{entriesIn, cellKind, actionForm}
 use Rattle.program.specs.Tree.{Entries, arithBelow, arithTrees, arithAt, booleanBelow, booleanTrees, booleanAt, commandBelow, commandTrees, commandAt, arithMade, booleanMade, commandMade}
 use Rattle.program.specs.declared.ActionNode.the-variants.{Nothing}
 use Rattle.program.specs.declared.CellNode.the-variants.{Cell}

@@ -8,9 +8,9 @@ use native.Mathlib.Omega.{arith}
 use lib.ListN.{getD, length-append}
 use borrow.Author.Tests.{lt-ltb, le-ltb}
 use Rattle.program.specs.Graph.{guardAction, part, actionKind, actionEntry}
-use Rattle.program.specs.GraphingParts.{edgeWords, Strip, strip, edgeStrip, freshOf, nextOf, Drew, Room, partAt}
-use Rattle.program.specs.Node.{commandForm, commandTree}
-use Rattle.program.specs.Prepared.{edgePlace, numbersAt, entriesIn}
+use Rattle.program.specs.Parts.GraphingParts.{edgeWords, Strip, strip, edgeStrip, freshOf, nextOf, Drew, Room, partAt}
+use Rattle.program.specs.Parts.Node.{commandForm, commandTree}
+use Rattle.program.specs.Parts.Prepared.{edgePlace, numbersAt, entriesIn}
 use Rattle.program.specs.Syntax.{Command, commandEntry}
 use Rattle.program.specs.Tree.{Entries, commandMade}
 use Rattle.program.specs.declared.CommandNode.{CommandNode}

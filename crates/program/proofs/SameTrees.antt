@@ -4,7 +4,7 @@ use mathlib.Core.List.{List, [], _∷_, _++_}
 use Prim.Native.Nat.{ℕ, zero, suc, _≤_, _<_}
 use native.Mathlib.Omega.{arith}
 use Rattle.program.specs.File.{entryCount, entry}
-use Rattle.program.specs.Graph.{actionTable, actionOf}
+use Rattle.program.specs.Parts.Sorted.{actionTable, actionOf}
 use Rattle.program.specs.Kind.{kinds, shape, tableOf, booleanKind, commandKind, arithKind}
 use Rattle.program.specs.Questions.{sameTable, limit, validity}
 use Rattle.program.specs.Syntax.{Boolean, Command, Arith}

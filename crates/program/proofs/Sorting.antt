@@ -11,7 +11,7 @@ use Rattle.program.specs.File.{sizes, entryCount, entry}
 use Rattle.program.specs.Graph.{done}
 use Rattle.program.specs.Kind.{isGuarded}
 use Rattle.program.specs.Questions.{lastCommand, validity}
-use Rattle.program.specs.Sorted.{commandNamed, booleanNamed, isGuardedTree, commandPoints}
+use Rattle.program.specs.Parts.Sorted.{commandNamed, booleanNamed, isGuardedTree, commandPoints}
 use Rattle.program.specs.Syntax.{Command, skip, assign, store, sequence, conditional, iteration, guarded, choice, commandEntry}
 use Rattle.program.specs.Tree.{commandAt, script}
 use Rattle.program.specs.declared.Table.the-variants.{Commands}

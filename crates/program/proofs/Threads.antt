@@ -8,8 +8,8 @@ use borrow.Author.Tests.{lt-ltb, le-ltb}
 use lib.ListN.{length, getD, set, length-set}
 use lib.Seq.{getD-set-same, getD-set-other}
 use Rattle.program.specs.Graph.{Graph}
-use Rattle.program.specs.Prepared.{lowestFrom, firstPlace, nextPlace, nodeCountPlace, edgeCountPlace, graphLength, edgeIn, sourceIn, targetIn, actionIn, firstIn, nextIn, PreparedEdge, Prepared}
-use Rattle.program.specs.LinkingParts.{Linkable, SameButLinks, linkedOne, Unlinked, LinkedFrom}
+use Rattle.program.specs.Parts.Prepared.{lowestFrom, firstPlace, nextPlace, nodeCountPlace, edgeCountPlace, graphLength, edgeIn, sourceIn, targetIn, actionIn, firstIn, nextIn, PreparedEdge, Prepared}
+use Rattle.program.specs.Parts.LinkingParts.{Linkable, SameButLinks, linkedOne, Unlinked, LinkedFrom}
 use Rattle.program.proofs.Links.{lowest-here, lowest-beyond}
 use Rattle.program.proofs.Rows.{same-entries}
 

@@ -10,7 +10,8 @@ use Rattle.program.specs.declared.BooleanNode.the-variants.{True, Compar
 use Rattle.program.specs.declared.CommandNode.{CommandNode}
 use Rattle.program.specs.declared.CommandNode.the-variants.{Skip, Assign, Store, Sequence, Conditional, Iteration, Guarded, Choice}
 use Rattle.program.specs.declared.Table.the-variants.{Arithmetic, Boolean as Booleans, Commands}
-use Rattle.program.specs.Syntax.{number, truth, skip, arithEntry, booleanEntry, commandEntry}
+use Rattle.program.specs.Parts.Sorted.{arithEntry}
+use Rattle.program.specs.Syntax.{number, truth, skip, booleanEntry, commandEntry}
 use Rattle.program.specs.Tree.{Entries, arithBelow, booleanBelow, commandBelow, arithNode, arithTrees, arithAt, booleanNode, booleanTrees, booleanAt, commandNode, commandTrees, commandAt, arithMade, booleanMade, commandMade}
 use Rattle.program.proofs.Induction.{from-seven, from-eight}
 use Rattle.program.proofs.Lists.{grown-at, grown-past}

@@ -8,7 +8,7 @@ use borrow.Author.Tests.{lt-ltb, le-ltb}
 use lib.ListN.{length, getD}
 use Rattle.program.specs.File.{firstCell}
 use Rattle.program.specs.Graph.{Graph}
-use Rattle.program.specs.Prepared.{nameCountPlace, arithmeticCountPlace, tablePlace, codeLength, numbersAt, entriesIn, sizeIn, cellIn, Coded, PreparedEdge, Prepared}
+use Rattle.program.specs.Parts.Prepared.{nameCountPlace, arithmeticCountPlace, tablePlace, codeLength, numbersAt, entriesIn, sizeIn, cellIn, Coded, PreparedEdge, Prepared}
 use Rattle.program.specs.declared.Table.{Table}
 use Rattle.program.specs.declared.Table.the-variants.{Arithmetic, Boolean, Commands}
 

@@ -5,7 +5,7 @@ use lib.Dec.{leb}
 use lib.ListN.{length, drop}
 use Rattle.program.specs.Asking.{askPlain, thenAsk, validityNumbers}
 use Rattle.program.specs.File.{byteAt, wordAt}
-use Rattle.program.specs.Graph.{Edge, actionKind, actionEntry, edgeCount, nodeCount, graphBytes}
+use Rattle.program.specs.Graph.{edgeCount, nodeCount, graphBytes}
 use Rattle.program.specs.Questions.{validity}
 use Rattle.program.specs.declared.Drawn.{Drawn}
 use Rattle.program.specs.declared.EdgeBytes.{EdgeBytes}
@@ -40,6 +40,10 @@ drawnBuffer s buffer = drawnBufferBy s buffer (drawValidity s buffer)
 unfoldable pub drawnNumbers : Drawn → List ℕ
 drawnNumbers d = validityNumbers (d .validity) ++ (d .nodes ∷ d .edges ∷ [])
 
+-- the row that drawing a file's graph into a buffer answers
+unfoldable pub drawingRow : List ℕ → List ℕ → List ℕ
+drawingRow s buffer = drawnNumbers (drawn s buffer)
+
 -- what stands at edge k of such bytes
 unfoldable pub edgeRead : List ℕ → ℕ → EdgeBytes
 edgeRead bytes k =
@@ -48,14 +52,4 @@ edgeRead bytes k =
       target = wordAt bytes (7 * k + 2);
       kind = byteAt bytes (7 * k + 4);
       entry = wordAt bytes (7 * k + 5);
-    }
-
--- the numbers that an edge's bytes are of
-unfoldable pub edgeNumbers : Edge → EdgeBytes
-edgeNumbers e =
-    record {
-      source = e .source;
-      target = e .target;
-      kind = actionKind (e .action);
-      entry = actionEntry (e .action);
     }

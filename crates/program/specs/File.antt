@@ -1,6 +1,5 @@
 -- The program file: numbers, fields and entries (document 01, "The script file"). All reading is total: a byte past the end is 0.
-use mathlib.Core.Path.{_≡_}
-use Prim.Native.Nat.{ℕ, zero, suc, _+_, _*_, _/_, _-_, _≤_}
+use Prim.Native.Nat.{ℕ, zero, suc, _+_, _*_, _/_, _-_}
 use mathlib.Core.Bool.{Bool, cond, _&&_}
 use mathlib.Core.List.{List, [], _∷_, map, sum}
 use lib.Dec.{eqb, leb, ltb}
@@ -12,7 +11,6 @@ use Rattle.program.specs.declared.Field.{Field}
 use Rattle.program.specs.declared.FieldHead.{FieldHead}
 use Rattle.program.specs.declared.Head.{Head}
 use Rattle.program.specs.declared.Head.the-variants.{Short, Found}
-use Rattle.program.specs.declared.FieldHeads.{FieldHeads}
 use Rattle.program.specs.declared.Layout.{Layout}
 use Rattle.program.specs.declared.Span.{Span}
 use Rattle.program.specs.declared.Table.{Table}
@@ -78,12 +76,6 @@ fieldStart s k = placeAfter s 0 k
 unfoldable pub fieldHead : List ℕ → ℕ → Head
 fieldHead s k = headAt s (fieldStart s k)
 
--- a head in document 01's numbers: question 1's and its place where there is none, else 0, the tag and the length, and where content and next
--- field start
-unfoldable pub headNumbers : Head → List ℕ
-headNumbers (Short at) = 1 ∷ at ∷ []
-headNumbers (Found h) = 0 ∷ h .tag ∷ h .length ∷ h .content ∷ h .next ∷ []
-
 -- the content of a field: where it starts, and how many entries it has
 unfoldable pub headSpan : Head → Field → Span
 headSpan (Short at) f = record { start = at; count = 0 }
@@ -103,21 +95,11 @@ layoutOf s =
       commands = headSpan (fieldHead s 3) (tableField Commands);
     }
 
--- the four heads that it is worked out from, and what stands after the four fields
-unfoldable pub headsOf : List ℕ → FieldHeads
-headsOf s = record { names = fieldHead s 0; arithmetic = fieldHead s 1; boolean = fieldHead s 2; commands = fieldHead s 3; initial = fieldHead s 4 }
-
 -- a table's part of a file
 unfoldable pub spanOf : Layout → Table → Span
 spanOf l Arithmetic = l .arithmetic
 spanOf l Boolean = l .boolean
 spanOf l Commands = l .commands
-
--- a layout is the file's, and each table starts inside the file and has as many entries as allowed
-pub record LaidOut (s : List ℕ) (l : Layout) : Type 0 where
-  pub same : l ≡ layoutOf s
-  pub inside : (t : Table) → spanOf l t .start ≤ length s
-  pub few : (t : Table) → spanOf l t .count ≤ tableField t .most
 
 -- the number of names, where name i stands, and the sizes of the names: "0 is a variable, 1 to 64 an array of that size"
 unfoldable pub nameCount : List ℕ → ℕ

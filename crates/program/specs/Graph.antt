@@ -1,13 +1,9 @@
 -- The program graph (document 01, "The graph"; book, Definitions 2.7, 2.8 and 2.19).
 use Prim.Native.Nat.{ℕ, _+_, _/_, _%_}
-use mathlib.Core.Bool.{cond}
 use mathlib.Core.List.{List, [], _∷_, _++_, flatMap}
-use lib.Dec.{eqb}
 use lib.ListN.{length, getD}
 use Rattle.program.specs.Syntax.{Boolean, truth, conjunction, negation, booleanEntry, Command, skip, assign, store, sequence, conditional, iteration, guarded, choice, commandEntry}
-use Rattle.program.specs.Tree.{Entries, booleanAt, commandAt, script}
-use Rattle.program.specs.declared.Table.{Table}
-use Rattle.program.specs.declared.Table.the-variants.{Boolean as Booleans, Commands}
+use Rattle.program.specs.Tree.{script}
 
 -- an action performs skip, an assignment or a store, tests a boolean, or leaves the do whose operand is a guarded command
 pub data Action : Type 0 where
@@ -29,9 +25,10 @@ pub record Part : Type 0 where
   pub edges : List Edge
   pub fresh : ℕ
 
--- a graph: its edges, and the number of its nodes, which is the next fresh one
-abbrev pub Graph : Type 0
-Graph = Part
+-- a graph: its edges, and the number of its nodes
+pub record Graph : Type 0 where
+  pub edges : List Edge
+  pub nodes : ℕ
 
 -- the action of a guard's edge
 unfoldable pub guardAction : Boolean → Action
@@ -73,9 +70,9 @@ done (sequence k c d) = truth k
 done (conditional k c) = truth k
 done (iteration k c) = truth k
 
--- "Node 0 is the start, node 1 the end": the graph of a program file
+-- "Node 0 is the start, node 1 the end": the graph of a program file. Its nodes are those below the next fresh one
 unfoldable pub graph : List ℕ → Graph
-graph s = part (script s) 0 1 2
+graph s = let whole = part (script s) 0 1 2 in record { edges = whole .edges; nodes = whole .fresh }
 
 unfoldable pub edges : List ℕ → List Edge
 edges s = graph s .edges
@@ -84,7 +81,7 @@ unfoldable pub edgeCount : List ℕ → ℕ
 edgeCount s = length (edges s)
 
 unfoldable pub nodeCount : List ℕ → ℕ
-nodeCount s = graph s .fresh
+nodeCount s = graph s .nodes
 
 -- "Action kind 1 is the command entry itself, 2 a boolean entry, 3 the exit of the do whose operand is that command entry."
 unfoldable pub actionKind : Action → ℕ
@@ -96,18 +93,6 @@ unfoldable pub actionEntry : Action → ℕ
 actionEntry (perform c) = commandEntry c
 actionEntry (test b) = booleanEntry b
 actionEntry (leave c) = commandEntry c
-
--- the table of that entry, by the action's kind
-unfoldable pub actionTable : ℕ → Table
-actionTable kind = cond (eqb kind 2) Booleans Commands
-
--- the action of a kind and an entry; any other kind is a skip
-unfoldable pub actionOf : Entries → ℕ → ℕ → Action
-actionOf es kind n =
-    getD
-    (perform (skip n) ∷ perform (commandAt es n) ∷ test (booleanAt es n) ∷ leave (commandAt es n) ∷ [])
-    kind
-    (perform (skip n))
 
 -- a number as two bytes, the high byte first
 unfoldable pub wordBytes : ℕ → List ℕ

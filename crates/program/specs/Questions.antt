@@ -4,7 +4,7 @@ use mathlib.Core.Bool.{Bool, true, false, cond, _&&_}
 use mathlib.Core.List.{List, [], _∷_}
 use lib.Dec.{eqb, leb, ltb}
 use lib.ListN.{length, take}
-use Rattle.program.specs.Asking.{ask, thenAsk, inTurn, askEach}
+use Rattle.program.specs.Asking.{ask, thenAsk, inTurn, askEach, validityNumbers}
 use Rattle.program.specs.File.{tableTag, programFields, initialField, fieldStart, fieldHead, headContent, nameCount, nameOffset, sizeAt, sizes, entryCount, entryOffset, entry, cellCount, isVariable, isArray}
 use Rattle.program.specs.Kind.{Role, Unused, Half, Variable, Array, To, Roles, Shape, Unknown, Known, shape, tableOf, isCommand, isGuarded}
 use Rattle.program.specs.declared.Entry.{Entry}
@@ -183,3 +183,10 @@ programPart s = take (fieldStart s 4) s
 
 unfoldable pub initialPart : List ℕ → List ℕ
 initialPart s = headContent s (fieldHead s 4)
+
+-- the rows that the two validations answer, in document 01's numbers: 0, or the question's number and its place
+unfoldable pub validationRow : List ℕ → List ℕ
+validationRow s = validityNumbers (validity s)
+
+unfoldable pub inputRow : List ℕ → List ℕ
+inputRow s = validityNumbers (inputValidity s)

@@ -1,5 +1,5 @@
 -- The abstract syntax of Guarded Commands (book, Definitions 2.3 and 2.19). Each node has the number of its entry.
-use Prim.Native.Nat.{ℕ, _+_}
+use Prim.Native.Nat.{ℕ}
 use lib.IntN.{ℤ}
 use Rattle.signs.specs.declared.Comparison.{Comparison}
 use Rattle.signs.specs.declared.Operator.{Operator}
@@ -31,12 +31,6 @@ pub data Command : Type 0 where
   choice : ℕ → Command → Command → Command
 
 -- the entry of a tree
-unfoldable pub arithEntry : Arith → ℕ
-arithEntry (number n z) = n
-arithEntry (variable n x) = n
-arithEntry (element n x i) = n
-arithEntry (operator n o a b) = n
-
 unfoldable pub booleanEntry : Boolean → ℕ
 booleanEntry (truth n) = n
 booleanEntry (comparison n c a b) = n
@@ -53,14 +47,3 @@ commandEntry (conditional n c) = n
 commandEntry (iteration n c) = n
 commandEntry (guarded n b c) = n
 commandEntry (choice n c d) = n
-
--- the number of commands and guarded commands in a tree
-unfoldable pub commandSize : Command → ℕ
-commandSize (skip n) = 1
-commandSize (assign n x a) = 1
-commandSize (store n x i a) = 1
-commandSize (sequence n c d) = 1 + commandSize c + commandSize d
-commandSize (conditional n c) = 1 + commandSize c
-commandSize (iteration n c) = 1 + commandSize c
-commandSize (guarded n b c) = 1 + commandSize c
-commandSize (choice n c d) = 1 + commandSize c + commandSize d

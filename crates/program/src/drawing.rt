@@ -5,9 +5,9 @@ ghost use mathlib.Core.List.{_∷_, []};
 ghost use Prim.Native.Nat.{_≤_, _+_, _*_, _/_, _%_};
 ghost use lib.ListN.{length, getD};
 ghost use Rattle.program.specs.Drawing as spec;
-ghost use Rattle.program.specs.DrawingParts as parts;
+ghost use Rattle.program.specs.Parts.DrawingParts as parts;
 ghost use Rattle.program.specs.Graph;
-ghost use Rattle.program.specs.Prepared;
+ghost use Rattle.program.specs.Parts.Prepared;
 ghost use Rattle.program.specs.Questions;
 use crate::Drawn;
 use crate::EdgeBytes;
@@ -128,7 +128,7 @@ fn draw_valid(s: &[u8], buffer: &mut [u8], v: Validity) -> Drawn
 pub fn draw(s: &[u8], buffer: &mut [u8]) -> Drawn
     ensures { λ r. ⌜ (r ≡ spec.drawn (now (s .entry)) (now (buffer .entry)))
         × (now (buffer .exit) ≡ spec.drawnBuffer (now (s .entry)) (now (buffer .entry))) ⌝ }
-    ensures numbers { λ r. ⌜ spec.drawnNumbers r ≡ spec.drawnNumbers (spec.drawn (now (s .entry)) (now (buffer .entry))) ⌝ }
+    ensures numbers { λ r. ⌜ spec.drawnNumbers r ≡ spec.drawingRow (now (s .entry)) (now (buffer .entry)) ⌝ }
 {
     let v = validation::validate(s);
     draw_valid(s, buffer, v)

@@ -5,6 +5,7 @@ ghost use mathlib.Core.List.{List};
 ghost use Prim.Native.Nat.{ℕ, _<_, _+_, _*_, min};
 ghost use lib.ListN.{length};
 ghost use Rattle.program.specs.File as spec;
+ghost use Rattle.program.specs.Parts.Layouts;
 ghost use Rattle.program.specs.Questions;
 use crate::Entry;
 use crate::Field;
@@ -152,7 +153,7 @@ fn head_span(head: Head, field: Field) -> Span
 
 // Where a file with these heads has its names and its tables.
 pub(crate) fn layout_by(h: FieldHeads) -> Layout
-    ensures { λ r. ⌜ ((s : List ℕ) → h ≡ spec.headsOf s → r ≡ spec.layoutOf s) ⌝ }
+    ensures { λ r. ⌜ ((s : List ℕ) → h ≡ Layouts.headsOf s → r ≡ spec.layoutOf s) ⌝ }
 {
     let names = h.names;
     let arithmetic = h.arithmetic;

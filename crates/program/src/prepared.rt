@@ -6,8 +6,8 @@ ghost use mathlib.Core.Path.{_≡_};
 ghost use mathlib.Core.List.{List};
 ghost use Prim.Native.Nat.{ℕ, _<_, _+_, _*_};
 ghost use lib.ListN.{getD, replicate};
-ghost use Rattle.program.specs.Node;
-ghost use Rattle.program.specs.Prepared as spec;
+ghost use Rattle.program.specs.Parts.Node;
+ghost use Rattle.program.specs.Parts.Prepared as spec;
 
 mod coding;
 pub(crate) mod graphing;

@@ -2,6 +2,7 @@
 
 ghost use mathlib.Core.Path.{_≡_};
 ghost use Rattle.program.specs.File as spec;
+ghost use Rattle.program.specs.Parts.Layouts;
 use crate::FieldHead;
 use crate::FieldHeads;
 use crate::FieldReader;
@@ -94,7 +95,7 @@ pub fn past<'a>(r: FieldReader<'a>, head: Head) -> FieldReader<'a>
 
 // What stands at the four fields of a program and after them: one reader goes through the file.
 pub(crate) fn heads(s: &[u8]) -> FieldHeads
-    ensures { λ r. ⌜ r ≡ spec.headsOf (now (s .entry)) ⌝ }
+    ensures { λ r. ⌜ r ≡ Layouts.headsOf (now (s .entry)) ⌝ }
 {
     let first = new(s);
     let names = head(first);

@@ -8,8 +8,9 @@ ghost use mathlib.Core.List.{[], _∷_};
 ghost use lib.Dec.{eqb, leb};
 ghost use Rattle.program.specs.Questions as spec;
 ghost use Rattle.program.specs.Asking;
-ghost use Rattle.program.specs.Checking;
-ghost use Rattle.program.specs.Counting;
+ghost use Rattle.program.specs.Parts.Layouts;
+ghost use Rattle.program.specs.Parts.Checking;
+ghost use Rattle.program.specs.Parts.Counting;
 ghost use Rattle.program.specs.File;
 use crate::Field;
 use crate::FieldHead;
@@ -87,7 +88,7 @@ fn check_head(end: usize, head: Head, field: Field) -> Validity
 
 // Questions 1 to 4 of the four fields, whose heads are at hand.
 fn check_heads(s: &[u8], h: FieldHeads) -> Validity
-    requires { ⌜ h ≡ File.headsOf (now s) ⌝ }
+    requires { ⌜ h ≡ Layouts.headsOf (now s) ⌝ }
     ensures { λ r. ⌜ r ≡ spec.headsValidity (now (s .entry)) 0 File.programFields ⌝ }
 {
     let first = h.names;
@@ -137,7 +138,7 @@ fn check_names(s: &[u8], names: u16) -> Validity
 
 // Questions 7 to 9 of a table's entries. Where they are answered yes, the operands of all are counted, for question 10: one pass serves both.
 fn check_table(s: &[u8], l: Layout, table: Table, uses: &mut [u8; 1024]) -> Validity
-    requires { ⌜ File.LaidOut (now s) l ⌝ }
+    requires { ⌜ Layouts.LaidOut (now s) l ⌝ }
     ensures { λ r. ⌜ Checking.TableChecked (now (s .entry)) table (now (uses .entry)) (now (uses .exit)) r ⌝ }
 {
     let span = file::span_of(l, table);
@@ -167,7 +168,7 @@ fn to_be_used(table: Table, count: u16) -> u16
 
 // Question 10 of a table's entries, whose uses stand in `counts`.
 fn check_uses(s: &[u8], l: Layout, table: Table, counts: &[u8]) -> Validity
-    requires { ⌜ File.LaidOut (now s) l × Counting.UsesIn (now s) (now counts) ⌝ }
+    requires { ⌜ Layouts.LaidOut (now s) l × Counting.UsesIn (now s) (now counts) ⌝ }
     ensures { λ r. ⌜ r ≡ spec.usedValidity (now (s .entry)) table ⌝ }
 {
     let span = file::span_of(l, table);
@@ -190,7 +191,7 @@ fn check_uses(s: &[u8], l: Layout, table: Table, counts: &[u8]) -> Validity
 
 // Question 11.
 fn check_last(s: &[u8], l: Layout) -> Validity
-    requires { ⌜ File.LaidOut (now s) l ⌝ }
+    requires { ⌜ Layouts.LaidOut (now s) l ⌝ }
     ensures { λ r. ⌜ r ≡ spec.lastValidity (now (s .entry)) ⌝ }
 {
     let span = l.commands;
@@ -202,7 +203,7 @@ fn check_last(s: &[u8], l: Layout) -> Validity
 
 // Questions 10 and 11.
 fn check_all_uses(s: &[u8], l: Layout, counts: &[u8]) -> Validity
-    requires { ⌜ File.LaidOut (now s) l × Counting.UsesIn (now s) (now counts) ⌝ }
+    requires { ⌜ Layouts.LaidOut (now s) l × Counting.UsesIn (now s) (now counts) ⌝ }
     ensures { λ r. ⌜ r ≡ spec.usesValidity (now (s .entry)) ⌝ }
 {
     let arithmetic = check_uses(s, l, Table::Arithmetic, counts);
@@ -222,7 +223,7 @@ fn check_all_uses(s: &[u8], l: Layout, counts: &[u8]) -> Validity
 
 // Questions 7 to 11.
 fn check_entries(s: &[u8], l: Layout) -> Validity
-    requires { ⌜ File.LaidOut (now s) l ⌝ }
+    requires { ⌜ Layouts.LaidOut (now s) l ⌝ }
     ensures { λ r. ⌜ r ≡ Asking.inTurn
         (spec.tableValidity (now (s .entry)) Table.Arithmetic
         ∷ spec.tableValidity (now (s .entry)) Table.Boolean
@@ -269,7 +270,7 @@ fn check_end(s: &[u8], at: usize) -> Validity
 // Questions 1 to 11 of a program file.
 pub fn validate(s: &[u8]) -> Validity
     ensures { λ r. ⌜ r ≡ spec.validity (now (s .entry)) ⌝ }
-    ensures numbers { λ r. ⌜ Asking.validityNumbers r ≡ Asking.validityNumbers (spec.validity (now (s .entry))) ⌝ }
+    ensures numbers { λ r. ⌜ Asking.validityNumbers r ≡ spec.validationRow (now (s .entry)) ⌝ }
 {
     let h = reader::heads(s);
     let heads = check_heads(s, h);
@@ -287,7 +288,7 @@ pub fn validate(s: &[u8]) -> Validity
 // Questions 1 to 11 of the sheet program's input, whose fifth field is the start list.
 pub fn validate_input(s: &[u8]) -> Validity
     ensures { λ r. ⌜ r ≡ spec.inputValidity (now (s .entry)) ⌝ }
-    ensures numbers { λ r. ⌜ Asking.validityNumbers r ≡ Asking.validityNumbers (spec.inputValidity (now (s .entry))) ⌝ }
+    ensures numbers { λ r. ⌜ Asking.validityNumbers r ≡ spec.inputRow (now (s .entry)) ⌝ }
 {
     let h = reader::heads(s);
     let heads = check_heads(s, h);

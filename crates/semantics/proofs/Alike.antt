@@ -11,15 +11,15 @@ use lib.ListN.{length, getD, set, length-set}
 use lib.Seq.{getD-set-same, getD-set-other}
 use Rattle.program.specs.File.{cellCount}
 use Rattle.program.specs.Graph.{Graph, edgeAt}
-use Rattle.program.specs.Prepared.{Prepared}
+use Rattle.program.specs.Parts.Prepared.{Prepared}
 use Rattle.program.specs.declared.First.{First}
 use Rattle.program.specs.declared.First.the-variants.{At, Nothing}
 use Rattle.program.proofs.Laws.{such-same}
 use Rattle.semantics.specs.Action.{after, isDefined}
 use Rattle.semantics.specs.Budget.{lowestDefined, Result, ends, goesOn, runFrom}
-use Rattle.semantics.specs.Cells.{front, Placed}
+use Rattle.semantics.specs.Parts.Cells.{front, Placed}
 use Rattle.semantics.specs.Expression.{cellValue}
-use Rattle.semantics.specs.Running.{EndsAs}
+use Rattle.semantics.specs.Parts.Running.{EndsAs}
 use Rattle.semantics.specs.Step.{Configuration, begun, leaves, edgeEffect, along}
 use Rattle.semantics.specs.declared.Effect.{Effect}
 use Rattle.semantics.specs.declared.Effect.the-variants.{Undefined as Fails, Unchanged, Stored}

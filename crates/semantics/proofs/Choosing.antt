@@ -8,12 +8,12 @@ use borrow.Author.Tests.{lt-ltb}
 use lib.IntN.{ℤ}
 use lib.ListN.{getD}
 use Rattle.program.specs.Graph.{Graph}
-use Rattle.program.specs.Prepared.{edgeCountPlace, entriesIn, actionIn, decodedMeaning, Prepared, Following}
+use Rattle.program.specs.Parts.Prepared.{edgeCountPlace, entriesIn, actionIn, decodedMeaning, Prepared, Following}
 use Rattle.semantics.specs.Action.{isDefined}
 use Rattle.semantics.specs.Budget.{lowestDefined}
-use Rattle.semantics.specs.Cells.{NumbersIn}
-use Rattle.semantics.specs.Coding.{Follows, Performs}
-use Rattle.semantics.specs.Running.{Lowest}
+use Rattle.semantics.specs.Parts.Cells.{NumbersIn}
+use Rattle.semantics.specs.Parts.Coding.{Follows, Performs}
+use Rattle.semantics.specs.Parts.Running.{Lowest}
 use Rattle.semantics.specs.Step.{edgeEffect}
 use Rattle.semantics.proofs.Edges.{first-leaving, none-leaving, edge-performs}
 use Rattle.semantics.proofs.Effects.{undefined-after}

@@ -20,7 +20,7 @@ use Rattle.signs.specs.declared.Comparison.{Comparison}
 use Rattle.signs.specs.declared.Operator.{Operator}
 use Rattle.signs.specs.declared.Reason.the-variants.{IndexNegative, IndexTooLarge}
 use Rattle.program.specs.File.{firstCell}
-use Rattle.semantics.specs.Coding.{earlier, reasonNumbered, evaluated, decided, isCode, placeBy, Indexed}
+use Rattle.semantics.specs.Parts.Coding.{earlier, reasonNumbered, evaluated, decided, isCode, placeBy, Indexed}
 use Rattle.semantics.specs.Expression.{fault, at, nowhere, placeOf, operated, combine, compareValues, conjoin, andThen, negate}
 use Rattle.semantics.specs.declared.Evaluation.the-variants.{Number, Undefined}
 use Rattle.semantics.specs.declared.Fault.{Fault}

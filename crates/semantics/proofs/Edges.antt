@@ -13,13 +13,13 @@ use Rattle.program.specs.File.{cellCount}
 use Rattle.program.specs.FirstSuch.{firstSuch}
 use Rattle.program.specs.Graph.{Graph, edgeAt}
 use Rattle.program.specs.Meaning.{Meaning, meaning}
-use Rattle.program.specs.Prepared.{edgeCountPlace, entriesIn, sourceIn, actionIn, decodedMeaning, Prepared, Following}
-use Rattle.program.specs.Sorted.{meaningNamed}
+use Rattle.program.specs.Parts.Prepared.{edgeCountPlace, entriesIn, sourceIn, actionIn, decodedMeaning, Prepared, Following}
+use Rattle.program.specs.Parts.Sorted.{meaningNamed}
 use Rattle.program.specs.declared.First.the-variants.{At, Nothing}
 use Rattle.program.proofs.Laws.{first-such, none-such}
 use Rattle.semantics.specs.Action.{effect, after}
-use Rattle.semantics.specs.Cells.{NumbersIn, Placed}
-use Rattle.semantics.specs.Coding.{EffectIn, Follows, Performs}
+use Rattle.semantics.specs.Parts.Cells.{NumbersIn, Placed}
+use Rattle.semantics.specs.Parts.Coding.{EffectIn, Follows, Performs}
 use Rattle.semantics.specs.Expression.{cellValue}
 use Rattle.semantics.specs.Step.{leaves, edgeEffect}
 use Rattle.semantics.specs.declared.Effect.{Effect}

@@ -13,11 +13,11 @@ use mir.Syntax.{w64}
 use mir.Val.{ofZ, SFits}
 use Rattle.program.specs.File.{firstCell, isVariable, isArray}
 use Rattle.program.specs.Meaning.{Meaning, nothing, assigns, stores, condition}
-use Rattle.program.specs.Prepared.{sizeIn, cellIn}
-use Rattle.program.specs.Sorted.{arithNamed, meaningNamed}
+use Rattle.program.specs.Parts.Prepared.{sizeIn, cellIn}
+use Rattle.program.specs.Parts.Sorted.{arithNamed, meaningNamed}
 use Rattle.program.specs.Syntax.{Arith, Boolean}
 use Rattle.semantics.specs.Action.{pass, storeTo, effect, after, isDefined}
-use Rattle.semantics.specs.Coding.{reasonNumbered, evaluated, decided, ValueIn, TruthIn, EffectIn, Follows, Performs, Indexed, IndexIn}
+use Rattle.semantics.specs.Parts.Coding.{reasonNumbered, evaluated, decided, ValueIn, TruthIn, EffectIn, Follows, Performs, Indexed, IndexIn}
 use Rattle.semantics.specs.Expression.{fault, at, value}
 use Rattle.semantics.specs.declared.Effect.{Effect}
 use Rattle.semantics.specs.declared.Effect.the-variants.{Undefined as Fails, Unchanged, Stored}

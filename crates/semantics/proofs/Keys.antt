@@ -10,7 +10,7 @@ use lib.Dec.{T, eqb}
 use types.Run.{OneOf}
 use Rattle.signs.proofs.Lists.{or-right}
 use Rattle.program.specs.Graph.{done}
-use Rattle.program.specs.Node.{commandTree}
+use Rattle.program.specs.Parts.Node.{commandTree}
 use Rattle.program.specs.Syntax.{truth}
 use Rattle.program.specs.Tree.{Entries, commandMade}
 use Rattle.program.specs.declared.CommandNode.{CommandNode}

@@ -9,27 +9,33 @@ use lib.IntN.{ℤ}
 use lib.ListN.{length, getD, replicate}
 use Rattle.program.specs.File.{sizes, cellsOf, cellCount, firstCell, isVariable, isArray}
 use Rattle.program.specs.FirstSuch.{firstSuch}
-use Rattle.program.specs.Graph.{Graph, edgeAt, graph}
-use Rattle.program.specs.Prepared.{edgeCountPlace, sourceIn, Prepared, Following}
+use Rattle.program.specs.Graph.{Graph, edgeAt, graph, done}
+use Rattle.program.specs.Parts.Guards.{guards, allFalse}
+use Rattle.program.specs.Parts.Prepared.{edgeCountPlace, sourceIn, Prepared, Following}
 use Rattle.program.specs.Questions.{validity}
-use Rattle.program.specs.Sorted.{arithNamed, booleanNamed, meaningNamed}
-use Rattle.program.specs.Syntax.{Arith, Boolean}
+use Rattle.program.specs.Parts.Sorted.{arithNamed, booleanNamed, meaningNamed}
+use Rattle.program.specs.Syntax.{Arith, Boolean, Command}
 use Rattle.program.specs.declared.First.the-variants.{At, Nothing}
 use Rattle.program.specs.declared.Refusal.{Refusal}
 use Rattle.program.specs.declared.Validity.the-variants.{Fit, Refused}
 use Rattle.program.specs.Meaning.{Meaning}
 use Rattle.semantics.specs.Action.{effect, after, isDefined}
-use Rattle.semantics.specs.Budget.{lowestDefined, Result, ends, runFrom, budgeted, programBudgeted}
+use Rattle.semantics.specs.Budget.{lowestDefined, Result, ends, runFrom, budgeted, programBudgeted, endedNumbers}
 use Rattle.semantics.specs.Expression.{cellValue, at, placeOf, value, truthIn}
-use Rattle.semantics.specs.Replay.{replay, outcomes}
-use Rattle.semantics.specs.Step.{Configuration, begun, leaves, edgeEffect, memoryValidity, outcome, along, step, programOutcome, programStep}
+use Rattle.semantics.specs.Parts.Replaying.{replay, outcomes, step}
+use Rattle.semantics.specs.Replay.{programReplay, programOutcomes}
+use Rattle.semantics.specs.Step.{Configuration, begun, leaves, edgeEffect, memoryValidity, outcome, along, programOutcome, programStep, steppedNumbers}
 use Rattle.semantics.specs.declared.Effect.{Effect}
+use Rattle.semantics.specs.declared.Ended.{Ended}
+use Rattle.semantics.specs.declared.Stepped.{Stepped}
 use Rattle.semantics.specs.declared.Effect.the-variants.{Stored}
 use Rattle.semantics.specs.declared.Ending.the-variants.{Arrived, Spent, Stuck, Refused as Ends}
 use Rattle.semantics.specs.declared.Evaluation.{Evaluation}
 use Rattle.semantics.specs.declared.Outcome.the-variants.{Taken, Refused as Refuses}
 use Rattle.semantics.proofs.Edges
+use Rattle.semantics.proofs.Exit
 use Rattle.semantics.proofs.Named
+use Rattle.semantics.proofs.Readback
 use Rattle.semantics.proofs.Runs
 use Rattle.semantics.proofs.Runs.{Replayed, Stops}
 use Rattle.semantics.proofs.Steps
@@ -120,12 +126,12 @@ module _ (ns : List ℕ) (g : Graph) where
 
   -- a run is a list of at most `budget` step calls, all answered Taken, and as many as the budget where that is spent: in a graph whose edges enter
   -- its own nodes
-  module _ (inside : (e : ℕ) → e < length (g .edges) → edgeAt g e .target < g .fresh) where
-    pub run-replayed : (budget : ℕ) (c : Configuration) → length (c .memory) ≡ cellCount ns → c .run .node < g .fresh
+  module _ (inside : (e : ℕ) → e < length (g .edges) → edgeAt g e .target < g .nodes) where
+    pub run-replayed : (budget : ℕ) (c : Configuration) → length (c .memory) ≡ cellCount ns → c .run .node < g .nodes
         → Replayed ns g budget c (runFrom budget ns g c)
     run-replayed = Runs.run-replayed ns g inside
 
-    pub budgeted-replayed : (budget : ℕ) (m : List ℤ) → 0 < g .fresh → memoryValidity ns m ≡ Fit
+    pub budgeted-replayed : (budget : ℕ) (m : List ℤ) → 0 < g .nodes → memoryValidity ns m ≡ Fit
         → Replayed ns g budget (begun m) (budgeted ns g budget m)
     budgeted-replayed = Runs.budgeted-replayed ns g inside
 
@@ -184,6 +190,12 @@ module _ (s : List ℕ) where
     pub program-step : (c : Configuration) (e : ℕ) → programStep s c e ≡ step (sizes s) (graph s) c e
     program-step = Steps.program-step s fit
 
+    pub program-replay : (c : Configuration) (es : List ℕ) → programReplay s c es ≡ replay (sizes s) (graph s) c es
+    program-replay = Steps.program-replay s fit
+
+    pub program-outcomes : (c : Configuration) (es : List ℕ) → programOutcomes s c es ≡ outcomes (sizes s) (graph s) c es
+    program-outcomes = Steps.program-outcomes s fit
+
     pub program-budgeted : (budget : ℕ) (m : List ℤ) → programBudgeted s budget m ≡ budgeted (sizes s) (graph s) budget m
     program-budgeted = Runs.program-budgeted s fit
 
@@ -208,6 +220,21 @@ module _ (s : List ℕ) where
 
   pub program-budgeted-length : (budget : ℕ) (m : List ℤ) → length (programBudgeted s budget m .final .memory) ≡ length m
   program-budgeted-length = Runs.program-budgeted-length s
+
+-- ---- The exit of a do
+
+-- its truth, and the reason where it is undefined, are those of "¬b of every guard of the loop, joined by ∧ left to right"
+pub exit-truth : (ns : List ℕ) (m : List ℤ) (c : Command) → truthIn ns m (done c) ≡ truthIn ns m (allFalse (guards c))
+exit-truth = Exit.exit-truth
+
+-- ---- Rows of numbers
+
+-- a reply is fixed by its row alone: of a step, and of a budgeted run
+pub stepped-row : (r s : Stepped) → steppedNumbers r ≡ steppedNumbers s → r ≡ s
+stepped-row = Readback.stepped-row
+
+pub ended-row : (d e : Ended) → endedNumbers d ≡ endedNumbers e → d ≡ e
+ended-row = Readback.ended-row
 
 -- ---- A prepared graph
 

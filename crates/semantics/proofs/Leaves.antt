@@ -9,17 +9,17 @@ use lib.Dec.{T}
 use lib.IntN.{ℤ, pos}
 use lib.ListN.{getD}
 use Rattle.program.specs.Kind.{arithKind}
-use Rattle.program.specs.Prepared.{numbersAt, entriesIn, numberIn, cellKind, cellForm}
+use Rattle.program.specs.Parts.Prepared.{numbersAt, entriesIn, numberIn, cellKind, cellForm}
 use Rattle.program.specs.File.{signed32, firstCell}
-use Rattle.program.specs.Node.{arithForm, arithTree}
-use Rattle.program.specs.Sorted.{arithNamed}
+use Rattle.program.specs.Parts.Node.{arithForm, arithTree}
+use Rattle.program.specs.Parts.Sorted.{arithNamed}
 use Rattle.program.specs.Syntax.{Arith, number, variable, element, operator}
 use Rattle.program.specs.Tree.{arithBelow, arithTrees, arithMade}
 use Rattle.program.specs.declared.CellNode.{CellNode}
 use Rattle.program.specs.declared.CellNode.the-variants.{Zero, Cell, Element, Operator}
 use Rattle.program.proofs.Induction.{by-kind}
 use Rattle.program.proofs.Laws.{arith-told}
-use Rattle.semantics.specs.Cells.{Loaded}
+use Rattle.semantics.specs.Parts.Cells.{Loaded}
 use Rattle.semantics.specs.Expression.{cellValue, value}
 use Rattle.semantics.specs.declared.Evaluation.the-variants.{Number}
 use Rattle.semantics.proofs.Named.{variable-there}

@@ -1,6 +1,7 @@
 pub mod Exit
 pub mod Steps
 pub mod Runs
+pub mod Readback
 pub mod Named
 pub mod Padding
 pub mod Coded

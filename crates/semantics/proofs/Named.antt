@@ -11,7 +11,7 @@ use borrow.Author.Tests.{ltb-true, ne-eqb}
 use mir.Facts.{and-yes}
 use Rattle.signs.specs.declared.Reason.the-variants.{IndexTooLarge}
 use Rattle.program.specs.File.{cellsOf, cellCount, firstCell, isVariable, isArray}
-use Rattle.program.specs.Sorted.{arithNamed, booleanNamed, meaningNamed}
+use Rattle.program.specs.Parts.Sorted.{arithNamed, booleanNamed, meaningNamed}
 use Rattle.program.specs.Syntax.{Arith, number, variable, element, operator, Boolean, truth, comparison, conjunction, shortCircuit, negation}
 use Rattle.program.proofs.Laws.{cells-inside}
 use Rattle.program.specs.Meaning.{Meaning, nothing, assigns, stores, condition}

@@ -10,10 +10,10 @@ use lib.ListN.{length, getD, set, replicate, length-set, List·getD-eq-default}
 use lib.Seq.{getD-set-same, getD-set-other, ext-getD}
 use Rattle.signs.specs.Lists.{tabulate}
 use Rattle.program.specs.File.{signed32}
-use Rattle.program.specs.Prepared.{arithmeticCountPlace, numbersAt, numberIn, Coded}
+use Rattle.program.specs.Parts.Prepared.{arithmeticCountPlace, numbersAt, numberIn, Coded}
 use Rattle.program.specs.declared.Entry.{Entry}
 use Rattle.program.proofs.Lists.{length-tabulate, getD-tabulate, getD-same}
-use Rattle.semantics.specs.Cells.{front, Fronted, Numbered, Placed}
+use Rattle.semantics.specs.Parts.Cells.{front, Fronted, Numbered, Placed}
 use Rattle.semantics.specs.Expression.{cellValue}
 
 -- a list of n cells of which the first i are a memory's

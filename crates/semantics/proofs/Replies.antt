@@ -10,8 +10,9 @@ use Rattle.program.specs.Questions.{validity}
 use Rattle.program.specs.declared.Refusal.{Refusal}
 use Rattle.program.specs.declared.Validity.the-variants.{Fit, Refused}
 use Rattle.semantics.specs.Action.{after}
-use Rattle.semantics.specs.Step.{edgeEffect, stepValidity, outcomeBy, unlessRefused, outcome, along, next, step, programOutcome, programStep, stepReply}
-use Rattle.semantics.specs.Stepping.{runAfter, Settled, StepsTo}
+use Rattle.semantics.specs.Parts.Replaying.{step}
+use Rattle.semantics.specs.Step.{edgeEffect, stepValidity, outcomeBy, outcomeUnlessRefused, outcome, along, next, programOutcome, programStep, stepReply}
+use Rattle.semantics.specs.Parts.Stepping.{runAfter, Settled, StepsTo}
 use Rattle.semantics.specs.declared.Effect.{Effect}
 use Rattle.semantics.specs.declared.Effect.the-variants.{Undefined as Fails, Unchanged, Stored}
 use Rattle.semantics.specs.declared.Outcome.the-variants.{Refused as Refuses}
@@ -29,13 +30,13 @@ edge-exists ns g node m e p = leaves-below g e node (passed (ask-fit _ 15 0 (tur
 module _ (ns : List ℕ) (g : Graph) (run : Run) (e : ℕ) (m : List ℤ) where
   -- a refused question: run and memory are as they were
   pub step-refused : (x : Refusal) → stepValidity ns g (run .node) m e ≡ Refused x → StepsTo ns g run e m m (record { run = run; outcome = Refuses x })
-  unfolding step outcome next unlessRefused
+  unfolding step outcome next outcomeUnlessRefused
   step-refused x p = record { reply = rw p; memory = rw p }
 
   -- none refused: by the effect
   pub step-settled : stepValidity ns g (run .node) m e ≡ Fit → (x : Effect) → x ≡ edgeEffect ns g m e → (target : ℕ) → target ≡ edgeAt g e .target
       → (m′ : List ℤ) (r : Stepped) → Settled run target x m m′ r → StepsTo ns g run e m m′ r
-  unfolding step outcome next along unlessRefused outcomeBy runAfter after
+  unfolding step outcome next along outcomeUnlessRefused outcomeBy runAfter after
   step-settled p (Fails f) q target t m′ r k =
       record { reply = rw (p, ← q) (λ i. record { run = k .handed-back i; outcome = k .answer i }); memory = rw (p, ← q) (k .memory) }
   step-settled p Unchanged q target t m′ r k =
@@ -50,9 +51,9 @@ pub record Replied (s : List ℕ) (run : Run) (e : ℕ) (m m′ : List ℤ) (r :
 
 module _ (s : List ℕ) (run : Run) (e : ℕ) (m : List ℤ) where
   pub program-refused : (x : Refusal) → validity s ≡ Refused x → Replied s run e m m (record { run = run; outcome = Refuses x })
-  unfolding stepReply programStep programOutcome next unlessRefused
+  unfolding stepReply programStep programOutcome next outcomeUnlessRefused
   program-refused x p = record { reply = rw p; memory = rw p }
 
   pub program-replied : validity s ≡ Fit → (m′ : List ℤ) (r : Stepped) → StepsTo (sizes s) (graph s) run e m m′ r → Replied s run e m m′ r
-  unfolding stepReply programStep programOutcome unlessRefused step
+  unfolding stepReply programStep programOutcome outcomeUnlessRefused step
   program-replied p m′ r k = record { reply = rw p (k .reply); memory = rw p (k .memory) }

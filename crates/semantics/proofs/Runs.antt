@@ -22,8 +22,8 @@ use Rattle.program.proofs.Laws.{such-first, such-none, two-nodes, edge-inside}
 use Rattle.program.proofs.Tests.{passed}
 use Rattle.semantics.specs.Action.{isDefined}
 use Rattle.semantics.specs.Budget.{lowestDefined, Result, ends, goesOn, runFrom, endsUnlessRefused, budgeted, programBudgeted}
-use Rattle.semantics.specs.Replay.{replay, outcomes}
-use Rattle.semantics.specs.Step.{Configuration, fresh, begun, leaves, edgeEffect, memoryValidity, outcome, along, step}
+use Rattle.semantics.specs.Parts.Replaying.{replay, outcomes, step}
+use Rattle.semantics.specs.Step.{Configuration, fresh, begun, leaves, edgeEffect, memoryValidity, outcome, along}
 use Rattle.semantics.specs.declared.Ending.{Ending}
 use Rattle.semantics.specs.declared.Ending.the-variants.{Arrived, Spent, Stuck, Refused as Refuses}
 use Rattle.semantics.specs.declared.Outcome.the-variants.{Taken}
@@ -151,8 +151,8 @@ module _ (ns : List ℕ) (g : Graph) where
             (record { arrived = λ q. cc; at-end = λ q. absurd (omega arith); stuck = λ q e l. cc })
 
   -- in a graph whose edges enter its own nodes
-  module _ (inside : (e : ℕ) → e < length (g .edges) → edgeAt g e .target < g .fresh) where
-    pub run-replayed : (budget : ℕ) (c : Configuration) → length (c .memory) ≡ cellCount ns → c .run .node < g .fresh → Replayed ns g budget c (runFrom budget ns g c)
+  module _ (inside : (e : ℕ) → e < length (g .edges) → edgeAt g e .target < g .nodes) where
+    pub run-replayed : (budget : ℕ) (c : Configuration) → length (c .memory) ≡ cellCount ns → c .run .node < g .nodes → Replayed ns g budget c (runFrom budget ns g c)
     unfolding runFrom goesOn along
     run-replayed zero c room here = by (eqb (c .run .node) 1)
       where
@@ -162,7 +162,7 @@ module _ (ns : List ℕ) (g : Graph) where
     run-replayed (suc budget) c room here =
         by (λ e. run-replayed budget (along ns g c e)) (eqb (c .run .node) 1) (lowestDefined ns g (c .run .node) (c .memory)) refl
       where
-        by : ((e : ℕ) → length (along ns g c e .memory) ≡ cellCount ns → along ns g c e .run .node < g .fresh → Replayed ns g budget (along ns g c e) (runFrom budget ns g (along ns g c e)))
+        by : ((e : ℕ) → length (along ns g c e .memory) ≡ cellCount ns → along ns g c e .run .node < g .nodes → Replayed ns g budget (along ns g c e) (runFrom budget ns g (along ns g c e)))
             → (b : Bool) (x : First) → lowestDefined ns g (c .run .node) (c .memory) ≡ x
             → Replayed ns g (suc budget) c (cond b (ends Arrived c) (goesOn (λ e. runFrom budget ns g (along ns g c e)) c x))
         by go true x p = stays (suc budget) c Arrived (λ q. cc)
@@ -173,7 +173,7 @@ module _ (ns : List ℕ) (g : Graph) where
             (record { room = room; node-inside = here; edge-leaves = found .0; edge-defined = found .1 })
             (go e (along-length ns g c e ∙ room) (inside e (leaves-below g e (c .run .node) (found .0))))
 
-    pub budgeted-replayed : (budget : ℕ) (m : List ℤ) → 0 < g .fresh → memoryValidity ns m ≡ Fit → Replayed ns g budget (begun m) (budgeted ns g budget m)
+    pub budgeted-replayed : (budget : ℕ) (m : List ℤ) → 0 < g .nodes → memoryValidity ns m ≡ Fit → Replayed ns g budget (begun m) (budgeted ns g budget m)
     unfolding fresh
     budgeted-replayed budget m some fit = rw (budgeted-run budget m fit) (run-replayed budget (begun m) (memory-fit ns m fit) some)
 

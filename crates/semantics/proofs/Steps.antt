@@ -19,8 +19,9 @@ use Rattle.program.specs.declared.Validity.the-variants.{Fit, Refused}
 use Rattle.program.proofs.Laws.{ask-fit, turn-fit}
 use Rattle.program.proofs.Tests.{passed, is-true}
 use Rattle.semantics.specs.Action.{after, isDefined}
-use Rattle.semantics.specs.Replay.{replay}
-use Rattle.semantics.specs.Step.{Configuration, leaves, edgeEffect, memoryValidity, stepValidity, outcomeBy, unlessRefused, outcome, along, next, step, programOutcome, programStep}
+use Rattle.semantics.specs.Parts.Replaying.{replay, outcomes, step}
+use Rattle.semantics.specs.Replay.{programReplay, programOutcomes}
+use Rattle.semantics.specs.Step.{Configuration, leaves, edgeEffect, memoryValidity, stepValidity, outcomeBy, outcomeUnlessRefused, outcome, along, next, programOutcome, programStep}
 use Rattle.semantics.specs.declared.Effect.{Effect}
 use Rattle.semantics.specs.declared.Effect.the-variants.{Undefined as Fails, Unchanged, Stored}
 use Rattle.semantics.specs.declared.Outcome.{Outcome}
@@ -29,13 +30,13 @@ use Rattle.semantics.specs.declared.Outcome.the-variants.{Taken, Undefin
 -- edge e can be taken: the memory has as many cells as the names, the node is in the graph, and the edge leaves it and is defined
 pub record Takable (ns : List ℕ) (g : Graph) (c : Configuration) (e : ℕ) : Type 0 where
   pub room : length (c .memory) ≡ cellCount ns
-  pub node-inside : c .run .node < g .fresh
+  pub node-inside : c .run .node < g .nodes
   pub edge-leaves : T (leaves g e (c .run .node))
   pub edge-defined : T (isDefined (edgeEffect ns g (c .memory) e))
 
 -- an answer is Taken where no question is refused and the effect is defined, and only there
-taken-parts : (v : Validity) (x : Effect) → unlessRefused v (outcomeBy x) ≡ Taken → (v ≡ Fit) × T (isDefined x)
-unfolding unlessRefused outcomeBy isDefined
+taken-parts : (v : Validity) (x : Effect) → outcomeUnlessRefused v (outcomeBy x) ≡ Taken → (v ≡ Fit) × T (isDefined x)
+unfolding outcomeUnlessRefused outcomeBy isDefined
 taken-parts Fit (Fails f) p = absurd (let z : _≡_ {A = ℕ} 0 1 = cc in omega arith)
 taken-parts Fit Unchanged p = (refl, tt)
 taken-parts Fit (Stored c z) p = (refl, tt)
@@ -74,9 +75,9 @@ module _ (ns : List ℕ) (g : Graph) (c : Configuration) (e : ℕ) where
       }
 
   pub takable-taken : Takable ns g c e → outcome ns g c e ≡ Taken
-  unfolding outcome stepValidity unlessRefused inTurn thenAsk ask
+  unfolding outcome stepValidity outcomeUnlessRefused inTurn thenAsk ask
   takable-taken o =
-      rw (fit-memory ns (c .memory) (o .room), lt-ltb (c .run .node) (g .fresh) (o .node-inside), is-true (leaves g e (c .run .node)) (o .edge-leaves))
+      rw (fit-memory ns (c .memory) (o .room), lt-ltb (c .run .node) (g .nodes) (o .node-inside), is-true (leaves g e (c .run .node)) (o .edge-leaves))
       (defined-taken (edgeEffect ns g (c .memory) e) (o .edge-defined))
 
   -- along the edge where it is taken, and else nothing changes
@@ -124,16 +125,27 @@ module _ (ns : List ℕ) (g : Graph) where
 module _ (s : List ℕ) where
   module _ (fit : validity s ≡ Fit) (c : Configuration) (e : ℕ) where
     pub program-outcome : programOutcome s c e ≡ outcome (sizes s) (graph s) c e
-    unfolding programOutcome unlessRefused
+    unfolding programOutcome outcomeUnlessRefused
     program-outcome = rw fit
 
     pub program-step : programStep s c e ≡ step (sizes s) (graph s) c e
     unfolding programStep step
     program-step = rw program-outcome
 
+  module _ (fit : validity s ≡ Fit) where
+    pub program-replay : (c : Configuration) (es : List ℕ) → programReplay s c es ≡ replay (sizes s) (graph s) c es
+    unfolding programReplay replay
+    program-replay c [] = refl
+    program-replay c (e ∷ es) = rw (program-step fit c e) (program-replay (step (sizes s) (graph s) c e) es)
+
+    pub program-outcomes : (c : Configuration) (es : List ℕ) → programOutcomes s c es ≡ outcomes (sizes s) (graph s) c es
+    unfolding programOutcomes outcomes
+    program-outcomes c [] = refl
+    program-outcomes c (e ∷ es) = rw (program-outcome fit c e, program-step fit c e, program-outcomes (step (sizes s) (graph s) c e) es)
+
   module _ (x : Refusal) (refused : validity s ≡ Refused x) (c : Configuration) (e : ℕ) where
     pub refused-outcome : programOutcome s c e ≡ Refuses x
-    unfolding programOutcome unlessRefused
+    unfolding programOutcome outcomeUnlessRefused
     refused-outcome = rw refused
 
     pub refused-step : programStep s c e ≡ c

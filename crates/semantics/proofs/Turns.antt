@@ -10,12 +10,12 @@ use lib.Dec.{eqb}
 use lib.IntN.{ℤ}
 use lib.ListN.{length}
 use Rattle.program.specs.Graph.{Graph, edgeAt}
-use Rattle.program.specs.Prepared.{targetIn, Prepared}
+use Rattle.program.specs.Parts.Prepared.{targetIn, Prepared}
 use Rattle.program.specs.declared.First.the-variants.{At, Nothing}
 use Rattle.semantics.specs.Action.{after}
 use Rattle.semantics.specs.Budget.{lowestDefined, Result, ends, goesOn, runFrom}
-use Rattle.semantics.specs.Cells.{NumbersIn}
-use Rattle.semantics.specs.Running.{Lowest, endingAt, Reached, EndsAs}
+use Rattle.semantics.specs.Parts.Cells.{NumbersIn}
+use Rattle.semantics.specs.Parts.Running.{Lowest, endingAt, Reached, EndsAs}
 use Rattle.semantics.specs.Step.{Configuration, fresh, begun, edgeEffect, along}
 use Rattle.semantics.specs.declared.Ended.{Ended}
 use Rattle.semantics.specs.declared.Ending.the-variants.{Arrived, Spent, Stuck}

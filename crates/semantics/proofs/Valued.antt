@@ -10,11 +10,11 @@ use mir.Facts.{and-yes}
 use Rattle.signs.specs.Number.{inRange}
 use Rattle.signs.specs.declared.Comparison.{Comparison}
 use Rattle.signs.specs.declared.Operator.{Operator}
-use Rattle.program.specs.Prepared.{Coded}
+use Rattle.program.specs.Parts.Prepared.{Coded}
 use Rattle.program.specs.File.{isArray}
-use Rattle.program.specs.Sorted.{arithNamed, booleanNamed}
+use Rattle.program.specs.Parts.Sorted.{arithNamed, booleanNamed}
 use Rattle.program.specs.Syntax.{Arith, number, element, operator, Boolean, truth, comparison, conjunction, shortCircuit, negation}
-use Rattle.semantics.specs.Coding.{evaluated, decided, isCode, ValueIn, TruthIn}
+use Rattle.semantics.specs.Parts.Coding.{evaluated, decided, isCode, ValueIn, TruthIn}
 use Rattle.semantics.specs.Expression.{cellValue, placeOf, valueAt, combine, value, compareValues, conjoin, andThen, negate, truthIn}
 use Rattle.semantics.specs.declared.Evaluation.the-variants.{Number}
 use Rattle.semantics.specs.declared.Truth.{Truth}

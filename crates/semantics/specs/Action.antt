@@ -1,13 +1,13 @@
 -- What an action does to a memory, by its meaning (document 01, "The step"; book, Definition 2.17 and Exercise 2.20).
 use Prim.Native.Nat.{ℕ}
 use mathlib.Core.Bool.{Bool, true, false}
-use mathlib.Core.List.{List, [], _∷_}
+use mathlib.Core.List.{List}
 use lib.ListN.{set}
-use lib.IntN.{ℤ, pos}
+use lib.IntN.{ℤ}
 use Rattle.signs.specs.declared.Reason.the-variants.{ConditionFalse}
 use Rattle.program.specs.File.{firstCell}
 use Rattle.program.specs.Meaning.{Meaning, nothing, assigns, stores, condition}
-use Rattle.semantics.specs.Expression.{fault, Place, at, nowhere, placeOf, value, truthIn, faultNumber}
+use Rattle.semantics.specs.Expression.{fault, Place, at, nowhere, placeOf, value, truthIn}
 use Rattle.semantics.specs.declared.Effect.{Effect}
 use Rattle.semantics.specs.declared.Effect.the-variants.{Undefined as Fails, Unchanged, Stored}
 use Rattle.semantics.specs.declared.Evaluation.{Evaluation}
@@ -45,9 +45,3 @@ unfoldable pub isDefined : Effect → Bool
 isDefined (Fails f) = false
 isDefined Unchanged = true
 isDefined (Stored c z) = true
-
--- an effect in document 01's numbers: the reason; 0; or 0, the cell and its new value
-unfoldable pub effectNumbers : Effect → List ℤ
-effectNumbers (Fails f) = pos (faultNumber f) ∷ []
-effectNumbers Unchanged = pos 0 ∷ []
-effectNumbers (Stored c z) = pos 0 ∷ pos c ∷ z ∷ []

@@ -71,3 +71,7 @@ endingNumbers (Refuses x) = x .number ∷ x .offset ∷ []
 -- a reply in document 01's numbers: the answer's, then node and count
 unfoldable pub endedNumbers : Ended → List ℕ
 endedNumbers e = endingNumbers (e .ending) ++ (e .run .node ∷ e .run .count ∷ [])
+
+-- the row that a budgeted run of a program file answers
+unfoldable pub runRow : List ℕ → ℕ → List ℤ → List ℕ
+runRow s budget m = endedNumbers (budgetReply s budget m)

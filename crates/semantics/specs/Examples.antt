@@ -6,12 +6,10 @@ use Rattle.signs.specs.Case.{Case, _gives_, row}
 use Rattle.signs.specs.declared.Comparison.the-variants.{Greater}
 use Rattle.signs.specs.declared.Operator.the-variants.{Add, Sub}
 use Rattle.program.specs.Examples.{factorial, twoGuards, fileOf, entryOf}
-use Rattle.program.specs.File.{sizes}
-use Rattle.program.specs.Graph.{graph}
 use Rattle.program.specs.Syntax.{Arith, number, variable, element, operator, Boolean, comparison, conjunction, shortCircuit}
 use Rattle.semantics.specs.Budget.{programBudgeted, budgetReply, endedNumbers}
 use Rattle.semantics.specs.Expression.{value, truthIn, evaluationNumbers, truthNumbers}
-use Rattle.semantics.specs.Replay.{replay, outcomes}
+use Rattle.semantics.specs.Replay.{programReplay, programOutcomes}
 use Rattle.semantics.specs.Step.{begun, outcomeNumbers, stepReply, steppedNumbers}
 
 -- x + A[i] and A[j − 1], A[j]; entries play no part in a value
@@ -67,12 +65,12 @@ runs =
 -- run and memory after a list of calls from the fresh run, as numbers
 unfoldable pub afterCalls : List ℕ → List ℕ → List ℤ → List ℤ
 afterCalls s es m =
-    let c = replay (sizes s) (graph s) (begun m) es in
+    let c = programReplay s (begun m) es in
     row (c .run .node ∷ c .run .count ∷ []) ++ c .memory
 
 -- what the calls answer
 unfoldable pub callAnswers : List ℕ → List ℕ → List ℤ → List ℕ
-callAnswers s es m = flatMap outcomeNumbers (outcomes (sizes s) (graph s) (begun m) es)
+callAnswers s es m = flatMap outcomeNumbers (programOutcomes s (begun m) es)
 
 -- calls along edges 1, 0, 1 and 4 of the factorial lesson: refused, taken, taken, refused; and 0, 4 from x 1: taken, undefined; one call, of the
 -- lesson and of an empty file

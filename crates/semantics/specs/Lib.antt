@@ -1,10 +1,7 @@
 pub mod Expression
 pub mod Action
-pub mod Cells
-pub mod Coding
 pub mod Step
 pub mod Budget
 pub mod Replay
-pub mod Stepping
-pub mod Running
 pub mod Examples
+pub mod Parts

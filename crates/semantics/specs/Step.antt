@@ -50,7 +50,7 @@ memoryValidity ns m = askPlain (eqb (length m) (cellCount ns)) 12
 -- the questions of a step, asked of a node and a memory: 12, "Is the node in the graph? 14. Does the arrow exist and leave the node? 15."
 unfoldable pub stepValidity : List ℕ → Graph → ℕ → List ℤ → ℕ → Validity
 stepValidity ns g node m e =
-    inTurn (memoryValidity ns m ∷ askPlain (ltb node (g .fresh)) 14 ∷ askPlain (leaves g e node) 15 ∷ [])
+    inTurn (memoryValidity ns m ∷ askPlain (ltb node (g .nodes)) 14 ∷ askPlain (leaves g e node) 15 ∷ [])
 
 -- the answer of a step, by the effect of its edge; and where a question may be refused first
 unfoldable pub outcomeBy : Effect → Outcome
@@ -58,14 +58,14 @@ outcomeBy (Fails f) = Stays f
 outcomeBy Unchanged = Taken
 outcomeBy (Stored c z) = Taken
 
-unfoldable pub unlessRefused : Validity → Outcome → Outcome
-unlessRefused Fit o = o
-unlessRefused (Refused x) o = Refuses x
+unfoldable pub outcomeUnlessRefused : Validity → Outcome → Outcome
+outcomeUnlessRefused Fit o = o
+outcomeUnlessRefused (Refused x) o = Refuses x
 
 -- the answer of a step along edge e
 unfoldable pub outcome : List ℕ → Graph → Configuration → ℕ → Outcome
 outcome ns g c e =
-    unlessRefused (stepValidity ns g (c .run .node) (c .memory) e) (outcomeBy (edgeEffect ns g (c .memory) e))
+    outcomeUnlessRefused (stepValidity ns g (c .run .node) (c .memory) e) (outcomeBy (edgeEffect ns g (c .memory) e))
 
 -- the configuration along edge e: "past 65,535 arrows, the count stays at 65,535"
 unfoldable pub along : List ℕ → Graph → Configuration → ℕ → Configuration
@@ -81,12 +81,9 @@ next ns g c e Taken = along ns g c e
 next ns g c e (Stays f) = c
 next ns g c e (Refuses x) = c
 
-unfoldable pub step : List ℕ → Graph → Configuration → ℕ → Configuration
-step ns g c e = next ns g c e (outcome ns g c e)
-
 -- the same of a program file, of which questions 1 to 11 are asked first: the answer, the configuration afterwards, and the reply
 unfoldable pub programOutcome : List ℕ → Configuration → ℕ → Outcome
-programOutcome s c e = unlessRefused (validity s) (outcome (sizes s) (graph s) c e)
+programOutcome s c e = outcomeUnlessRefused (validity s) (outcome (sizes s) (graph s) c e)
 
 unfoldable pub programStep : List ℕ → Configuration → ℕ → Configuration
 programStep s c e = next (sizes s) (graph s) c e (programOutcome s c e)
@@ -103,3 +100,7 @@ outcomeNumbers (Refuses x) = x .number ∷ x .offset ∷ []
 -- a reply in document 01's numbers: the answer's, then node and count
 unfoldable pub steppedNumbers : Stepped → List ℕ
 steppedNumbers r = outcomeNumbers (r .outcome) ++ (r .run .node ∷ r .run .count ∷ [])
+
+-- the row that a step of a program file answers
+unfoldable pub stepRow : List ℕ → Configuration → ℕ → List ℕ
+stepRow s c e = steppedNumbers (stepReply s c e)

@@ -6,10 +6,10 @@ ghost use Prim.Native.Nat.{ℕ, _<_, _≤_};
 ghost use lib.ListN.{length};
 ghost use Rattle.program.specs.File.{cellCount};
 ghost use Rattle.program.specs.Graph.{Graph};
-ghost use Rattle.program.specs.Prepared.{nodesMost, cellsMost, Linked, Prepared};
+ghost use Rattle.program.specs.Parts.Prepared.{nodesMost, cellsMost, Linked, Prepared};
 ghost use Rattle.semantics.specs.Budget as spec;
-ghost use Rattle.semantics.specs.Cells;
-ghost use Rattle.semantics.specs.Running;
+ghost use Rattle.semantics.specs.Parts.Cells;
+ghost use Rattle.semantics.specs.Parts.Running;
 ghost use Rattle.semantics.specs.Step;
 use crate::Ended;
 use crate::Ending;
@@ -144,7 +144,7 @@ fn run_prepared(code: &[u16; CODE], graph: &[u16; GRAPH], budget: u16, memory: &
 pub fn run(program: &[u8], budget: u16, memory: &mut [i32]) -> Ended
     ensures { λ r. ⌜ (r ≡ spec.budgetReply (now (program .entry)) budget (now (memory .entry)))
         × (now (memory .exit) ≡ spec.programBudgeted (now (program .entry)) budget (now (memory .entry)) .final .memory) ⌝ }
-    ensures numbers { λ r. ⌜ spec.endedNumbers r ≡ spec.endedNumbers (spec.budgetReply (now (program .entry)) budget (now (memory .entry))) ⌝ }
+    ensures numbers { λ r. ⌜ spec.endedNumbers r ≡ spec.runRow (now (program .entry)) budget (now (memory .entry)) ⌝ }
 {
     let mut code = [0u16; CODE];
     let mut graph = [0u16; GRAPH];

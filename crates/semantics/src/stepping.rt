@@ -6,11 +6,11 @@ ghost use lib.IntN.{ℤ, pos};
 ghost use Prim.Native.Nat.{ℕ, _<_, _+_, min};
 ghost use lib.ListN.{length, replicate};
 ghost use Rattle.program.specs.Graph.{Graph};
-ghost use Rattle.program.specs.Prepared.{Coded, Prepared};
+ghost use Rattle.program.specs.Parts.Prepared.{Coded, Prepared};
 ghost use Rattle.semantics.specs.Action;
-ghost use Rattle.semantics.specs.Cells;
+ghost use Rattle.semantics.specs.Parts.Cells;
 ghost use Rattle.semantics.specs.Step as spec;
-ghost use Rattle.semantics.specs.Stepping;
+ghost use Rattle.semantics.specs.Parts.Stepping;
 use crate::Effect;
 use crate::Outcome;
 use crate::Run;
@@ -208,8 +208,7 @@ impl Run {
     pub fn step(self, program: &[u8], edge: u16, memory: &mut [i32]) -> Stepped
         ensures { λ r. ⌜ (r ≡ spec.stepReply (now (program .entry)) (record { run = self; memory = now (memory .entry) }) edge)
             × (now (memory .exit) ≡ spec.programStep (now (program .entry)) (record { run = self; memory = now (memory .entry) }) edge .memory) ⌝ }
-        ensures numbers { λ r. ⌜ spec.steppedNumbers r
-            ≡ spec.steppedNumbers (spec.stepReply (now (program .entry)) (record { run = self; memory = now (memory .entry) }) edge) ⌝ }
+        ensures numbers { λ r. ⌜ spec.steppedNumbers r ≡ spec.stepRow (now (program .entry)) (record { run = self; memory = now (memory .entry) }) edge ⌝ }
     {
         let mut code = [0u16; CODE];
         let mut graph = [0u16; GRAPH];

@@ -6,7 +6,7 @@ use lib.Bits.{bitAnd, and-mod}
 use lib.Dec.{T, eqb}
 use mir.Facts.{and-yes}
 use Rattle.signs.specs.Sign.{has}
-use Rattle.signs.specs.Truth.{compareSets, conjoined}
+use Rattle.signs.specs.Truth.{compareSets, conjoined, certain}
 use Rattle.signs.specs.declared.Comparison.{Comparison}
 use Rattle.signs.specs.declared.Comparison.the-variants.{Equal, Greater, AtLeast}
 use Rattle.signs.specs.declared.Sign.the-variants.{Minus, Plus}
@@ -116,3 +116,12 @@ conjoined-assoc a b c =
     (at-truths (grouped a b)
     (at-truths (λ b. everyTruths (grouped a b))
     (at-truths (λ a. everyTruths (λ b. everyTruths (grouped a b))) tt a) b) c)
+
+-- true alone on either side makes none
+pub certain-conjoined : (a : Truths) → conjoined certain a ≡ a
+unfolding definitions
+certain-conjoined a = same-truths _ _ (at-truths (λ a. sameTruths (conjoined certain a) a) tt a)
+
+pub conjoined-certain : (a : Truths) → conjoined a certain ≡ a
+unfolding definitions
+conjoined-certain a = same-truths _ _ (at-truths (λ a. sameTruths (conjoined a certain) a) tt a)

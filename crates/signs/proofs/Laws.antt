@@ -9,13 +9,14 @@ use lib.ListN.{length, getD}
 use mir.Facts.{yes-and}
 use Rattle.signs.specs.Grid.{grid, operate, setRows, setTable, operateBy}
 use Rattle.signs.specs.Lists.{anyOf, pairs}
-use Rattle.signs.specs.Number.{apply, compares}
+use Rattle.signs.specs.Number.{apply, compares, valueNumbers}
 use Rattle.signs.specs.Sign.{signOf, single, signs, has, setOf, members, unite, unionAll, added, removed}
 use Rattle.signs.specs.Truth.{truthsOf, among, compareSigns, compareSets, certain, negated, conjoined, andThen}
 use Rattle.signs.specs.declared.Comparison.{Comparison}
 use Rattle.signs.specs.declared.Operator.{Operator}
 use Rattle.signs.specs.declared.Sign.{Sign}
 use Rattle.signs.specs.declared.Truths.{Truths}
+use Rattle.signs.specs.declared.Value.{Value}
 use Rattle.signs.specs.declared.Value.the-variants.{Number}
 use Rattle.signs.proofs.Answers
 use Rattle.signs.proofs.Arithmetic
@@ -24,6 +25,7 @@ use Rattle.signs.proofs.Lists.{and-mono, or-mono, or-left, or-right}
 use Rattle.signs.proofs.Membership
 use Rattle.signs.proofs.Membership.{Within, somePair, pair-entry, pair-monotone}
 use Rattle.signs.proofs.Operate
+use Rattle.signs.proofs.Readback
 
 -- ---- Sets. A set above 7 is that of its remainder by 8; what an operation gives is below 8.
 
@@ -198,6 +200,13 @@ conjoined-monotone a a′ b b′ ha hb v h = subst (λ (t : Truths). T (among v 
 pub conjoined-assoc : (a b c : Truths) → conjoined (conjoined a b) c ≡ conjoined a (conjoined b c)
 conjoined-assoc = Answers.conjoined-assoc
 
+-- nor does true alone on either side
+pub certain-conjoined : (a : Truths) → conjoined certain a ≡ a
+certain-conjoined = Answers.certain-conjoined
+
+pub conjoined-certain : (a : Truths) → conjoined a certain ≡ a
+conjoined-certain = Answers.conjoined-certain
+
 -- the right side counts only where the left is true
 pub andThen-entry : (a b : Truths) (u v : Bool) → T (among u a) → (T u → T (among v b)) → T (among (u && v) (andThen a b))
 unfolding among andThen
@@ -211,3 +220,12 @@ andThen-monotone a a′ b b′ ha hb true = and-mono (a .holds) (b .holds) (a′
 andThen-monotone a a′ b b′ ha hb false =
     or-mono (a .fails) (a .holds && b .fails) (a′ .fails) (a′ .holds && b′ .fails) (ha false)
     (and-mono (a .holds) (b .fails) (a′ .holds) (b′ .fails) (ha true) (hb false))
+
+-- ---- Rows of numbers
+
+-- a value is fixed by its row alone; and a natural number out of a row of integers
+pub value-row : (v w : Value) → valueNumbers v ≡ valueNumbers w → v ≡ w
+value-row = Readback.value-row
+
+abbrev pub natural : ℤ → ℕ
+natural = Readback.natural

@@ -10,5 +10,6 @@ pub mod Answers
 pub mod Signs
 pub mod Arithmetic
 pub mod Compared
+pub mod Readback
 pub mod Laws
 pub mod Examples

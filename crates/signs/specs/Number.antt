@@ -72,3 +72,7 @@ unfoldable pub compares : Comparison → ℤ → ℤ → Bool
 compares Equal a b = equal a b
 compares Greater a b = ltZ b a
 compares AtLeast a b = leZ b a
+
+-- the row that an operator on two numbers answers
+unfoldable pub valueRow : Operator → ℤ → ℤ → List ℤ
+valueRow o a b = valueNumbers (apply o a b)

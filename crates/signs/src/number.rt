@@ -72,7 +72,7 @@ fn raised(a: i32, b: i32) -> Value
 // The value of an operator on two numbers.
 pub fn apply(operator: Operator, a: i32, b: i32) -> Value
     ensures { λ r. ⌜ r ≡ spec.apply operator a b ⌝ }
-    ensures numbers { λ r. ⌜ spec.valueNumbers r ≡ spec.valueNumbers (spec.apply operator a b) ⌝ }
+    ensures numbers { λ r. ⌜ spec.valueNumbers r ≡ spec.valueRow operator a b ⌝ }
 {
     let x = a as i64;
     let y = b as i64;

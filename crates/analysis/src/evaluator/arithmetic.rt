@@ -9,11 +9,11 @@ use signs::sets;
 ghost use mathlib.Core.Path.{_≡_};
 ghost use mathlib.Core.List.{List};
 ghost use Prim.Native.Nat.{ℕ};
-ghost use Rattle.program.specs.Prepared.{entriesIn};
+ghost use Rattle.program.specs.Parts.Prepared.{entriesIn};
 ghost use Rattle.program.specs.Tree.{arithBelow, arithTrees};
 ghost use Rattle.signs.specs.Sign as sign;
 ghost use Rattle.analysis.specs.Signs as spec;
-ghost use Rattle.analysis.specs.Tabled.{Tabled};
+ghost use Rattle.analysis.specs.Parts.Tabled.{Tabled};
 
 // The set of a number's sign.
 fn number_signs(z: i32) -> u8

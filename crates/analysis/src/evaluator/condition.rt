@@ -14,11 +14,11 @@ ghost use mathlib.Core.Path.{_≡_};
 ghost use mathlib.Core.List.{List};
 ghost use Prim.Native.Nat.{ℕ};
 ghost use Rattle.program.specs.Graph.{done};
-ghost use Rattle.program.specs.Prepared.{entriesIn};
+ghost use Rattle.program.specs.Parts.Prepared.{entriesIn};
 ghost use Rattle.program.specs.Tree.{arithAt, booleanBelow, booleanTrees, commandBelow, commandTrees};
 ghost use Rattle.signs.specs.Truth as answer;
 ghost use Rattle.analysis.specs.Signs as spec;
-ghost use Rattle.analysis.specs.Tabled.{Tabled};
+ghost use Rattle.analysis.specs.Parts.Tabled.{Tabled};
 
 // True alone.
 fn certain() -> Truths

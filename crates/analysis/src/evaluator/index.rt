@@ -17,12 +17,12 @@ ghost use mathlib.Core.Bool.{_||_};
 ghost use mathlib.Core.List.{List};
 ghost use Prim.Native.Nat.{ℕ};
 ghost use Rattle.program.specs.Graph.{done};
-ghost use Rattle.program.specs.Prepared.{entriesIn, decodedMeaning};
+ghost use Rattle.program.specs.Parts.Prepared.{entriesIn, decodedMeaning};
 ghost use Rattle.program.specs.Tree.{arithBelow, arithTrees, arithAt, booleanBelow, booleanTrees, commandBelow, commandTrees};
 ghost use Rattle.signs.specs.Sign.{has};
 ghost use Rattle.analysis.specs.Index as spec;
 ghost use Rattle.analysis.specs.Signs.{signsIn};
-ghost use Rattle.analysis.specs.Tabled.{Tabled};
+ghost use Rattle.analysis.specs.Parts.Tabled.{Tabled};
 
 // Whether the index at arithmetic entry `n`, a part of entry `bound`, may be negative.
 fn index_negative(code: &[u16; CODE], rho: &[u8; 32], bound: u16, n: u16) -> bool

@@ -17,13 +17,13 @@ ghost use mathlib.Core.Path.{_≡_};
 ghost use mathlib.Core.Bool.{cond};
 ghost use mathlib.Core.List.{List, [], _∷_};
 ghost use Prim.Native.Nat.{ℕ, _+_, _*_, _/_, _%_, _<_};
-ghost use Rattle.program.specs.Prepared.{entriesIn, decodedMeaning};
+ghost use Rattle.program.specs.Parts.Prepared.{entriesIn, decodedMeaning};
 ghost use Rattle.program.specs.Tree.{arithAt};
 ghost use Rattle.program.specs.Meaning as action;
 ghost use Rattle.signs.specs.Sign as sign;
-ghost use Rattle.analysis.specs.Changing.{packed, nameFor, Before, ResultsIn};
+ghost use Rattle.analysis.specs.Parts.Changing.{packed, nameFor, Before, ResultsIn};
 ghost use Rattle.analysis.specs.Results as spec;
-ghost use Rattle.analysis.specs.Tabled.{Tabled};
+ghost use Rattle.analysis.specs.Parts.Tabled.{Tabled};
 
 // A set before others, where it is to be there.
 fn before(set: u8, there: bool, others: u64) -> u64

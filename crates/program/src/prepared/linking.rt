@@ -3,8 +3,8 @@
 ghost use mathlib.Core.Path.{_≡_};
 ghost use Prim.Native.Nat.{_<_};
 ghost use lib.ListN.{length};
-ghost use Rattle.program.specs.LinkingParts as parts;
-ghost use Rattle.program.specs.Prepared.{nodesMost, edgesMost, graphLength, sourceIn};
+ghost use Rattle.program.specs.Parts.LinkingParts as parts;
+ghost use Rattle.program.specs.Parts.Prepared.{nodesMost, edgesMost, graphLength, sourceIn};
 use crate::prepared;
 use crate::prepared::FIRST;
 use crate::prepared::GRAPH;

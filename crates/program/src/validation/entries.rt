@@ -4,7 +4,8 @@
 ghost use mathlib.Core.Path.{_≡_};
 ghost use mathlib.Core.List.{List};
 ghost use Prim.Native.Nat.{ℕ};
-ghost use Rattle.program.specs.Checking as spec;
+ghost use Rattle.program.specs.Parts.Layouts;
+ghost use Rattle.program.specs.Parts.Checking as spec;
 ghost use Rattle.program.specs.File;
 ghost use Rattle.program.specs.Kind;
 ghost use Rattle.program.specs.Questions;
@@ -38,7 +39,7 @@ fn one_reference(
     at: usize,
     uses: &mut [u8; 1024],
 ) -> Validity
-    requires { ⌜ File.LaidOut (now s) l ⌝ }
+    requires { ⌜ Layouts.LaidOut (now s) l ⌝ }
     ensures { λ v. ⌜ ((t : Table) (n : ℕ) → limit ≡ Questions.limit (now (s .entry)) t n (Kind.tableOf sort) → spec.Standing (now (s .entry)) t n e at
         → Kind.shape t (e .kind) ≡ Kind.with (Kind.To sort) Kind.Unused Kind.Unused
         → spec.EntryChecked (now (s .entry)) t n (now (uses .entry)) (now (uses .exit)) v) ⌝ }
@@ -59,7 +60,7 @@ fn two_references(
     at: usize,
     uses: &mut [u8; 1024],
 ) -> Validity
-    requires { ⌜ File.LaidOut (now s) l ⌝ }
+    requires { ⌜ Layouts.LaidOut (now s) l ⌝ }
     ensures { λ v. ⌜ ((t : Table) (n : ℕ) → limit ≡ Questions.limit (now (s .entry)) t n (Kind.tableOf sort) → spec.Standing (now (s .entry)) t n e at
         → Kind.shape t (e .kind) ≡ Kind.with (Kind.To sort) (Kind.To sort) Kind.Unused
         → spec.EntryChecked (now (s .entry)) t n (now (uses .entry)) (now (uses .exit)) v) ⌝ }
@@ -79,7 +80,7 @@ fn check_arithmetic(
     at: usize,
     uses: &mut [u8; 1024],
 ) -> Validity
-    requires { ⌜ File.LaidOut (now s) l × spec.Standing (now s) Table.Arithmetic n e at ⌝ }
+    requires { ⌜ Layouts.LaidOut (now s) l × spec.Standing (now s) Table.Arithmetic n e at ⌝ }
     ensures { λ v. ⌜ spec.EntryChecked (now (s .entry)) Table.Arithmetic n (now (uses .entry)) (now (uses .exit)) v ⌝ }
 {
     let names = l.names;
@@ -119,7 +120,7 @@ fn check_boolean(
     at: usize,
     uses: &mut [u8; 1024],
 ) -> Validity
-    requires { ⌜ File.LaidOut (now s) l × spec.Standing (now s) Table.Boolean n e at ⌝ }
+    requires { ⌜ Layouts.LaidOut (now s) l × spec.Standing (now s) Table.Boolean n e at ⌝ }
     ensures { λ v. ⌜ spec.EntryChecked (now (s .entry)) Table.Boolean n (now (uses .entry)) (now (uses .exit)) v ⌝ }
 {
     let expressions = l.arithmetic;
@@ -146,7 +147,7 @@ fn check_command(
     at: usize,
     uses: &mut [u8; 1024],
 ) -> Validity
-    requires { ⌜ File.LaidOut (now s) l × spec.Standing (now s) Table.Commands n e at ⌝ }
+    requires { ⌜ Layouts.LaidOut (now s) l × spec.Standing (now s) Table.Commands n e at ⌝ }
     ensures { λ v. ⌜ spec.EntryChecked (now (s .entry)) Table.Commands n (now (uses .entry)) (now (uses .exit)) v ⌝ }
 {
     let names = l.names;
@@ -196,7 +197,7 @@ pub(super) fn check_entry(
     n: u16,
     uses: &mut [u8; 1024],
 ) -> Validity
-    requires { ⌜ File.LaidOut (now s) l × (start ≡ File.tableStart (now s) table) ⌝ }
+    requires { ⌜ Layouts.LaidOut (now s) l × (start ≡ File.tableStart (now s) table) ⌝ }
     ensures { λ v. ⌜ spec.EntryChecked (now (s .entry)) table n (now (uses .entry)) (now (uses .exit)) v ⌝ }
 {
     let at = start + 7 * file::long(n);

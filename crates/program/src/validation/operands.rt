@@ -6,7 +6,8 @@ ghost use mathlib.Core.Bool.{not};
 ghost use mathlib.Core.List.{List, [], _∷_};
 ghost use Prim.Native.Nat.{ℕ};
 ghost use Rattle.program.specs.Asking;
-ghost use Rattle.program.specs.Checking as spec;
+ghost use Rattle.program.specs.Parts.Layouts;
+ghost use Rattle.program.specs.Parts.Checking as spec;
 ghost use Rattle.program.specs.File;
 ghost use Rattle.program.specs.Kind;
 ghost use Rattle.program.specs.Questions;
@@ -54,7 +55,7 @@ pub(super) fn array(s: &[u8], names: u16, x: u16) -> u8
 
 // The kind of command entry `n`.
 fn command_kind(s: &[u8], l: Layout, n: u16) -> u8
-    requires { ⌜ File.LaidOut (now s) l ⌝ }
+    requires { ⌜ Layouts.LaidOut (now s) l ⌝ }
     ensures { λ r. ⌜ r ≡ File.entry (now (s .entry)) Table.Commands n .kind ⌝ }
 {
     let span = l.commands;
@@ -63,7 +64,7 @@ fn command_kind(s: &[u8], l: Layout, n: u16) -> u8
 
 // Whether entry `x` of a sort's table is of that sort.
 fn of_sort(s: &[u8], l: Layout, sort: Sort, x: u16) -> bool
-    requires { ⌜ File.LaidOut (now s) l ⌝ }
+    requires { ⌜ Layouts.LaidOut (now s) l ⌝ }
     ensures { λ r. ⌜ r ≡ Questions.ofSort (now (s .entry)) sort x ⌝ }
 {
     match sort {
@@ -83,7 +84,7 @@ pub(super) fn reference(
     x: u16,
     uses: &mut [u8; 1024],
 ) -> u8
-    requires { ⌜ File.LaidOut (now s) l ⌝ }
+    requires { ⌜ Layouts.LaidOut (now s) l ⌝ }
     ensures { λ r. ⌜ ((t : Table) (n : ℕ) → limit ≡ Questions.limit (now (s .entry)) t n (Kind.tableOf sort)
         → spec.OperandChecked (now (s .entry)) t n (Kind.To sort) x (now (uses .entry)) (now (uses .exit)) r) ⌝ }
 {

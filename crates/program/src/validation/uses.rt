@@ -3,7 +3,7 @@
 ghost use mathlib.Core.Path.{_≡_};
 ghost use Prim.Native.Nat.{_<_, _+_, min};
 ghost use lib.ListN.{length, getD, set};
-ghost use Rattle.program.specs.Counting as spec;
+ghost use Rattle.program.specs.Parts.Counting as spec;
 ghost use Rattle.program.specs.Kind;
 ghost use Rattle.program.specs.Questions;
 use crate::Sort;

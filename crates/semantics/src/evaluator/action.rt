@@ -23,10 +23,10 @@ ghost use lib.Dec.{T};
 ghost use lib.IntN.{pos, natAbs};
 ghost use lib.Signed.{leZ};
 ghost use Rattle.program.specs.Meaning.{assigns, stores};
-ghost use Rattle.program.specs.Prepared as made;
+ghost use Rattle.program.specs.Parts.Prepared as made;
 ghost use Rattle.program.specs.Tree.{arithAt};
 ghost use Rattle.semantics.specs.Action as spec;
-ghost use Rattle.semantics.specs.Coding as coding;
+ghost use Rattle.semantics.specs.Parts.Coding as coding;
 ghost use Rattle.semantics.specs.Expression as expression;
 
 // The reason with a number of document 01.

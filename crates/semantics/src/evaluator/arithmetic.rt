@@ -9,9 +9,9 @@ use program::prepared;
 use program::prepared::CODE;
 ghost use mathlib.Core.List.{List};
 ghost use Prim.Native.Nat.{ℕ};
-ghost use Rattle.program.specs.Prepared.{entriesIn};
+ghost use Rattle.program.specs.Parts.Prepared.{entriesIn};
 ghost use Rattle.program.specs.Tree.{arithBelow, arithTrees};
-ghost use Rattle.semantics.specs.Coding.{ValueIn};
+ghost use Rattle.semantics.specs.Parts.Coding.{ValueIn};
 
 // The value of arithmetic entry `n`, a part of entry `bound`, as one number.
 pub(crate) fn value(code: &[u16; CODE], memory: &[i32; MEMORY], bound: u16, n: u16) -> i64

@@ -15,10 +15,10 @@ use signs::Comparison;
 ghost use mathlib.Core.List.{List};
 ghost use Prim.Native.Nat.{ℕ};
 ghost use Rattle.program.specs.Graph.{done};
-ghost use Rattle.program.specs.Prepared.{entriesIn};
+ghost use Rattle.program.specs.Parts.Prepared.{entriesIn};
 ghost use Rattle.program.specs.Syntax as syntax;
 ghost use Rattle.program.specs.Tree.{arithAt, booleanBelow, booleanTrees, commandBelow, commandTrees};
-ghost use Rattle.semantics.specs.Coding.{TruthIn};
+ghost use Rattle.semantics.specs.Parts.Coding.{TruthIn};
 
 // A comparison of two arithmetic entries, as one number.
 fn comparison(code: &[u16; CODE], memory: &[i32; MEMORY], o: Comparison, p: u16, q: u16) -> i64

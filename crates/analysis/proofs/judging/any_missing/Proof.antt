@@ -6,7 +6,7 @@ use borrow.Author.Needs.{needs}
 use borrow.Author.Tests.{not-true, not-false}
 use lib.ListN.{length}
 use native.Mathlib.Omega.{arith}
-use Rattle.analysis.specs.Judging.{Filled, ReadInto}
+use Rattle.analysis.specs.Parts.Judging.{Filled, ReadInto}
 use Rattle.analysis.proofs.Searching.{SomeMissing, none-left, one-missing, one-listed}
 use Rattle.analysis.proofs.judging.any_missing.Statement.{statement}
 use Rattle.analysis.proofs.judging.any_missing.Tie as tie

@@ -5,7 +5,7 @@ use mathlib.Core.Bool.{false≢true}
 use mathlib.Core.Path.{sym, _∙_}
 use native.Mathlib.Decide.{ℕ-discrete}
 use native.Mathlib.Omega.{arith}
-use Rattle.analysis.specs.Judging.{widest, NeverNegative}
+use Rattle.analysis.specs.Parts.Judging.{widest, NeverNegative}
 use Rattle.analysis.proofs.judging.ever_negative.Statement.{statement}
 use Rattle.analysis.proofs.judging.ever_negative.Tie as tie
 

@@ -3,7 +3,7 @@ use Prim.Native.Nat.{_-_, _<_}
 use borrow.Author.Needs.{needs}
 use mathlib.Core.Path.{sym, _∙_}
 use native.Mathlib.Omega.{arith}
-use Rattle.program.specs.Prepared.{Following}
+use Rattle.program.specs.Parts.Prepared.{Following}
 use Rattle.program.proofs.Laws.{first-is-followed, next-is-followed, next-is-beyond}
 use Rattle.analysis.proofs.Searching.{Unpicked, picked-here, none-picked}
 use Rattle.analysis.proofs.judging.first_picked.Statement.{statement}

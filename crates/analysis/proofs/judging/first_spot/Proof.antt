@@ -6,7 +6,7 @@ use borrow.Author.Needs.{needs}
 use native.Mathlib.Numerals.{add-one}
 use native.Mathlib.Omega.{arith}
 use Rattle.program.specs.Graph.{Graph}
-use Rattle.analysis.specs.Judging.{Searched}
+use Rattle.analysis.specs.Parts.Judging.{Searched}
 use Rattle.analysis.specs.Records.{recordCount, recordWidth}
 use Rattle.analysis.proofs.Judged.{ready-names}
 use Rattle.analysis.proofs.Searching.{NowhereTo, nowhere-none, spot-here, spot-beyond, spot-nowhere}

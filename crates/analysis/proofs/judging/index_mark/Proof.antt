@@ -3,14 +3,15 @@ use borrow.Author.Needs.{needs}
 use Prim.Native.Nat.{ℕ}
 use mathlib.Core.List.{List}
 use mathlib.Core.Path.{_≡_, ap, sym, _∙_}
-use Rattle.analysis.specs.Verdict.{marking, markingNumbers}
+use Rattle.analysis.specs.Verdict.{marking, markingNumbers, markRow}
 use Rattle.analysis.specs.declared.Marking.{Marking}
 use Rattle.analysis.proofs.Judged.{ready, still, marking-refused, marking-marked}
 use Rattle.analysis.proofs.judging.index_mark.Statement.{statement}
 use Rattle.analysis.proofs.judging.index_mark.Tie as tie
 
 -- the two clauses of the contract
-whole : (s solution : List ℕ) {r : Marking} → r ≡ marking s solution → (r ≡ marking s solution) × (markingNumbers r ≡ markingNumbers (marking s solution))
+whole : (s solution : List ℕ) {r : Marking} → r ≡ marking s solution → (r ≡ marking s solution) × (markingNumbers r ≡ markRow s solution)
+unfolding markRow
 whole s solution k = (k, ap markingNumbers k)
 
 put-requires : tie.Need-put-requires

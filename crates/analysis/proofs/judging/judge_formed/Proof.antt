@@ -1,7 +1,7 @@
 -- `judging::judge_formed`: the solution is indexed, then 41, then 42 and the index mark.
 use borrow.Author.Needs.{needs}
 use mathlib.Core.Path.{refl, sym, _∙_}
-use Rattle.analysis.specs.Judging.{found}
+use Rattle.analysis.specs.Parts.Judging.{formedVerdict}
 use Rattle.analysis.specs.Verdict.{verdictBy}
 use Rattle.analysis.proofs.Judged.{few-records, ready-names}
 use Rattle.analysis.proofs.judging.judge_formed.Statement.{statement}
@@ -29,13 +29,13 @@ judge-results-requires c κs =
     record { ready = s .pre .0; whole = s .pre .2; count = _; indexed = rw (n .name-count .ensures) at (i .put-index .ensures) }
 
 returns : tie.Need-returns
-unfolding found verdictBy
+unfolding formedVerdict verdictBy
 returns c ns g p fit =
     let f = c .before .before .before in
     rw (sym (f .first-initial .ensures ns (sym (f .before .before .before .before .name-count .ensures ∙ p .coded .count))) ∙ c .before .missing .given .1)
 
 returns-2 : tie.Need-returns-2
-unfolding found verdictBy
+unfolding formedVerdict verdictBy
 returns-2 c ns g p fit =
     let told = c .before .before in
     let f = told .before .before in

@@ -3,10 +3,10 @@ use borrow.Author.Needs.{needs}
 use mathlib.Core.List.{List}
 use mathlib.Core.Path.{_≡_, sym, _∙_}
 use Prim.Native.Nat.{ℕ}
-use Rattle.program.specs.Prepared.{Coded}
-use Rattle.analysis.specs.Judging.{found}
+use Rattle.program.specs.Parts.Prepared.{Coded}
+use Rattle.analysis.specs.Parts.Judging.{formedVerdict}
 use Rattle.analysis.specs.Records.{bothWhole}
-use Rattle.analysis.specs.Verdict.{judged, unlessRefused, unlessMalformed}
+use Rattle.analysis.specs.Verdict.{verdictOver, verdictUnlessRefused, unlessMalformed}
 use Rattle.analysis.proofs.Judged.{both-asked, both-whole}
 use Rattle.analysis.proofs.judging.judge_prepared.Statement.{statement}
 use Rattle.analysis.proofs.judging.judge_prepared.Tie as tie
@@ -24,11 +24,11 @@ judge-formed-requires c κs =
     (n .before .before .before .pre, rw (← n .name-count .ensures) (whole .0), rw (← n .name-count .ensures) (whole .1))
 
 returns : tie.Need-returns
-unfolding judged unlessRefused
+unfolding verdictOver verdictUnlessRefused
 returns c ns g p = rw (asked (c .before .before .before) (p .coded) ∙ c .before .whole .given .1)
 
 returns-2 : tie.Need-returns-2
-unfolding judged unlessRefused unlessMalformed
+unfolding verdictOver verdictUnlessRefused unlessMalformed
 returns-2 c ns g p =
     let first = c .before .before in
     let f = first .before .before in
@@ -36,7 +36,7 @@ returns-2 c ns g p =
     rw (asked (told .before .before) (p .coded) ∙ told .enum-told .given .1, sym (f .initial-formed .ensures ns (p .coded)) ∙ first .first .given .1, c .malformed .ensures)
 
 returns-3 : tie.Need-returns-3
-unfolding judged unlessRefused unlessMalformed found
+unfolding verdictOver verdictUnlessRefused unlessMalformed formedVerdict
 returns-3 c ns g p =
     let second = c .before .before .before in
     let first = second .before .before in
@@ -46,7 +46,7 @@ returns-3 c ns g p =
     rw (asked (told .before .before) (p .coded) ∙ told .enum-told .given .1, sym (f .initial-formed .ensures ns (p .coded)) ∙ first .enum-told2 .given .1, formed) (c .judge-formed .ensures ns g p formed)
 
 returns-4 : tie.Need-returns-4
-unfolding judged unlessRefused unlessMalformed
+unfolding verdictOver verdictUnlessRefused unlessMalformed
 returns-4 c ns g p =
     let refused = c .before .before in
     let second = refused .before .before in

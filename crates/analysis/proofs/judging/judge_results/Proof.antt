@@ -1,7 +1,7 @@
 -- `judging::judge_results`: the first result that is missing, or the index mark.
 use borrow.Author.Needs.{needs}
 use mathlib.Core.Path.{refl, ap, sym, _∙_}
-use Rattle.analysis.specs.Judging.{picks, anyMissing}
+use Rattle.analysis.specs.Parts.Judging.{picks, anyMissing}
 use Rattle.analysis.specs.Verdict.{missingResult, verdictBy}
 use Rattle.analysis.specs.declared.Verdict.the-variants.{Accepted}
 use Rattle.analysis.proofs.judging.judge_results.Statement.{statement}

@@ -1,7 +1,7 @@
 -- `judging::mark_of`: what is found, or nothing.
 use borrow.Author.Needs.{needs}
 use mathlib.Core.Path.{sym, ap, _∙_}
-use Rattle.analysis.specs.Judging.{picks}
+use Rattle.analysis.specs.Parts.Judging.{picks}
 use Rattle.analysis.specs.Verdict.{markOf, indexMark}
 use Rattle.analysis.proofs.Widest.{none-negative}
 use Rattle.analysis.proofs.judging.mark_of.Statement.{statement}

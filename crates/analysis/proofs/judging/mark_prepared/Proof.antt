@@ -4,8 +4,8 @@ use mathlib.Core.List.{List}
 use mathlib.Core.Path.{_≡_, sym, _∙_}
 use Prim.Native.Nat.{ℕ}
 use Rattle.program.specs.Asking.{askPlain}
-use Rattle.program.specs.Prepared.{Coded}
-use Rattle.analysis.specs.Judging.{marked}
+use Rattle.program.specs.Parts.Prepared.{Coded}
+use Rattle.analysis.specs.Parts.Judging.{marked}
 use Rattle.analysis.specs.Records.{recordWidth, wholeRecords}
 use Rattle.analysis.specs.Verdict.{markingBy}
 use Rattle.analysis.proofs.Judged.{list-asked, list-whole}

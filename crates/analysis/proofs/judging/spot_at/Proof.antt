@@ -6,7 +6,7 @@ use native.Mathlib.Omega.{arith}
 use mathlib.Core.List.{List}
 use mathlib.Core.Path.{_≡_}
 use Rattle.program.specs.Graph.{Graph}
-use Rattle.analysis.specs.Judging.{spotOf, namesIn, Searched}
+use Rattle.analysis.specs.Parts.Judging.{spotOf, namesIn, Searched}
 use Rattle.analysis.specs.Records.{recordCount}
 use Rattle.analysis.specs.Verdict.{spotAt}
 use Rattle.analysis.proofs.Judged.{ready-names}

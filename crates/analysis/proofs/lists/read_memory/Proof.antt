@@ -4,7 +4,7 @@ use mathlib.Core.Path.{refl, sym}
 use Prim.Native.Nat.{_≤_, _-_}
 use native.Mathlib.Omega.{arith}
 use Rattle.analysis.proofs.Filling.{Filled, filled-none, filled-next, filled-rest, filled-all}
-use Rattle.analysis.specs.RecordParts.{padded}
+use Rattle.analysis.specs.Parts.RecordParts.{padded}
 use Rattle.analysis.proofs.Hashes.{padded-at, padded-past, padded-length}
 use Rattle.analysis.proofs.lists.read_memory.Statement.{statement}
 use Rattle.analysis.proofs.lists.read_memory.Tie as tie

@@ -5,7 +5,7 @@ use lib.Dec.{ltb}
 use Rattle.program.specs.Asking.{ask}
 use Rattle.program.specs.File.{wordAt}
 use Rattle.program.proofs.Laws.{stops, goes-on}
-use Rattle.analysis.specs.RecordParts.{recordFormed}
+use Rattle.analysis.specs.Parts.RecordParts.{recordFormed}
 use Rattle.analysis.proofs.lists.record_formed.Statement.{statement}
 use Rattle.analysis.proofs.lists.record_formed.Tie as tie
 

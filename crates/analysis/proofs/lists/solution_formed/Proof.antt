@@ -9,10 +9,10 @@ use native.Mathlib.Omega.{arith}
 use lib.ListN.{length}
 use Rattle.program.specs.Asking.{askEach}
 use Rattle.program.specs.FirstSuch.{firstOf}
-use Rattle.program.specs.Prepared.{Coded}
+use Rattle.program.specs.Parts.Prepared.{Coded}
 use Rattle.program.specs.declared.Validity.the-variants.{Fit}
 use Rattle.program.proofs.Laws.{each-stops, each-goes-on}
-use Rattle.analysis.specs.RecordParts.{SizesIn, recordFormed}
+use Rattle.analysis.specs.Parts.RecordParts.{SizesIn, recordFormed}
 use Rattle.analysis.proofs.Laid.{record-inside, solution-asked, sizes-in}
 use Rattle.analysis.proofs.lists.solution_formed.Statement.{statement}
 use Rattle.analysis.proofs.lists.solution_formed.Tie as tie

@@ -8,7 +8,7 @@ use mathlib.Core.Path.{_≡_, refl, ap, _∙_}
 use native.Mathlib.Nat.{le-antisymm}
 use native.Mathlib.Numerals.{add-one}
 use native.Mathlib.Omega.{arith}
-use Rattle.analysis.specs.Membership as spec
+use Rattle.analysis.specs.Parts.Membership as spec
 use Rattle.analysis.proofs.Hashes.{part-at, bit-small}
 use Rattle.analysis.proofs.membership.agreeing.Statement.{statement}
 use Rattle.analysis.proofs.membership.agreeing.Tie as tie

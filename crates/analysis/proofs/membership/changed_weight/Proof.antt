@@ -4,7 +4,7 @@ use borrow.Author.Needs.{needs}
 use lib.ListN.{getD}
 use mathlib.Core.Path.{_≡_, ap, _∙_}
 use native.Mathlib.Omega.{arith}
-use Rattle.analysis.specs.Membership.{factor}
+use Rattle.analysis.specs.Parts.Membership.{factor}
 use Rattle.analysis.proofs.Hashes.{weighted-term, sum-changed, sum-kept}
 use Rattle.analysis.proofs.membership.changed_weight.Statement.{statement}
 use Rattle.analysis.proofs.membership.changed_weight.Tie as tie

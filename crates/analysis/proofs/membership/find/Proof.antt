@@ -2,7 +2,7 @@
 use Prim.Native.Nat.{ℕ, _+_, _<_}
 use borrow.Author.Needs.{needs}
 use native.Mathlib.Omega.{arith}
-use Rattle.analysis.specs.Membership.{changed, Sought}
+use Rattle.analysis.specs.Parts.Membership.{changed, Sought}
 use Rattle.analysis.specs.Records.{recordAt}
 use Rattle.analysis.proofs.Chains.{Walked, There, hash-small, walked-first, walked-there, walked-on, found-here, found-nowhere}
 use Rattle.analysis.proofs.membership.find.Statement.{statement}

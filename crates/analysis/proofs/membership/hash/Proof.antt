@@ -1,6 +1,6 @@
 -- `membership::hash`: the node's terms and the memory's.
 use borrow.Author.Needs.{needs}
-use Rattle.analysis.specs.Membership.{spread}
+use Rattle.analysis.specs.Parts.Membership.{spread}
 use Rattle.analysis.proofs.membership.hash.Statement.{statement}
 use Rattle.analysis.proofs.membership.hash.Tie as tie
 

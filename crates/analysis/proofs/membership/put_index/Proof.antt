@@ -5,7 +5,7 @@ use lib.ListN.{length}
 use native.Mathlib.Nat.{mul-suc, mul-div-le, le-antisymm}
 use native.Mathlib.Numerals.{add-one}
 use native.Mathlib.Omega.{arith}
-use Rattle.analysis.specs.Membership.{Indexed}
+use Rattle.analysis.specs.Parts.Membership.{Indexed}
 use Rattle.analysis.specs.Records.{recordAt, recordCount}
 use Rattle.analysis.proofs.Chains.{record-inside, bucket-small}
 use Rattle.analysis.proofs.membership.put_index.Statement.{statement}

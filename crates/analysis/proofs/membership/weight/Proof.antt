@@ -5,8 +5,8 @@ use mathlib.Core.Path.{_≡_, refl, ap, _∙_}
 use native.Mathlib.Nat.{le-antisymm}
 use native.Mathlib.Numerals.{add-one}
 use native.Mathlib.Omega.{arith}
-use Rattle.analysis.specs.Membership.{weighted}
-use Rattle.analysis.specs.RecordParts.{padded}
+use Rattle.analysis.specs.Parts.Membership.{weighted}
+use Rattle.analysis.specs.Parts.RecordParts.{padded}
 use Rattle.analysis.proofs.Hashes.{padded-at, padded-length}
 use Rattle.analysis.proofs.membership.weight.Statement.{statement}
 use Rattle.analysis.proofs.membership.weight.Tie as tie

@@ -4,7 +4,7 @@ use Prim.Native.Nat.{_≤_}
 use native.Mathlib.Omega.{arith}
 use borrow.Author.Needs.{needs}
 use lib.ListN.{length}
-use Rattle.program.specs.Prepared.{tablePlace}
+use Rattle.program.specs.Parts.Prepared.{tablePlace}
 use Rattle.analysis.proofs.Tables.{code-long, table-read}
 use Rattle.analysis.proofs.set_table.operate.Statement.{statement}
 use Rattle.analysis.proofs.set_table.operate.Tie as tie

@@ -7,7 +7,7 @@ use native.Mathlib.Omega.{arith}
 use borrow.Author.Needs.{needs}
 use lib.ListN.{getD}
 use lib.Seq.{paste, paste-zero, paste-suc}
-use Rattle.program.specs.Prepared.{tablePlace}
+use Rattle.program.specs.Parts.Prepared.{tablePlace}
 use Rattle.signs.specs.Grid.{setTable}
 use Rattle.signs.proofs.Laws.{table-rows, table-small, table-long}
 use Rattle.analysis.proofs.Tables.{table-put}

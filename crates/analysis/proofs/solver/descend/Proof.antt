@@ -6,10 +6,10 @@ use mathlib.Core.List.{List}
 use Prim.Native.Nat.{ℕ, _+_, _-_, _<_}
 use native.Mathlib.Omega.{arith}
 use Rattle.program.specs.Graph.{Graph}
-use Rattle.program.specs.Prepared.{Prepared}
-use Rattle.analysis.specs.Judging.{namesIn}
+use Rattle.program.specs.Parts.Prepared.{Prepared}
+use Rattle.analysis.specs.Parts.Judging.{namesIn}
 use Rattle.analysis.specs.Solver.{descend}
-use Rattle.analysis.specs.Solving.{foundIn, Extended}
+use Rattle.analysis.specs.Parts.Solving.{foundIn, Extended}
 use Rattle.analysis.proofs.Descending.{descended-start, descended-more, descended-end, descended-full}
 use Rattle.analysis.proofs.Growing.{extended-none, extended-more, found-count, found-full}
 use Rattle.analysis.proofs.solver.descend.Statement.{statement}

@@ -5,10 +5,10 @@ use mathlib.Core.List.{List}
 use Prim.Native.Nat.{ℕ, _+_, _<_}
 use native.Mathlib.Omega.{arith}
 use lib.ListN.{length, set}
-use Rattle.analysis.specs.Judging.{ReadInto}
-use Rattle.analysis.specs.Membership.{changed, Sought}
+use Rattle.analysis.specs.Parts.Judging.{ReadInto}
+use Rattle.analysis.specs.Parts.Membership.{changed, Sought}
 use Rattle.analysis.specs.Records.{listed}
-use Rattle.analysis.specs.Solving.{foundIn}
+use Rattle.analysis.specs.Parts.Solving.{foundIn}
 use Rattle.analysis.proofs.Chains.{bucket-small}
 use Rattle.analysis.proofs.Growing.{extended-none, extended-full, extended-put, put-fits, found-put, found-full, found-none, found-count, offer-full, offer-listed, offer-none, offer-more, listed-told, width-of}
 use Rattle.analysis.proofs.Laid.{changed-record, changed-sized}

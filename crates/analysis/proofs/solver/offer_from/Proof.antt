@@ -5,10 +5,10 @@ use mathlib.Core.List.{List}
 use Prim.Native.Nat.{_+_, _*_, _≤_}
 use native.Mathlib.Omega.{arith}
 use lib.ListN.{length, getD}
-use Rattle.program.specs.Prepared.{Coded, nameCountPlace}
-use Rattle.analysis.specs.Judging.{ReadInto}
+use Rattle.program.specs.Parts.Prepared.{Coded, nameCountPlace}
+use Rattle.analysis.specs.Parts.Judging.{ReadInto}
 use Rattle.analysis.specs.Records.{recordAt, memoryOf}
-use Rattle.analysis.specs.Solving.{Growing}
+use Rattle.analysis.specs.Parts.Solving.{Growing}
 use Rattle.analysis.proofs.Chains.{record-inside}
 use Rattle.analysis.proofs.Descending.{record-offered}
 use Rattle.analysis.proofs.Laid.{memory-reads}

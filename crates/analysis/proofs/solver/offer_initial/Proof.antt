@@ -9,10 +9,10 @@ use native.Mathlib.Omega.{arith}
 use lib.ListN.{length}
 use lib.Seq.{set-out}
 use Rattle.signs.specs.Lists.{tabulate}
-use Rattle.analysis.specs.Judging.{ReadInto}
+use Rattle.analysis.specs.Parts.Judging.{ReadInto}
 use Rattle.analysis.specs.Records.{recordAt}
 use Rattle.analysis.specs.Solver.{offer}
-use Rattle.analysis.specs.Solving.{foundIn, Extended}
+use Rattle.analysis.specs.Parts.Solving.{foundIn, Extended}
 use Rattle.analysis.proofs.Growing.{extended-none, extended-more, tabulated-more, starts-all}
 use Rattle.analysis.proofs.Laid.{start-reads, record-inside}
 use Rattle.analysis.proofs.solver.offer_initial.Statement.{statement}

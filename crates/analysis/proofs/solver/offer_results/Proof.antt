@@ -5,10 +5,10 @@ use mathlib.Core.List.{List, foldl, map}
 use Prim.Native.Nat.{ℕ, _+_, _/_, _%_, _<_}
 use native.Mathlib.Omega.{arith}
 use lib.ListN.{length, set}
-use Rattle.analysis.specs.Changing.{setsOf}
-use Rattle.analysis.specs.Judging.{ReadInto}
+use Rattle.analysis.specs.Parts.Changing.{setsOf}
+use Rattle.analysis.specs.Parts.Judging.{ReadInto}
 use Rattle.analysis.specs.Solver.{offer}
-use Rattle.analysis.specs.Solving.{foundIn, Extended}
+use Rattle.analysis.specs.Parts.Solving.{foundIn, Extended}
 use Rattle.analysis.proofs.Growing.{extended-none, extended-more, sets-more, sets-end}
 use Rattle.analysis.proofs.solver.offer_results.Statement.{statement}
 use Rattle.analysis.proofs.solver.offer_results.Tie as tie

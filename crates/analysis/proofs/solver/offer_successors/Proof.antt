@@ -6,11 +6,11 @@ use Prim.Native.Nat.{ℕ, _+_, _-_, _<_, min}
 use native.Mathlib.Omega.{arith}
 use lib.ListN.{length, getD}
 use Rattle.program.specs.Graph.{Graph}
-use Rattle.program.specs.Prepared.{Prepared, sourceIn, edgeCountPlace}
+use Rattle.program.specs.Parts.Prepared.{Prepared, sourceIn, edgeCountPlace}
 use Rattle.program.proofs.Laws.{next-is-beyond}
-use Rattle.analysis.specs.Judging.{ReadInto, namesIn}
+use Rattle.analysis.specs.Parts.Judging.{ReadInto, namesIn}
 use Rattle.analysis.specs.Solver.{offerResults}
-use Rattle.analysis.specs.Solving.{foundIn, along, Extended}
+use Rattle.analysis.specs.Parts.Solving.{foundIn, along, Extended}
 use Rattle.analysis.proofs.Descending.{first-leaves, next-leaves, first-along, next-along, all-along}
 use Rattle.analysis.proofs.Growing.{extended-none, extended-more}
 use Rattle.analysis.proofs.solver.offer_successors.Statement.{statement}

@@ -4,7 +4,7 @@ use mathlib.Core.List.{List}
 use mathlib.Core.Path.{_≡_, sym, _∙_}
 use Prim.Native.Nat.{ℕ}
 use native.Mathlib.Omega.{arith}
-use Rattle.program.specs.Prepared.{Coded}
+use Rattle.program.specs.Parts.Prepared.{Coded}
 use Rattle.analysis.specs.Records.{initialWhole}
 use Rattle.analysis.proofs.Answering.{whole-asked, answered-asked, answered-formed, answered-refused, answered-malformed}
 use Rattle.analysis.proofs.Judged.{ready-names}

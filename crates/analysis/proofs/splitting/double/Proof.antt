@@ -7,7 +7,7 @@ use native.Mathlib.Omega.{arith}
 use Rattle.signs.specs.Lists.{tabulate}
 use Rattle.analysis.proofs.Filling.{Filled, filled-none, filled-next}
 use Rattle.program.proofs.Lists.{length-tabulate, getD-tabulate}
-use Rattle.analysis.specs.Doubling as spec
+use Rattle.analysis.specs.Parts.Doubling as spec
 use Rattle.analysis.proofs.Doubling.{few-doublings, doubled-positive}
 use Rattle.analysis.proofs.splitting.double.Statement.{statement}
 use Rattle.analysis.proofs.splitting.double.Tie as tie

@@ -9,14 +9,14 @@ use Rattle.program.specs.Questions.{validity}
 use Rattle.program.specs.declared.Validity.{Validity}
 use Rattle.program.proofs.Laws.{sizes-length}
 use Rattle.analysis.specs.Records.{recordWidth}
-use Rattle.analysis.specs.Splitter.{splitBy, split, splitNumbers}
+use Rattle.analysis.specs.Splitter.{splitBy, split, splitNumbers, splitRow}
 use Rattle.analysis.specs.declared.Split.{Split}
 use Rattle.analysis.proofs.splitting.split.Statement.{statement}
 use Rattle.analysis.proofs.splitting.split.Tie as tie
 
 -- the two clauses of the contract
-both : (s : List ℕ) (place : ℕ) {v : Validity} {r : Split} → validity s ≡ v → r ≡ splitBy v (recordWidth (sizes s)) place → (r ≡ split s place) × (splitNumbers r ≡ splitNumbers (split s place))
-unfolding split
+both : (s : List ℕ) (place : ℕ) {v : Validity} {r : Split} → validity s ≡ v → r ≡ splitBy v (recordWidth (sizes s)) place → (r ≡ split s place) × (splitNumbers r ≡ splitRow s place)
+unfolding split splitRow
 both s place e p =
     let q = p ∙ ap (λ (v : Validity). splitBy v (recordWidth (sizes s)) place) (sym e) in
     (q, ap splitNumbers q)

@@ -5,7 +5,7 @@ use lib.Dec.{leb}
 use lib.ListN.{getD}
 use mir.Val.{boolByte}
 use native.Mathlib.Omega.{arith}
-use Rattle.analysis.specs.Doubling.{takenOff}
+use Rattle.analysis.specs.Parts.Doubling.{takenOff}
 use Rattle.analysis.specs.Splitter.{splitBy}
 use Rattle.analysis.proofs.Doubling.{Off, none-off, one-less, all-off, few-off}
 use Rattle.analysis.proofs.splitting.split_by.Statement.{statement}

@@ -2,7 +2,7 @@
 use borrow.Author.Needs.{needs}
 use borrow.Author.Tests.{le-leb, lt-leb}
 use native.Mathlib.Omega.{arith}
-use Rattle.analysis.specs.Doubling.{takenOff}
+use Rattle.analysis.specs.Parts.Doubling.{takenOff}
 use Rattle.analysis.proofs.splitting.take_off.Statement.{statement}
 use Rattle.analysis.proofs.splitting.take_off.Tie as tie
 

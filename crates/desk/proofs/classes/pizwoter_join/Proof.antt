@@ -2,7 +2,7 @@
 use borrow.Author.Needs.{needs}
 use mathlib.Core.Path.{_≡_, ap, _∙_}
 use Rattle.figures.proofs.Limits.{handed, handed-is}
-use Rattle.figures.specs.Figures.{joinFigures, figuresNumbers}
+use Rattle.figures.specs.Figures.{joinFigures, figuresNumbers, joinRow}
 use Rattle.figures.specs.Totals.{class}
 use Rattle.figures.specs.declared.Totals.{Totals}
 use Rattle.desk.specs.Rows.{joined}
@@ -30,7 +30,7 @@ put-requires : tie.Need-put-requires
 put-requires c κs = join-narrow _ _ (told (c .before))
 
 returns : tie.Need-returns
-unfolding joined
+unfolding joined joinRow
 returns c = figures-as _ (ap figuresNumbers (told (c .before .before .before))) (c .before .put .ensures)
 
 pub pizwoter-join-spec : {M : Type 1} → statement M

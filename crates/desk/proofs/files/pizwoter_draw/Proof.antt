@@ -4,7 +4,7 @@ use Prim.Native.Nat.{_≤_}
 use native.Mathlib.Omega.{arith}
 use lib.ListN.{length}
 use mathlib.Core.Path.{ap, _∙_}
-use Rattle.program.specs.Drawing.{drawnNumbers}
+use Rattle.program.specs.Drawing.{drawnNumbers, drawingRow}
 use Rattle.desk.specs.Reply.{replyRoom}
 use Rattle.desk.specs.Rows.{drew}
 use Rattle.desk.proofs.Places.{drawn-narrow}
@@ -23,7 +23,7 @@ of-drawn-requires : tie.Need-of-drawn-requires
 of-drawn-requires c κs = drawn-narrow _ _ (c .before .before .draw .ensures .0 .0)
 
 returns-2 : tie.Need-returns-2
-unfolding drew
+unfolding drew drawingRow
 returns-2 c =
     let made = c .before .before .before .before in
     let drawn = made .before .before .before in

@@ -2,6 +2,7 @@
 use borrow.Author.Needs.{needs}
 use mathlib.Core.Path.{ap, _∙_}
 use Rattle.program.specs.Asking.{validityNumbers}
+use Rattle.program.specs.Questions.{validationRow}
 use Rattle.desk.specs.Rows.{validated}
 use Rattle.desk.proofs.Places.{program-narrow}
 use Rattle.desk.proofs.Replies.{told-as}
@@ -12,7 +13,7 @@ of-validity-requires : tie.Need-of-validity-requires
 of-validity-requires c κs = program-narrow _ (c .validate .ensures .0)
 
 returns : tie.Need-returns
-unfolding validated
+unfolding validated validationRow
 returns c =
     let made = c .before .before .before .before in
     told-as _ (made .of-validity .ensures ∙ ap validityNumbers (made .before .validate .ensures .0)) (c .before .before .put .ensures)

@@ -2,6 +2,7 @@
 use borrow.Author.Needs.{needs}
 use mathlib.Core.Path.{ap, _∙_}
 use Rattle.program.specs.Asking.{validityNumbers}
+use Rattle.program.specs.Questions.{inputRow}
 use Rattle.desk.specs.Rows.{inputValidated}
 use Rattle.desk.proofs.Places.{input-narrow}
 use Rattle.desk.proofs.Replies.{told-as}
@@ -12,7 +13,7 @@ of-validity-requires : tie.Need-of-validity-requires
 of-validity-requires c κs = input-narrow _ (c .validate-input .ensures .0)
 
 returns : tie.Need-returns
-unfolding inputValidated
+unfolding inputValidated inputRow
 returns c =
     let made = c .before .before .before .before in
     told-as _ (made .of-validity .ensures ∙ ap validityNumbers (made .before .validate-input .ensures .0)) (c .before .before .put .ensures)

@@ -1,7 +1,7 @@
 -- `pizwoter_judge`: its row, put, and the third term of it.
 use borrow.Author.Needs.{needs}
 use mathlib.Core.Path.{ap, _∙_}
-use Rattle.analysis.specs.Verdict.{verdictNumbers}
+use Rattle.analysis.specs.Verdict.{verdictNumbers, verdictRow}
 use Rattle.desk.specs.Rows.{judged}
 use Rattle.desk.proofs.Acceptance.{written-third}
 use Rattle.desk.proofs.Places.{verdict-narrow}
@@ -13,7 +13,7 @@ of-verdict-requires : tie.Need-of-verdict-requires
 of-verdict-requires c κs = verdict-narrow _ _ _ (c .judge .ensures .0)
 
 returns : tie.Need-returns
-unfolding judged
+unfolding judged verdictRow
 returns c =
     let made = c .before .before .before .before in
     let verdict = made .before .judge .ensures in

@@ -4,7 +4,7 @@ use Prim.Native.Nat.{_≤_}
 use native.Mathlib.Omega.{arith}
 use lib.ListN.{length}
 use mathlib.Core.Path.{ap, _∙_}
-use Rattle.analysis.specs.Solver.{solvedNumbers}
+use Rattle.analysis.specs.Solver.{solvedNumbers, solverRow}
 use Rattle.desk.specs.Reply.{replyRoom}
 use Rattle.desk.specs.Rows.{solved}
 use Rattle.desk.proofs.Places.{solved-narrow}
@@ -23,7 +23,7 @@ of-solved-requires : tie.Need-of-solved-requires
 of-solved-requires c κs = solved-narrow _ _ _ (c .before .before .solve .ensures .0 .0)
 
 returns-2 : tie.Need-returns-2
-unfolding solved
+unfolding solved solverRow
 returns-2 c =
     let made = c .before .before .before .before in
     let found = made .before .before .before in

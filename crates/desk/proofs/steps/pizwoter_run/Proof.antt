@@ -4,7 +4,7 @@ use Prim.Native.Nat.{_≤_}
 use native.Mathlib.Omega.{arith}
 use lib.ListN.{length}
 use mathlib.Core.Path.{ap, _∙_}
-use Rattle.semantics.specs.Budget.{endedNumbers}
+use Rattle.semantics.specs.Budget.{endedNumbers, runRow}
 use Rattle.desk.specs.Reply.{replyRoom}
 use Rattle.desk.specs.Rows.{ran}
 use Rattle.desk.proofs.Places.{ended-narrow}
@@ -23,7 +23,7 @@ of-ended-requires : tie.Need-of-ended-requires
 of-ended-requires c κs = ended-narrow _ _ _ (c .before .run .ensures .0 .0)
 
 returns-2 : tie.Need-returns-2
-unfolding ran
+unfolding ran runRow
 returns-2 c =
     let made = c .before .before .before .before in
     let run = made .before .before in

@@ -4,7 +4,7 @@ use Prim.Native.Nat.{_≤_}
 use native.Mathlib.Omega.{arith}
 use lib.ListN.{length}
 use mathlib.Core.Path.{ap, _∙_}
-use Rattle.semantics.specs.Step.{steppedNumbers}
+use Rattle.semantics.specs.Step.{steppedNumbers, stepRow}
 use Rattle.desk.specs.Reply.{replyRoom}
 use Rattle.desk.specs.Rows.{stepped}
 use Rattle.desk.proofs.Places.{stepped-narrow}
@@ -23,7 +23,7 @@ of-stepped-requires : tie.Need-of-stepped-requires
 of-stepped-requires c κs = stepped-narrow _ _ _ (c .before .step .ensures .0 .0)
 
 returns-2 : tie.Need-returns-2
-unfolding stepped
+unfolding stepped stepRow
 returns-2 c =
     let made = c .before .before .before .before in
     let taken = made .before .before in

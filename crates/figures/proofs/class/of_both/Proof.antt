@@ -7,7 +7,7 @@ use borrow.Author.Needs.{needs}
 use borrow.Author.Tests.{not-true, not-false}
 use Rattle.signs.proofs.Signed.{fits}
 use Rattle.program.specs.declared.Validity.the-variants.{Fit}
-use Rattle.figures.specs.Bounds.{Bounded}
+use Rattle.figures.specs.Parts.Bounds.{Bounded}
 use Rattle.figures.specs.Figures.{figuresBy}
 use Rattle.figures.specs.Totals.{class, countable, possible}
 use Rattle.figures.specs.declared.Totals.{Totals}

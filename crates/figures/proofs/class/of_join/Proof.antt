@@ -2,7 +2,7 @@
 use mathlib.Core.Path.{_≡_, ap, _∙_}
 use native.Mathlib.Omega.{arith}
 use borrow.Author.Needs.{needs}
-use Rattle.figures.specs.Figures.{joinFigures}
+use Rattle.figures.specs.Figures.{joinFigures, joinRow}
 use Rattle.figures.proofs.Limits.{handed, handed-is}
 use Rattle.figures.proofs.Replies.{numbered}
 use Rattle.figures.proofs.class.of_join.Statement.{statement}
@@ -16,6 +16,7 @@ second-is c =
     handed-is (c .before .before .before .args .second) (record { sfits = omega (arith, c .struct-told3 .given) }) (record { sfits = omega (arith, c .struct-told3 .given) })
 
 returns : tie.Need-returns
+unfolding joinRow
 returns c =
     let d = c .before .before in
     let s = d .before .before .before in

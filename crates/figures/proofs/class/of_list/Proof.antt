@@ -4,8 +4,8 @@ use native.Mathlib.Omega.{arith}
 use borrow.Author.Needs.{needs}
 use lib.ListN.{length}
 use Rattle.program.specs.declared.Validity.the-variants.{Fit}
-use Rattle.figures.specs.Bounds.{Bounded}
-use Rattle.figures.specs.Figures.{listValidity, figuresBy}
+use Rattle.figures.specs.Parts.Bounds.{Bounded}
+use Rattle.figures.specs.Figures.{listValidity, figuresBy, figuresRow}
 use Rattle.figures.specs.Totals.{totals}
 use Rattle.figures.specs.declared.Totals.{Totals}
 use Rattle.figures.proofs.Limits.{fit-count, fit-bounded, handed, small-handed}
@@ -32,10 +32,12 @@ of-totals-requires c κs =
     (omega (arith, fit-count _ known .some), subst Bounded (sym (told c)) (fit-bounded _ known))
 
 returns : tie.Need-returns
+unfolding figuresRow
 returns c =
     numbered (c .of-totals .ensures ∙ ap (figuresBy Fit) (told (c .before)) ∙ sym (list-fit _ (fit (c .before .before .before .before))))
 
 returns-2 : tie.Need-returns-2
+unfolding figuresRow
 returns-2 c =
     let known = c .before .before in
     numbered (c .refused .ensures ∙ sym (list-refused _ _ (sym (known .before .before .check .ensures) ∙ known .v .given .1)))

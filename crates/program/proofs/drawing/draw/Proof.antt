@@ -1,7 +1,7 @@
 -- `program::drawing::draw` meets its contract.
 use borrow.Author.Needs.{needs}
 use mathlib.Core.Path.{ap}
-use Rattle.program.specs.Drawing.{drawnNumbers}
+use Rattle.program.specs.Drawing.{drawnNumbers, drawingRow}
 use Rattle.program.proofs.drawing.draw.Statement.{statement}
 use Rattle.program.proofs.drawing.draw.Tie as tie
 
@@ -15,6 +15,7 @@ same-length : tie.Need-same-length
 same-length c = search needs
 
 returns : tie.Need-returns
+unfolding drawingRow
 returns c =
     let made = c .before .before .draw-valid .ensures in
     (made, ap drawnNumbers (made .0))

@@ -5,7 +5,7 @@ use mathlib.Core.List.{List}
 use mathlib.Core.Path.{_≡_, refl, _∙_, ap}
 use native.Mathlib.Omega.{arith}
 use Rattle.program.specs.Drawing.{drawn, drawnBy, drawnBuffer, drawnBufferBy, over}
-use Rattle.program.specs.DrawingParts.{rowsIn}
+use Rattle.program.specs.Parts.DrawingParts.{rowsIn}
 use Rattle.program.specs.Graph.{edgeCount}
 use Rattle.program.proofs.Drawings.{rows-all, too-short, long-enough}
 use Rattle.program.proofs.drawing.draw_fit.Statement.{statement}

@@ -6,7 +6,7 @@ use mathlib.Core.Path.{_≡_, refl, _∙_}
 use native.Mathlib.Nat.{le-antisymm}
 use native.Mathlib.Omega.{arith}
 use Rattle.program.specs.Drawing.{over}
-use Rattle.program.specs.DrawingParts.{rowsIn}
+use Rattle.program.specs.Parts.DrawingParts.{rowsIn}
 use Rattle.program.proofs.Drawings.{rows-next}
 use Rattle.program.proofs.drawing.put_bytes.Statement.{statement}
 use Rattle.program.proofs.drawing.put_bytes.Tie as tie

@@ -3,7 +3,7 @@ use borrow.Author.Needs.{needs}
 use mathlib.Core.List.{[], _∷_}
 use mathlib.Core.Path.{refl}
 use native.Mathlib.Omega.{arith}
-use Rattle.program.specs.DrawingParts.{edgeRow}
+use Rattle.program.specs.Parts.DrawingParts.{edgeRow}
 use Rattle.program.specs.Graph.{wordBytes}
 use Rattle.program.proofs.Overlaid.{over-then}
 use Rattle.program.proofs.drawing.put_edge.Statement.{statement}

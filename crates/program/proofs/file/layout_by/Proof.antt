@@ -1,7 +1,8 @@
 -- `program::file::layout_by` meets its contract.
 use borrow.Author.Needs.{needs}
 use mathlib.Core.Path.{_∙_}
-use Rattle.program.specs.File.{headsOf, layoutOf, headSpan}
+use Rattle.program.specs.Parts.Layouts.{headsOf}
+use Rattle.program.specs.File.{layoutOf, headSpan}
 use Rattle.program.proofs.Reading.{names-wide, table-wide}
 use Rattle.program.proofs.file.layout_by.Statement.{statement}
 use Rattle.program.proofs.file.layout_by.Tie as tie

@@ -2,7 +2,7 @@
 use borrow.Author.Needs.{needs}
 use mathlib.Core.Path.{sym, ap, _∙_}
 use mathlib.Core.List.{[]}
-use Rattle.program.specs.Prepared.{performed, actionForm, actionIn}
+use Rattle.program.specs.Parts.Prepared.{performed, actionForm, actionIn}
 use Rattle.program.proofs.Readings.{action-other}
 use Rattle.program.proofs.prepared.action.Statement.{statement}
 use Rattle.program.proofs.prepared.action.Tie as tie

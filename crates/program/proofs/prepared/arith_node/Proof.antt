@@ -3,8 +3,8 @@ use borrow.Author.Needs.{needs}
 use borrow.Author.Tests.{lt-ltb, le-ltb}
 use Rattle.program.specs.Kind.{arithKind}
 use Rattle.program.specs.File.{signed32}
-use Rattle.program.specs.Node.{arithForm}
-use Rattle.program.specs.Prepared.{numbersAt, entriesIn}
+use Rattle.program.specs.Parts.Node.{arithForm}
+use Rattle.program.specs.Parts.Prepared.{numbersAt, entriesIn}
 use Rattle.program.proofs.prepared.arith_node.Statement.{statement}
 use Rattle.program.proofs.prepared.arith_node.Tie as tie
 

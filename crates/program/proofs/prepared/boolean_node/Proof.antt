@@ -2,8 +2,8 @@
 use borrow.Author.Needs.{needs}
 use borrow.Author.Tests.{lt-ltb, le-ltb}
 use Rattle.program.specs.Kind.{booleanKind}
-use Rattle.program.specs.Node.{booleanForm}
-use Rattle.program.specs.Prepared.{numbersAt, entriesIn}
+use Rattle.program.specs.Parts.Node.{booleanForm}
+use Rattle.program.specs.Parts.Prepared.{numbersAt, entriesIn}
 use Rattle.program.proofs.prepared.boolean_node.Statement.{statement}
 use Rattle.program.proofs.prepared.boolean_node.Tie as tie
 

@@ -1,6 +1,6 @@
 -- `prepared::cell_kind` meets its contract.
 use borrow.Author.Needs.{needs}
-use Rattle.program.specs.Prepared.{cellKind}
+use Rattle.program.specs.Parts.Prepared.{cellKind}
 use Rattle.program.proofs.Readings.{cell-other}
 use Rattle.program.proofs.prepared.cell_kind.Statement.{statement}
 use Rattle.program.proofs.prepared.cell_kind.Tie as tie

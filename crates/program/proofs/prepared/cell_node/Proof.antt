@@ -1,7 +1,7 @@
 -- `prepared::cell_node` meets its contract.
 use borrow.Author.Needs.{needs}
 use borrow.Author.Tests.{lt-ltb, le-ltb}
-use Rattle.program.specs.Prepared.{numbersAt, cellForm}
+use Rattle.program.specs.Parts.Prepared.{numbersAt, cellForm}
 use Rattle.program.proofs.prepared.cell_node.Statement.{statement}
 use Rattle.program.proofs.prepared.cell_node.Tie as tie
 

@@ -2,8 +2,8 @@
 use borrow.Author.Needs.{needs}
 use borrow.Author.Tests.{lt-ltb, le-ltb}
 use Rattle.program.specs.Kind.{commandKind}
-use Rattle.program.specs.Node.{commandForm}
-use Rattle.program.specs.Prepared.{numbersAt, entriesIn}
+use Rattle.program.specs.Parts.Node.{commandForm}
+use Rattle.program.specs.Parts.Prepared.{numbersAt, entriesIn}
 use Rattle.program.proofs.prepared.command_node.Statement.{statement}
 use Rattle.program.proofs.prepared.command_node.Tie as tie
 

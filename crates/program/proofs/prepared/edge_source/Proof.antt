@@ -1,6 +1,6 @@
 -- `prepared::edge_source` meets its contract.
 use borrow.Author.Needs.{needs}
-use Rattle.program.specs.Prepared.{sourceIn}
+use Rattle.program.specs.Parts.Prepared.{sourceIn}
 use Rattle.program.proofs.prepared.edge_source.Statement.{statement}
 use Rattle.program.proofs.prepared.edge_source.Tie as tie
 

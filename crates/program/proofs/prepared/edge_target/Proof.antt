@@ -1,6 +1,6 @@
 -- `prepared::edge_target` meets its contract.
 use borrow.Author.Needs.{needs}
-use Rattle.program.specs.Prepared.{targetIn}
+use Rattle.program.specs.Parts.Prepared.{targetIn}
 use Rattle.program.proofs.prepared.edge_target.Statement.{statement}
 use Rattle.program.proofs.prepared.edge_target.Tie as tie
 

@@ -1,7 +1,7 @@
 -- `prepared::edge_word` meets its contract.
 use borrow.Author.Needs.{needs}
 use borrow.Author.Tests.{lt-ltb, le-ltb}
-use Rattle.program.specs.Prepared.{edgeIn}
+use Rattle.program.specs.Parts.Prepared.{edgeIn}
 use Rattle.program.proofs.prepared.edge_word.Statement.{statement}
 use Rattle.program.proofs.prepared.edge_word.Tie as tie
 

@@ -1,7 +1,7 @@
 -- `prepared::first_cell` meets its contract.
 use borrow.Author.Needs.{needs}
 use borrow.Author.Tests.{lt-ltb, le-ltb}
-use Rattle.program.specs.Prepared.{cellIn}
+use Rattle.program.specs.Parts.Prepared.{cellIn}
 use Rattle.program.proofs.prepared.first_cell.Statement.{statement}
 use Rattle.program.proofs.prepared.first_cell.Tie as tie
 

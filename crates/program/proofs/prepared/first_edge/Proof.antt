@@ -1,7 +1,7 @@
 -- `prepared::first_edge` meets its contract.
 use borrow.Author.Needs.{needs}
 use borrow.Author.Tests.{lt-ltb, le-ltb}
-use Rattle.program.specs.Prepared.{firstIn}
+use Rattle.program.specs.Parts.Prepared.{firstIn}
 use Rattle.program.proofs.prepared.first_edge.Statement.{statement}
 use Rattle.program.proofs.prepared.first_edge.Tie as tie
 

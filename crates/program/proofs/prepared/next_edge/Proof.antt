@@ -1,7 +1,7 @@
 -- `prepared::next_edge` meets its contract.
 use borrow.Author.Needs.{needs}
 use borrow.Author.Tests.{lt-ltb, le-ltb}
-use Rattle.program.specs.Prepared.{nextIn}
+use Rattle.program.specs.Parts.Prepared.{nextIn}
 use Rattle.program.proofs.prepared.next_edge.Statement.{statement}
 use Rattle.program.proofs.prepared.next_edge.Tie as tie
 

@@ -5,7 +5,7 @@ use mathlib.Core.Path.{_∙_, ap}
 use mir.Syntax.{w32}
 use mir.ValLaws.{toZ-ofZ}
 use Rattle.program.specs.File.{signed32}
-use Rattle.program.specs.Prepared.{numberIn}
+use Rattle.program.specs.Parts.Prepared.{numberIn}
 use Rattle.program.proofs.prepared.number_at.Statement.{statement}
 use Rattle.program.proofs.prepared.number_at.Tie as tie
 

@@ -1,6 +1,6 @@
 -- `prepared::performed` meets its contract.
 use borrow.Author.Needs.{needs}
-use Rattle.program.specs.Prepared.{performed}
+use Rattle.program.specs.Parts.Prepared.{performed}
 use Rattle.program.proofs.prepared.performed.Statement.{statement}
 use Rattle.program.proofs.prepared.performed.Tie as tie
 

@@ -1,7 +1,7 @@
 -- `prepared::size_of` meets its contract.
 use borrow.Author.Needs.{needs}
 use borrow.Author.Tests.{lt-ltb, le-ltb}
-use Rattle.program.specs.Prepared.{sizeIn}
+use Rattle.program.specs.Parts.Prepared.{sizeIn}
 use Rattle.program.proofs.prepared.size_of.Statement.{statement}
 use Rattle.program.proofs.prepared.size_of.Tie as tie
 

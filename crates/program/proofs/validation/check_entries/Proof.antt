@@ -2,7 +2,7 @@
 use borrow.Author.Needs.{needs}
 use mathlib.Core.Path.{sym}
 use Rattle.program.specs.Asking.{inTurn}
-use Rattle.program.specs.Counting.{UsesIn}
+use Rattle.program.specs.Parts.Counting.{UsesIn}
 use Rattle.program.proofs.Asking.{stops, answered, passed, not-refused, last-asked}
 use Rattle.program.proofs.Counting.{counted-all}
 use Rattle.program.proofs.validation.check_entries.Statement.{statement}

@@ -2,7 +2,8 @@
 use borrow.Author.Needs.{needs}
 use mathlib.Core.Path.{_≡_, ap}
 use lib.ListN.{length}
-use Rattle.program.specs.File.{namesField, tableField, programFields, fieldHead, headsOf}
+use Rattle.program.specs.Parts.Layouts.{headsOf}
+use Rattle.program.specs.File.{namesField, tableField, programFields, fieldHead}
 use Rattle.program.specs.Questions.{headValidity, headsValidity}
 use Rattle.program.specs.declared.FieldHeads.{FieldHeads}
 use Rattle.program.specs.declared.Table.the-variants.{Arithmetic, Boolean, Commands}

@@ -6,7 +6,7 @@ use native.Mathlib.Numerals.{add-one}
 use native.Mathlib.Omega.{arith}
 use Rattle.program.specs.FirstSuch.{firstOf}
 use Rattle.program.specs.Asking.{askEach}
-use Rattle.program.specs.Counting.{capacity}
+use Rattle.program.specs.Parts.Counting.{capacity}
 use Rattle.program.specs.File.{entryCount}
 use Rattle.program.specs.Questions.{toBeUsed, useValidity, usedValidity}
 use Rattle.program.specs.declared.Span.{Span}

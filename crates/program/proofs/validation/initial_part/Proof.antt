@@ -1,7 +1,8 @@
 -- `program::validation::initial_part` meets its contract.
 use borrow.Author.Needs.{needs}
 use mathlib.Core.Path.{_≡_, ap, sym}
-use Rattle.program.specs.File.{fieldHead, headsOf, headContent}
+use Rattle.program.specs.Parts.Layouts.{headsOf}
+use Rattle.program.specs.File.{fieldHead, headContent}
 use Rattle.program.specs.Questions.{initialPart}
 use Rattle.program.specs.declared.FieldHeads.{FieldHeads}
 use Rattle.program.proofs.validation.initial_part.Statement.{statement}

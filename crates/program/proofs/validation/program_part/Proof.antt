@@ -3,7 +3,8 @@ use borrow.Author.Needs.{needs}
 use mathlib.Core.Path.{_∙_, ap}
 use Prim.Native.Nat.{ℕ}
 use lib.ListN.{take}
-use Rattle.program.specs.File.{headsOf, afterHead, fieldHead, placeAfter}
+use Rattle.program.specs.Parts.Layouts.{headsOf}
+use Rattle.program.specs.File.{afterHead, fieldHead, placeAfter}
 use Rattle.program.specs.Questions.{programPart}
 use Rattle.program.specs.declared.FieldHeads.{FieldHeads}
 use Rattle.program.proofs.validation.program_part.Statement.{statement}

@@ -2,8 +2,9 @@
 use borrow.Author.Needs.{needs}
 use mathlib.Core.Path.{_≡_, ap}
 use Rattle.program.specs.Asking.{inTurn}
-use Rattle.program.specs.File.{programFields, headsOf}
-use Rattle.program.specs.Questions.{headsValidity, endValidity, validity}
+use Rattle.program.specs.Parts.Layouts.{headsOf}
+use Rattle.program.specs.File.{programFields}
+use Rattle.program.specs.Questions.{headsValidity, endValidity, validity, validationRow}
 use Rattle.program.specs.declared.FieldHeads.{FieldHeads}
 use Rattle.program.specs.declared.Validity.the-variants.{Fit}
 use Rattle.program.proofs.Asking.{stops, answered, passed, last-asked, numbered}
@@ -30,7 +31,7 @@ refused-requires : tie.Need-refused-requires
 refused-requires c κs = search needs
 
 returns : tie.Need-returns
-unfolding validity inTurn
+unfolding validity inTurn validationRow
 returns c = numbered (stops _ _ _ _ (c .before .before .check-heads .ensures) (c .before .refused .ensures) (c .if1 .taken))
 
 after-requires : tie.Need-after-requires
@@ -43,7 +44,7 @@ refused-requires-2 : tie.Need-refused-requires-2
 refused-requires-2 c κs = search needs
 
 returns-2 : tie.Need-returns-2
-unfolding validity inTurn
+unfolding validity inTurn validationRow
 returns-2 c = numbered (passed (heads-fit (c .before .before .before .before)) (stops _ _ _ _ (ended (c .before .before)) (c .before .refused2 .ensures) (c .if2 .taken)))
 
 layout-by-requires : tie.Need-layout-by-requires
@@ -53,7 +54,7 @@ check-content-requires : tie.Need-check-content-requires
 check-content-requires c κs = (heads-fit (c .before .before .before .before .before), c .layout-by .ensures _ (c .before .before .before .before .before .before .before .before .heads .ensures))
 
 returns-3 : tie.Need-returns-3
-unfolding validity inTurn
+unfolding validity inTurn validationRow
 returns-3 c =
     numbered
     (passed (heads-fit (c .before .before .before .before .before .before))

@@ -4,8 +4,9 @@ use lib.ListN.{length}
 use mathlib.Core.Path.{_≡_, _∙_, ap}
 use native.Mathlib.Omega.{arith}
 use Rattle.program.specs.Asking.{inTurn}
-use Rattle.program.specs.File.{programFields, fieldHead, headsOf, initialField, nameCount}
-use Rattle.program.specs.Questions.{headValidity, headsValidity, endValidity, inputValidity}
+use Rattle.program.specs.Parts.Layouts.{headsOf}
+use Rattle.program.specs.File.{programFields, fieldHead, initialField, nameCount}
+use Rattle.program.specs.Questions.{headValidity, headsValidity, endValidity, inputValidity, inputRow}
 use Rattle.program.specs.declared.Field.{Field}
 use Rattle.program.specs.declared.FieldHeads.{FieldHeads}
 use Rattle.program.specs.declared.Validity.the-variants.{Fit}
@@ -43,7 +44,7 @@ refused-requires : tie.Need-refused-requires
 refused-requires c κs = search needs
 
 returns : tie.Need-returns
-unfolding inputValidity inTurn
+unfolding inputValidity inTurn inputRow
 returns c = numbered (stops _ _ _ _ (c .before .before .check-heads .ensures) (c .before .refused .ensures) (c .if1 .taken))
 
 layout-by-requires : tie.Need-layout-by-requires
@@ -61,7 +62,7 @@ refused-requires-2 : tie.Need-refused-requires-2
 refused-requires-2 c κs = search needs
 
 returns-2 : tie.Need-returns-2
-unfolding inputValidity inTurn
+unfolding inputValidity inTurn inputRow
 returns-2 c = numbered (passed (heads-fit (c .before .before .before .before .before .before)) (stops _ _ _ _ (initial (c .before .before)) (c .before .refused2 .ensures) (c .if2 .taken)))
 
 after-requires : tie.Need-after-requires
@@ -74,7 +75,7 @@ refused-requires-3 : tie.Need-refused-requires-3
 refused-requires-3 c κs = search needs
 
 returns-3 : tie.Need-returns-3
-unfolding inputValidity inTurn
+unfolding inputValidity inTurn inputRow
 returns-3 c =
     numbered
     (passed (heads-fit (c .before .before .before .before .before .before .before .before .before .before))
@@ -84,7 +85,7 @@ check-content-requires : tie.Need-check-content-requires
 check-content-requires c κs = (heads-fit (c .before .before .before .before .before .before .before .before .before .before), c .before .before .before .before .before .before .before .before .before .layout-by .ensures _ (c .before .before .before .before .before .before .before .before .before .before .before .before .before .heads .ensures))
 
 returns-4 : tie.Need-returns-4
-unfolding inputValidity inTurn
+unfolding inputValidity inTurn inputRow
 returns-4 c =
     numbered
     (passed (heads-fit (c .before .before .before .before .before .before .before .before .before .before .before))

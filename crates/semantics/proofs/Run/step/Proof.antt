@@ -4,7 +4,7 @@ use mathlib.Core.Path.{_≡_, ap, _∙_, sym}
 use mathlib.Core.List.{List}
 use Prim.Native.Nat.{ℕ}
 use lib.IntN.{ℤ}
-use Rattle.semantics.specs.Step.{programStep, stepReply, steppedNumbers}
+use Rattle.semantics.specs.Step.{programStep, stepReply, steppedNumbers, stepRow}
 use Rattle.semantics.specs.declared.Run.{Run}
 use Rattle.semantics.specs.declared.Stepped.{Stepped}
 use Rattle.semantics.proofs.Replies.{Replied, program-refused, program-replied}
@@ -14,7 +14,8 @@ use Rattle.semantics.proofs.Run.step.Tie as tie
 -- the two clauses of the contract
 whole : {s : List ℕ} {run : Run} {e : ℕ} {m m′ : List ℤ} {r : Stepped} → Replied s run e m m′ r
     → ((r ≡ stepReply s (record { run = run; memory = m }) e) × (m′ ≡ programStep s (record { run = run; memory = m }) e .memory))
-    × (steppedNumbers r ≡ steppedNumbers (stepReply s (record { run = run; memory = m }) e))
+    × (steppedNumbers r ≡ stepRow s (record { run = run; memory = m }) e)
+unfolding stepRow
 whole k = ((k .reply, k .memory), ap steppedNumbers (k .reply))
 
 returns : tie.Need-returns

@@ -3,7 +3,7 @@ use mathlib.Core.Path.{_≡_, sym}
 use mathlib.Core.Bool.{false}
 use mir.Syntax.{w64}
 use mir.ValLaws.{toZ-ofZ}
-use Rattle.semantics.specs.Coding.{decided, earlier}
+use Rattle.semantics.specs.Parts.Coding.{decided, earlier}
 use Rattle.semantics.proofs.Coded.{isFault, gave, fault-first, handed, one-bits, other-bits, conjoin-fault, no-faults, conjoin-true, conjoin-false}
 use Rattle.semantics.proofs.evaluator.both.Statement.{statement}
 use Rattle.semantics.proofs.evaluator.both.Tie as tie

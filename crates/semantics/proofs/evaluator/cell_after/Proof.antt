@@ -5,7 +5,7 @@ use borrow.Author.Needs.{needs}
 use lib.IntN.{pos}
 use lib.ListN.{List·getD-eq-default}
 use Rattle.signs.specs.Number.{inRange}
-use Rattle.semantics.specs.Coding.{evaluated, isCode}
+use Rattle.semantics.specs.Parts.Coding.{evaluated, isCode}
 use Rattle.semantics.specs.Expression.{cellValue}
 use Rattle.semantics.specs.declared.Evaluation.the-variants.{Number}
 use Rattle.semantics.proofs.evaluator.cell_after.Statement.{statement}

@@ -7,7 +7,7 @@ use mir.Syntax.{w32}
 use mir.Val.{SFits}
 use Rattle.signs.proofs.Signed.{widens}
 use Rattle.signs.specs.Number.{inRange}
-use Rattle.semantics.specs.Coding.{evaluated, isCode}
+use Rattle.semantics.specs.Parts.Coding.{evaluated, isCode}
 use Rattle.semantics.specs.Expression.{cellValue}
 use Rattle.semantics.specs.declared.Evaluation.the-variants.{Number}
 use Rattle.semantics.proofs.Coded.{small-handed}

@@ -3,7 +3,7 @@ use mathlib.Core.Path.{_≡_, sym, ap, _∙_}
 use mathlib.Core.Bool.{false}
 use mir.Syntax.{w64}
 use mir.ValLaws.{toZ-ofZ}
-use Rattle.semantics.specs.Coding.{earlier}
+use Rattle.semantics.specs.Parts.Coding.{earlier}
 use Rattle.semantics.specs.declared.Truth.the-variants.{Known}
 use Rattle.semantics.proofs.Coded.{isFault, gave, fault-first, handed, code-small, narrow, compare-fault, no-faults, compare-both}
 use Rattle.semantics.proofs.evaluator.compare.Statement.{statement}

@@ -1,7 +1,7 @@
 -- `evaluator::earlier` meets its contract.
 use mir.Syntax.{w64}
 use mir.ValLaws.{toZ-ofZ}
-use Rattle.semantics.specs.Coding.{earlier}
+use Rattle.semantics.specs.Parts.Coding.{earlier}
 use Rattle.semantics.proofs.Coded.{tested}
 use Rattle.semantics.proofs.evaluator.earlier.Statement.{statement}
 use Rattle.semantics.proofs.evaluator.earlier.Tie as tie

@@ -5,7 +5,7 @@ use native.Mathlib.Omega.{arith}
 use borrow.Author.Needs.{needs}
 use mir.Syntax.{w64}
 use mir.ValLaws.{toZ-ofZ}
-use Rattle.semantics.specs.Coding.{Indexed}
+use Rattle.semantics.specs.Parts.Coding.{Indexed}
 use Rattle.semantics.specs.Expression.{valueAt}
 use Rattle.semantics.proofs.Coded.{isFault, tested, handed, fault-evaluated, placed-fault, placed-at, whole-index}
 use Rattle.semantics.proofs.evaluator.element.Statement.{statement}

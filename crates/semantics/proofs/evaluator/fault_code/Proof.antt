@@ -1,7 +1,7 @@
 -- `evaluator::fault_code`: each arm knows its reason, whose number computes.
 use mathlib.Core.Path.{refl}
 use Rattle.signs.specs.Number.{inRange}
-use Rattle.semantics.specs.Coding.{reasonNumbered, evaluated, decided, isCode}
+use Rattle.semantics.specs.Parts.Coding.{reasonNumbered, evaluated, decided, isCode}
 use Rattle.semantics.proofs.evaluator.fault_code.Statement.{statement}
 use Rattle.semantics.proofs.evaluator.fault_code.Tie as tie
 

@@ -3,7 +3,7 @@ use mathlib.Core.Path.{_≡_, sym}
 use mathlib.Core.Bool.{false}
 use mir.Syntax.{w64}
 use mir.ValLaws.{toZ-ofZ}
-use Rattle.semantics.specs.Coding.{decided}
+use Rattle.semantics.specs.Parts.Coding.{decided}
 use Rattle.semantics.proofs.Coded.{isFault, tested, one-bits, other-bits, negate-fault, negate-truth}
 use Rattle.semantics.proofs.evaluator.negated.Statement.{statement}
 use Rattle.semantics.proofs.evaluator.negated.Tie as tie

@@ -4,7 +4,7 @@ use mathlib.Core.Bool.{false}
 use mir.Syntax.{w32, w64}
 use mir.Val.{SFits}
 use mir.ValLaws.{toZ-ofZ}
-use Rattle.semantics.specs.Coding.{earlier}
+use Rattle.semantics.specs.Parts.Coding.{earlier}
 use Rattle.semantics.specs.Expression.{operated}
 use Rattle.semantics.proofs.Coded.{isFault, gave, fault-first, handed, code-small, narrow, earlier-code, combine-fault, no-faults, combine-both}
 use Rattle.semantics.proofs.evaluator.operate.Statement.{statement}

@@ -1,5 +1,5 @@
 -- `evaluator::truth_code`: the two numbers compute.
-use Rattle.semantics.specs.Coding.{decided}
+use Rattle.semantics.specs.Parts.Coding.{decided}
 use Rattle.semantics.proofs.evaluator.truth_code.Statement.{statement}
 use Rattle.semantics.proofs.evaluator.truth_code.Tie as tie
 

@@ -4,8 +4,8 @@ use mathlib.Core.Path.{_≡_, refl, ap, _∙_, sym}
 use mathlib.Core.List.{List}
 use Prim.Native.Nat.{ℕ}
 use lib.IntN.{ℤ}
-use Rattle.semantics.specs.Budget.{programBudgeted, budgetReply, endedNumbers}
-use Rattle.semantics.specs.Running.{EndsAs}
+use Rattle.semantics.specs.Budget.{programBudgeted, budgetReply, endedNumbers, runRow}
+use Rattle.semantics.specs.Parts.Running.{EndsAs}
 use Rattle.semantics.specs.declared.Ended.{Ended}
 use Rattle.semantics.proofs.Runs.{program-budgeted, refused-budgeted}
 use Rattle.semantics.proofs.running.run.Statement.{statement}
@@ -13,8 +13,8 @@ use Rattle.semantics.proofs.running.run.Tie as tie
 
 -- the two clauses of the contract
 whole : (s : List ℕ) (budget : ℕ) (m : List ℤ) {m′ : List ℤ} {r : Ended} → EndsAs (programBudgeted s budget m) m′ r
-    → ((r ≡ budgetReply s budget m) × (m′ ≡ programBudgeted s budget m .final .memory)) × (endedNumbers r ≡ endedNumbers (budgetReply s budget m))
-unfolding budgetReply
+    → ((r ≡ budgetReply s budget m) × (m′ ≡ programBudgeted s budget m .final .memory)) × (endedNumbers r ≡ runRow s budget m)
+unfolding budgetReply runRow
 whole s budget m k = ((k .reply, k .memory), ap endedNumbers (k .reply))
 
 run-prepared-requires : tie.Need-run-prepared-requires

@@ -6,9 +6,9 @@ use mathlib.Core.Logic.{inl, inr}
 use native.Mathlib.Omega.{arith}
 use Prim.Native.Nat.{ℕ}
 use Rattle.program.specs.Graph.{Graph}
-use Rattle.program.specs.Prepared.{Prepared}
-use Rattle.semantics.specs.Cells.{NumbersIn}
-use Rattle.semantics.specs.Running.{Reached}
+use Rattle.program.specs.Parts.Prepared.{Prepared}
+use Rattle.semantics.specs.Parts.Cells.{NumbersIn}
+use Rattle.semantics.specs.Parts.Running.{Reached}
 use Rattle.semantics.proofs.Turns.{reached-start, reached-more, reached-stuck, stops-as}
 use Rattle.semantics.proofs.running.run_on.Statement.{statement}
 use Rattle.semantics.proofs.running.run_on.Tie as tie

@@ -4,7 +4,7 @@ use mathlib.Core.Path.{_≡_, refl, sym, _∙_}
 use mathlib.Core.List.{List}
 use Prim.Native.Nat.{ℕ}
 use Rattle.program.specs.Graph.{Graph}
-use Rattle.program.specs.Prepared.{Prepared}
+use Rattle.program.specs.Parts.Prepared.{Prepared}
 use Rattle.semantics.specs.Step.{memoryValidity}
 use Rattle.semantics.proofs.Runs.{budgeted-run, refused-run}
 use Rattle.semantics.proofs.Steps.{memory-fit, asked-cells}

@@ -1,6 +1,6 @@
 -- `running::stopped`: at node 1, or not.
 use borrow.Author.Tests.{eq-eqb, ne-eqb}
-use Rattle.semantics.specs.Running.{endingAt}
+use Rattle.semantics.specs.Parts.Running.{endingAt}
 use Rattle.semantics.proofs.running.stopped.Statement.{statement}
 use Rattle.semantics.proofs.running.stopped.Tie as tie
 

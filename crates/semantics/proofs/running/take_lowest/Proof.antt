@@ -5,9 +5,9 @@ use mathlib.Core.List.{List}
 use native.Mathlib.Omega.{arith}
 use lib.ListN.{getD}
 use Rattle.program.specs.Graph.{Graph}
-use Rattle.program.specs.Prepared.{edgeCountPlace, Prepared}
+use Rattle.program.specs.Parts.Prepared.{edgeCountPlace, Prepared}
 use Rattle.program.proofs.Laws.{first-is-followed, next-is-followed, next-is-beyond}
-use Rattle.semantics.specs.Cells.{NumbersIn}
+use Rattle.semantics.specs.Parts.Cells.{NumbersIn}
 use Rattle.semantics.proofs.Choosing.{Looking, none-taken, taken-here, undefined-here, unchanged-here}
 use Rattle.semantics.proofs.running.take_lowest.Statement.{statement}
 use Rattle.semantics.proofs.running.take_lowest.Tie as tie

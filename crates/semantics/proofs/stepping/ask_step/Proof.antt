@@ -9,7 +9,7 @@ use lib.ListN.{length}
 use Prim.Native.Nat.{ℕ}
 use Rattle.program.specs.Asking.{ask, inTurn}
 use Rattle.program.specs.Graph.{Graph}
-use Rattle.program.specs.Prepared.{Prepared}
+use Rattle.program.specs.Parts.Prepared.{Prepared}
 use Rattle.program.proofs.Asking.{stops, goes-on, last-asked}
 use Rattle.semantics.specs.Step.{memoryValidity, stepValidity}
 use Rattle.semantics.proofs.Steps.{asked-cells}
@@ -21,7 +21,7 @@ module _ (ns : List ℕ) (g : Graph) where
   asked : (c : tie.After-ask) (m : List ℤ) → Prepared ns g (c .before .before .args .code .now) (c .before .before .args .graph .now) → length m ≡ c .before .before .args .cells → c .ask .result ≡ memoryValidity ns m
   asked c m p e = c .ask .ensures ∙ asked-cells ns m _ _ e (c .before .cell-count .ensures ∙ p .coded .cells)
 
-  inside : (c : tie.After-ask2) → Prepared ns g (c .before .before .before .before .before .before .args .code .now) (c .before .before .before .before .before .before .args .graph .now) → c .ask2 .result ≡ ask (ltb (c .before .before .before .before .before .before .args .node) (g .fresh)) 14 0
+  inside : (c : tie.After-ask2) → Prepared ns g (c .before .before .before .before .before .before .args .code .now) (c .before .before .before .before .before .before .args .graph .now) → c .ask2 .result ≡ ask (ltb (c .before .before .before .before .before .before .args .node) (g .nodes)) 14 0
   inside c p =
       let start = c .before .before .before .before .before .before in
       c .ask2 .ensures ∙ ap (λ (n : ℕ). ask (ltb (start .args .node) n) 14 0) (c .before .node-count .ensures ∙ p .nodes)

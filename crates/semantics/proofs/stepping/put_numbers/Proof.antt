@@ -6,7 +6,7 @@ use native.Mathlib.Omega.{arith}
 use lib.ListN.{getD}
 use mir.Syntax.{w32}
 use mir.ValLaws.{toZ-ofZ}
-use Rattle.program.specs.Prepared.{arithmeticCountPlace}
+use Rattle.program.specs.Parts.Prepared.{arithmeticCountPlace}
 use Rattle.semantics.proofs.Padding.{Numbering, numbering-none, numbering-more, numbering-all}
 use Rattle.semantics.proofs.stepping.put_numbers.Statement.{statement}
 use Rattle.semantics.proofs.stepping.put_numbers.Tie as tie

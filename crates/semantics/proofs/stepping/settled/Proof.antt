@@ -1,7 +1,7 @@
 -- `stepping::settled`: by the effect's cases.
 use borrow.Author.Needs.{needs}
 use Rattle.semantics.specs.Step.{outcomeBy}
-use Rattle.semantics.specs.Stepping.{runAfter}
+use Rattle.semantics.specs.Parts.Stepping.{runAfter}
 use Rattle.semantics.proofs.stepping.settled.Statement.{statement}
 use Rattle.semantics.proofs.stepping.settled.Tie as tie
 

@@ -4,7 +4,7 @@ use mathlib.Core.Path.{_≡_, refl, sym, _∙_}
 use mathlib.Core.List.{List}
 use Prim.Native.Nat.{ℕ}
 use Rattle.program.specs.Graph.{Graph}
-use Rattle.program.specs.Prepared.{Prepared}
+use Rattle.program.specs.Parts.Prepared.{Prepared}
 use Rattle.program.specs.declared.Validity.the-variants.{Fit}
 use Rattle.semantics.specs.Step.{stepValidity}
 use Rattle.semantics.proofs.Replies.{edge-exists, step-refused, step-settled}

@@ -1,7 +1,7 @@
 -- `evaluator::index::may_be_negative` meets its contract.
 use borrow.Author.Needs.{needs}
 use Rattle.signs.specs.Lists.{anyOf}
-use Rattle.program.specs.Prepared.{decodedMeaning}
+use Rattle.program.specs.Parts.Prepared.{decodedMeaning}
 use Rattle.program.proofs.Laws.{arith-whole, boolean-whole, command-whole}
 use Rattle.analysis.specs.Index.{indexSets, anyNegative, mayBeNegative}
 use Rattle.analysis.proofs.Negative.{any-first, any-append}

@@ -2,7 +2,7 @@
 use borrow.Author.Needs.{needs}
 use mathlib.Core.Path.{refl}
 use native.Mathlib.Omega.{arith}
-use Rattle.analysis.specs.Changing.{packed}
+use Rattle.analysis.specs.Parts.Changing.{packed}
 use Rattle.analysis.proofs.evaluator.results.before.Statement.{statement}
 use Rattle.analysis.proofs.evaluator.results.before.Tie as tie
 

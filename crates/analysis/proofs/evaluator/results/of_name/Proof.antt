@@ -1,7 +1,7 @@
 -- `evaluator::results::of_name` meets its contract.
 use borrow.Author.Needs.{needs}
 use borrow.Author.Tests.{lt-ltb, le-ltb}
-use Rattle.analysis.specs.Changing.{nameFor}
+use Rattle.analysis.specs.Parts.Changing.{nameFor}
 use Rattle.analysis.proofs.evaluator.results.of_name.Statement.{statement}
 use Rattle.analysis.proofs.evaluator.results.of_name.Tie as tie
 

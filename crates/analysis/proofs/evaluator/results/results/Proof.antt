@@ -1,6 +1,6 @@
 -- `evaluator::results::results` meets its contract.
 use borrow.Author.Needs.{needs}
-use Rattle.program.specs.Prepared.{decodedMeaning}
+use Rattle.program.specs.Parts.Prepared.{decodedMeaning}
 use Rattle.program.proofs.Laws.{arith-whole, boolean-whole, command-whole}
 use Rattle.analysis.proofs.Alike.{no-results, condition-results, assign-results}
 use Rattle.analysis.proofs.evaluator.results.results.Statement.{statement}

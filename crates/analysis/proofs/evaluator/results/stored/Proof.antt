@@ -3,7 +3,7 @@ use borrow.Author.Needs.{needs}
 use mathlib.Core.Path.{_∙_, ap}
 use Prim.Native.Nat.{ℕ, _+_, _*_}
 use native.Mathlib.Omega.{arith}
-use Rattle.analysis.specs.Changing.{packed}
+use Rattle.analysis.specs.Parts.Changing.{packed}
 use Rattle.analysis.specs.Results.{setsWith}
 use Rattle.analysis.proofs.Digits.{three-before, one-each}
 use Rattle.analysis.proofs.evaluator.results.stored.Statement.{statement}

@@ -2,7 +2,7 @@
 use borrow.Author.Needs.{needs}
 use mathlib.Core.Path.{refl, sym, _∙_}
 use native.Mathlib.Omega.{arith}
-use Rattle.analysis.specs.Changing.{packed}
+use Rattle.analysis.specs.Parts.Changing.{packed}
 use Rattle.analysis.proofs.evaluator.results.stored_sign.Statement.{statement}
 use Rattle.analysis.proofs.evaluator.results.stored_sign.Tie as tie
 

@@ -1,8 +1,8 @@
 -- `program::prepared::coding::fourth` meets its contract.
 use borrow.Author.Needs.{needs}
 use borrow.Author.Tests.{ne-eqb, lt-ltb, le-ltb}
-use Rattle.program.specs.Prepared.{cellIn}
-use Rattle.program.specs.Preparing.{fourthIn}
+use Rattle.program.specs.Parts.Prepared.{cellIn}
+use Rattle.program.specs.Parts.Preparing.{fourthIn}
 use Rattle.program.proofs.prepared.coding.fourth.Statement.{statement}
 use Rattle.program.proofs.prepared.coding.fourth.Tie as tie
 

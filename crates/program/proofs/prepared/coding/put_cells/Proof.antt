@@ -3,7 +3,7 @@ use borrow.Author.Needs.{needs}
 use Prim.Native.Nat.{ℕ, _≤_, _-_}
 use mathlib.Core.Path.{refl, subst}
 use native.Mathlib.Nat.{le-antisymm}
-use Rattle.program.specs.Preparing.{CellsPut}
+use Rattle.program.specs.Parts.Preparing.{CellsPut}
 use Rattle.program.proofs.Codes.{cells-none, cells-next}
 use Rattle.program.proofs.prepared.coding.put_cells.Statement.{statement}
 use Rattle.program.proofs.prepared.coding.put_cells.Tie as tie

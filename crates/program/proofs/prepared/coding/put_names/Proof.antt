@@ -6,7 +6,7 @@ use native.Mathlib.Nat.{le-antisymm, le-refl}
 use native.Mathlib.Numerals.{add-one}
 use native.Mathlib.Omega.{arith}
 use Rattle.program.specs.File.{nameCount, sizes, cellsOf, firstCell}
-use Rattle.program.specs.Preparing.{NamesPut}
+use Rattle.program.specs.Parts.Preparing.{NamesPut}
 use Rattle.program.proofs.Cells.{first-cell-zero, first-cell-suc, first-cell-past, size-at}
 use Rattle.program.proofs.Codes.{name-room, names-none, names-next, names-done}
 use Rattle.program.proofs.Fit.{counts}

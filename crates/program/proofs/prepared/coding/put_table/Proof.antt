@@ -4,7 +4,7 @@ use Prim.Native.Nat.{ℕ, _≤_, _-_}
 use mathlib.Core.Path.{refl, subst, _∙_}
 use native.Mathlib.Nat.{le-antisymm}
 use native.Mathlib.Omega.{arith}
-use Rattle.program.specs.Preparing.{Copied}
+use Rattle.program.specs.Parts.Preparing.{Copied}
 use Rattle.program.proofs.Copying.{copied-none, copied-next}
 use Rattle.program.proofs.prepared.coding.put_table.Statement.{statement}
 use Rattle.program.proofs.prepared.coding.put_table.Tie as tie

@@ -6,8 +6,8 @@ use borrow.Fn.PlainCycle.{Measures, is, falls, and}
 use mathlib.Core.List.{List, []}
 use mathlib.Core.Path.{_≡_, refl, sym, subst}
 use native.Mathlib.Omega.{arith}
-use Rattle.program.specs.GraphingParts.{Strip, strip, freshOf, nextOf, partAt, Room, Drew}
-use Rattle.program.specs.Prepared.{entriesIn}
+use Rattle.program.specs.Parts.GraphingParts.{Strip, strip, freshOf, nextOf, partAt, Room, Drew}
+use Rattle.program.specs.Parts.Prepared.{entriesIn}
 use Rattle.program.specs.Tree.{Entries}
 use Rattle.program.specs.declared.CommandNode.{CommandNode}
 use Rattle.program.proofs.Forms.{CommandParts, command-lower}

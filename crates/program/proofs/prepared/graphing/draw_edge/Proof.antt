@@ -1,7 +1,7 @@
 -- `program::prepared::graphing::draw_edge` meets its contract.
 use borrow.Author.Needs.{needs}
 use native.Mathlib.Omega.{arith}
-use Rattle.program.specs.GraphingParts.{edgeStrip}
+use Rattle.program.specs.Parts.GraphingParts.{edgeStrip}
 use Rattle.program.proofs.prepared.graphing.draw_edge.Statement.{statement}
 use Rattle.program.proofs.prepared.graphing.draw_edge.Tie as tie
 

@@ -3,7 +3,7 @@ use Prim.Native.Nat.{_≤_, _-_}
 use borrow.Author.Needs.{needs}
 use mathlib.Core.Path.{sym, _∙_}
 use native.Mathlib.Omega.{arith}
-use Rattle.program.specs.Prepared.{firstPlace, nextPlace}
+use Rattle.program.specs.Parts.Prepared.{firstPlace, nextPlace}
 use Rattle.program.proofs.Threads.{Cleared, cleared-none, cleared-next, cleared-all}
 use Rattle.program.proofs.prepared.linking.clear.Statement.{statement}
 use Rattle.program.proofs.prepared.linking.clear.Tie as tie

@@ -3,7 +3,7 @@ use Prim.Native.Nat.{suc, _+_, _≤_, _-_}
 use borrow.Author.Needs.{needs}
 use mathlib.Core.Path.{_≡_}
 use native.Mathlib.Omega.{arith}
-use Rattle.program.specs.LinkingParts.{Linkable}
+use Rattle.program.specs.Parts.LinkingParts.{Linkable}
 use Rattle.program.proofs.Threads.{linkable-kept, Held, held-inside, held-none, held-more, held-all}
 use Rattle.program.proofs.prepared.linking.link.Statement.{statement}
 use Rattle.program.proofs.prepared.linking.link.Tie as tie

@@ -1,6 +1,6 @@
 -- `program::prepared::linking::link_edge` meets its contract.
 use borrow.Author.Needs.{needs}
-use Rattle.program.specs.LinkingParts.{linkedOne}
+use Rattle.program.specs.Parts.LinkingParts.{linkedOne}
 use Rattle.program.proofs.prepared.linking.link_edge.Statement.{statement}
 use Rattle.program.proofs.prepared.linking.link_edge.Tie as tie
 

@@ -3,7 +3,7 @@ use borrow.Author.Needs.{needs}
 use Prim.Native.Nat.{_+_, _*_}
 use mathlib.Core.Path.{_≡_, _∙_, ap}
 use native.Mathlib.Omega.{arith}
-use Rattle.program.specs.Checking.{Standing}
+use Rattle.program.specs.Parts.Checking.{Standing}
 use Rattle.program.specs.File.{tableStart}
 use Rattle.program.specs.declared.Table.{Table}
 use Rattle.program.proofs.Reading.{laid-start, entry-in, entry-read}

@@ -1,6 +1,6 @@
 -- `program::validation::operands::any_answer` meets its contract.
 use borrow.Author.Tests.{eq-eqb, ne-eqb}
-use Rattle.program.specs.Checking.{anyAnswer}
+use Rattle.program.specs.Parts.Checking.{anyAnswer}
 use Rattle.program.proofs.validation.operands.any_answer.Statement.{statement}
 use Rattle.program.proofs.validation.operands.any_answer.Tie as tie
 

@@ -1,7 +1,7 @@
 -- `program::validation::uses::capacity` meets its contract.
 use borrow.Author.Needs.{needs}
 use mathlib.Core.Path.{ap}
-use Rattle.program.specs.Counting.{capacity}
+use Rattle.program.specs.Parts.Counting.{capacity}
 use Rattle.program.specs.declared.Field.{Field}
 use Rattle.program.proofs.validation.uses.capacity.Statement.{statement}
 use Rattle.program.proofs.validation.uses.capacity.Tie as tie

@@ -5,7 +5,7 @@ use lib.ListN.{getD, set}
 use mathlib.Core.List.{List}
 use mathlib.Core.Path.{_≡_, ap, _∙_, sym, subst}
 use native.Mathlib.Omega.{arith}
-use Rattle.program.specs.Counting.{capacity, slot, Counted}
+use Rattle.program.specs.Parts.Counting.{capacity, slot, Counted}
 use Rattle.program.specs.Kind.{To, tableOf}
 use Rattle.program.specs.Questions.{refersTo}
 use Rattle.program.specs.declared.Table.{Table}

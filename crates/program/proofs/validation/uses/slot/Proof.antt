@@ -1,6 +1,6 @@
 -- `program::validation::uses::slot` meets its contract.
 use borrow.Author.Needs.{needs}
-use Rattle.program.specs.Counting.{slot}
+use Rattle.program.specs.Parts.Counting.{slot}
 use Rattle.program.proofs.validation.uses.slot.Statement.{statement}
 use Rattle.program.proofs.validation.uses.slot.Tie as tie
 

@@ -1,6 +1,6 @@
 -- `evaluator::action::effect`: by what the action is.
 use borrow.Author.Needs.{needs}
-use Rattle.program.specs.Prepared.{decodedMeaning}
+use Rattle.program.specs.Parts.Prepared.{decodedMeaning}
 use Rattle.program.proofs.Laws.{boolean-whole, command-whole}
 use Rattle.semantics.proofs.Coded.{handed}
 use Rattle.semantics.proofs.Effects.{no-effect, test-effect}

@@ -1,7 +1,7 @@
 -- `evaluator::action::perform`: by what the action is.
 use mathlib.Core.Path.{refl}
 use borrow.Author.Needs.{needs}
-use Rattle.program.specs.Prepared.{decodedMeaning}
+use Rattle.program.specs.Parts.Prepared.{decodedMeaning}
 use Rattle.program.proofs.Laws.{boolean-whole, command-whole}
 use Rattle.semantics.specs.Action.{after, isDefined}
 use Rattle.semantics.proofs.Effects.{no-effect, test-effect, performs, held}

@@ -7,7 +7,7 @@ use native.Mathlib.Nat.{eq-or-lt-of-le}
 use native.Mathlib.Omega.{arith}
 use lib.ListN.{List·getD-eq-default}
 use Rattle.signs.specs.declared.Reason.the-variants.{ConditionFalse, DivisorZero, ExponentNegative, IndexNegative, IndexTooLarge, OutOfRange}
-use Rattle.semantics.specs.Coding.{reasonNumbered}
+use Rattle.semantics.specs.Parts.Coding.{reasonNumbered}
 use Rattle.semantics.proofs.evaluator.action.reason_numbered.Statement.{statement}
 use Rattle.semantics.proofs.evaluator.action.reason_numbered.Tie as tie
 

@@ -3,7 +3,7 @@ use mathlib.Core.Path.{_≡_, refl}
 use mathlib.Core.Bool.{false}
 use mathlib.Core.List.{[]}
 use Rattle.program.proofs.Laws.{arith-whole}
-use Rattle.program.specs.Prepared.{entriesIn}
+use Rattle.program.specs.Parts.Prepared.{entriesIn}
 use Rattle.program.specs.Tree.{arithAt}
 use Rattle.semantics.specs.Action.{after, isDefined}
 use Rattle.semantics.proofs.Coded.{isFault, handed, tested, whole-index}

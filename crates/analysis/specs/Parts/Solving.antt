@@ -7,7 +7,7 @@ use Rattle.signs.specs.Lists.{tabulate, passing, indices}
 use Rattle.program.specs.Graph.{Graph}
 use Rattle.program.specs.declared.Validity.{Validity}
 use Rattle.semantics.specs.Step.{leaves}
-use Rattle.analysis.specs.Membership.{Indexed}
+use Rattle.analysis.specs.Parts.Membership.{Indexed}
 use Rattle.analysis.specs.Records.{recordAt}
 use Rattle.analysis.specs.Solver.{Found, solvedWith, bufferWith}
 use Rattle.analysis.specs.declared.Solved.{Solved}

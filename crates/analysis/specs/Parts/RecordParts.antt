@@ -8,7 +8,7 @@ use lib.ListN.{length, getD}
 use Rattle.signs.specs.Lists.{tabulate}
 use Rattle.program.specs.Asking.{ask, thenAsk}
 use Rattle.program.specs.File.{byteAt, wordAt}
-use Rattle.program.specs.Prepared.{sizeIn}
+use Rattle.program.specs.Parts.Prepared.{sizeIn}
 use Rattle.program.specs.declared.Validity.{Validity}
 use Rattle.analysis.specs.Records.{memoryFormed}
 

@@ -9,7 +9,7 @@ use Rattle.program.specs.Graph.{Graph}
 use Rattle.program.specs.declared.First.the-variants.{At, Nothing}
 use Rattle.semantics.specs.Action.{after}
 use Rattle.semantics.specs.Budget.{lowestDefined, Result, runFrom}
-use Rattle.semantics.specs.Cells.{NumbersIn}
+use Rattle.semantics.specs.Parts.Cells.{NumbersIn}
 use Rattle.semantics.specs.Step.{begun, edgeEffect}
 use Rattle.semantics.specs.declared.Ended.{Ended}
 use Rattle.semantics.specs.declared.Ending.{Ending}

@@ -10,16 +10,16 @@ use Rattle.program.specs.Asking.{askPlain}
 use Rattle.program.specs.FirstSuch.{firstSuch}
 use Rattle.program.specs.Graph.{Graph, edgeAt}
 use Rattle.program.specs.Meaning.{meaning}
-use Rattle.program.specs.Prepared.{Prepared, entriesIn, actionIn, decodedMeaning, nameCountPlace}
+use Rattle.program.specs.Parts.Prepared.{Prepared, entriesIn, actionIn, decodedMeaning, nameCountPlace}
 use Rattle.program.specs.declared.First.{First}
 use Rattle.program.specs.declared.Validity.the-variants.{Fit}
 use Rattle.semantics.specs.Step.{leaves}
-use Rattle.analysis.specs.Changing.{Alike}
+use Rattle.analysis.specs.Parts.Changing.{Alike}
 use Rattle.analysis.specs.Index.{mayBeNegative}
-use Rattle.analysis.specs.Membership.{Indexed, Weighed}
+use Rattle.analysis.specs.Parts.Membership.{Indexed, Weighed}
 use Rattle.analysis.specs.Records.{recordWidth, recordCount, recordAt, nodeOf, memoryOf, hasAt, wholeRecords, solutionFormed}
 use Rattle.analysis.specs.Results.{results}
-use Rattle.analysis.specs.Tabled.{Ready}
+use Rattle.analysis.specs.Parts.Tabled.{Ready}
 use Rattle.analysis.specs.Verdict.{missingInitial, spotAt, missingResult, indexMark, verdictBy, markingBy}
 use Rattle.analysis.specs.declared.Marking.{Marking}
 use Rattle.analysis.specs.declared.Spot.{Spot}
@@ -86,8 +86,8 @@ pub record Searched (ns : List ℕ) (g : Graph) (code graph : List ℕ) (q : Que
   pub filled : q ≡ MissingResult → Filled (length ns) solution index
 
 -- the verdict on two lists of whole, well-formed records
-unfoldable pub found : List ℕ → Graph → List ℕ → List ℕ → Verdict
-found ns g initial solution = verdictBy (missingInitial ns initial solution) (missingResult ns g solution) (indexMark ns g solution)
+unfoldable pub formedVerdict : List ℕ → Graph → List ℕ → List ℕ → Verdict
+formedVerdict ns g initial solution = verdictBy (missingInitial ns initial solution) (missingResult ns g solution) (indexMark ns g solution)
 
 -- the index mark of a list of records by itself, after 16 and 17
 unfoldable pub marked : List ℕ → Graph → List ℕ → Marking

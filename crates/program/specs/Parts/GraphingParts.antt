@@ -3,9 +3,9 @@ use Prim.Native.Nat.{ℕ, _+_, _*_, _/_, _%_, _≤_, _<_}
 use mathlib.Core.Path.{_≡_}
 use mathlib.Core.List.{List, [], _∷_, flatMap}
 use lib.ListN.{length}
-use Rattle.program.specs.DrawingParts.{overAt}
+use Rattle.program.specs.Parts.DrawingParts.{overAt}
 use Rattle.program.specs.Graph.{Edge, part, actionKind, actionEntry}
-use Rattle.program.specs.Prepared.{edgePlace, graphLength}
+use Rattle.program.specs.Parts.Prepared.{edgePlace, graphLength}
 use Rattle.program.specs.Syntax.{Command}
 use Rattle.program.specs.Tree.{Entries, commandBelow, commandTrees}
 

@@ -5,7 +5,8 @@ use Prim.Native.Nat.{ℕ, _+_, min}
 use lib.IntN.{ℤ}
 use Rattle.program.specs.Graph.{Graph}
 use Rattle.semantics.specs.Action.{after}
-use Rattle.semantics.specs.Step.{outcomeBy, outcome, step}
+use Rattle.semantics.specs.Parts.Replaying.{step}
+use Rattle.semantics.specs.Step.{outcomeBy, outcome}
 use Rattle.semantics.specs.declared.Effect.{Effect}
 use Rattle.semantics.specs.declared.Effect.the-variants.{Undefined as Fails, Unchanged, Stored}
 use Rattle.semantics.specs.declared.Run.{Run}

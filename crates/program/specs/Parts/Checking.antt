@@ -5,7 +5,7 @@ use mathlib.Core.Bool.{Bool, true, not, _||_}
 use mathlib.Core.List.{List}
 use mathlib.Core.Path.{_≡_}
 use lib.Dec.{eqb}
-use Rattle.program.specs.Counting.{Counted}
+use Rattle.program.specs.Parts.Counting.{Counted}
 use Rattle.program.specs.File.{entryCount, entryOffset, entry}
 use Rattle.program.specs.Kind.{Role}
 use Rattle.program.specs.Questions.{named, points, entryValidity, tableValidity, refersTo, entryUses, tableUses}

@@ -1,13 +1,24 @@
 -- What questions 8 and 9 say of trees: names that are there and of the right sort, and references that point as they must.
 -- The condition of an exit has the first and not the second: its entries are those of commands.
-use Prim.Native.Nat.{ℕ}
-use mathlib.Core.Bool.{Bool, true, false, not, _&&_}
-use mathlib.Core.List.{List}
-use lib.Dec.{ltb}
+use Prim.Native.Nat.{ℕ, _+_}
+use mathlib.Core.Bool.{Bool, true, false, not, cond, _&&_}
+use mathlib.Core.List.{List, [], _∷_}
+use lib.Dec.{eqb, ltb}
+use lib.ListN.{getD}
 use Rattle.program.specs.File.{isVariable, isArray}
 use Rattle.program.specs.Graph.{Action, perform, test, leave, done}
 use Rattle.program.specs.Meaning.{Meaning, nothing, assigns, stores, condition}
-use Rattle.program.specs.Syntax.{Arith, number, variable, element, operator, arithEntry, Boolean, truth, comparison, conjunction, shortCircuit, negation, booleanEntry, Command, skip, assign, store, sequence, conditional, iteration, guarded, choice, commandEntry}
+use Rattle.program.specs.Syntax.{Arith, number, variable, element, operator, Boolean, truth, comparison, conjunction, shortCircuit, negation, booleanEntry, Command, skip, assign, store, sequence, conditional, iteration, guarded, choice, commandEntry}
+use Rattle.program.specs.Tree.{Entries, booleanAt, commandAt}
+use Rattle.program.specs.declared.Table.{Table}
+use Rattle.program.specs.declared.Table.the-variants.{Boolean as Booleans, Commands}
+
+-- the entry of an arithmetic tree
+unfoldable pub arithEntry : Arith → ℕ
+arithEntry (number n z) = n
+arithEntry (variable n x) = n
+arithEntry (element n x i) = n
+arithEntry (operator n o a b) = n
 
 -- "is a named name there and of the right sort?": every name of an arithmetic expression
 unfoldable pub arithNamed : List ℕ → Arith → Bool
@@ -97,3 +108,26 @@ unfoldable pub actionPoints : Action → Bool
 actionPoints (perform c) = commandPoints c
 actionPoints (test b) = booleanPoints b
 actionPoints (leave c) = isGuardedTree c && commandPoints c
+
+-- the table of an action's entry, by its kind
+unfoldable pub actionTable : ℕ → Table
+actionTable kind = cond (eqb kind 2) Booleans Commands
+
+-- the action of a kind and an entry; any other kind is a skip
+unfoldable pub actionOf : Entries → ℕ → ℕ → Action
+actionOf es kind n =
+    getD
+    (perform (skip n) ∷ perform (commandAt es n) ∷ test (booleanAt es n) ∷ leave (commandAt es n) ∷ [])
+    kind
+    (perform (skip n))
+
+-- the number of commands and guarded commands in a tree
+unfoldable pub commandSize : Command → ℕ
+commandSize (skip n) = 1
+commandSize (assign n x a) = 1
+commandSize (store n x i a) = 1
+commandSize (sequence n c d) = 1 + commandSize c + commandSize d
+commandSize (conditional n c) = 1 + commandSize c
+commandSize (iteration n c) = 1 + commandSize c
+commandSize (guarded n b c) = 1 + commandSize c
+commandSize (choice n c d) = 1 + commandSize c + commandSize d

@@ -13,9 +13,9 @@ use Rattle.program.specs.File.{signed32, sizes, cellCount, firstCell}
 use Rattle.program.specs.Graph as drawn
 use Rattle.program.specs.Graph.{Graph, edgeAt, done}
 use Rattle.program.specs.Meaning.{Meaning, nothing, assigns, stores, condition, meaning}
-use Rattle.program.specs.Node.{commandForm}
+use Rattle.program.specs.Parts.Node.{commandForm}
 use Rattle.program.specs.Questions.{validity}
-use Rattle.program.specs.Sorted.{meaningNamed}
+use Rattle.program.specs.Parts.Sorted.{meaningNamed}
 use Rattle.program.specs.Tree.{Entries, arithAt, booleanAt, commandAt}
 use Rattle.program.specs.declared.ActionNode.{ActionNode}
 use Rattle.program.specs.declared.ActionNode.the-variants.{Nothing, Assign, Store, Holds, Exit}
@@ -215,17 +215,17 @@ pub record Coded (ns code : List ℕ) : Type 0 where
 pub record PreparedEdge (ns : List ℕ) (g : Graph) (code graph : List ℕ) (e : ℕ) : Type 0 where
   pub source : sourceIn graph e ≡ edgeAt g e .source
   pub target : targetIn graph e ≡ edgeAt g e .target
-  pub from : edgeAt g e .source < g .fresh
-  pub to : edgeAt g e .target < g .fresh
+  pub from : edgeAt g e .source < g .nodes
+  pub to : edgeAt g e .target < g .nodes
   pub action : decodedMeaning (entriesIn code graph) (actionIn graph e) ≡ meaning (edgeAt g e .action)
   pub named : T (meaningNamed ns (meaning (edgeAt g e .action)))
 
 -- a graph of at most 129 nodes and 255 edges, whose names have the sizes ns, prepared
 pub record Prepared (ns : List ℕ) (g : Graph) (code graph : List ℕ) : Type 0 where
   pub coded : Coded ns code
-  pub few-nodes : g .fresh ≤ nodesMost
+  pub few-nodes : g .nodes ≤ nodesMost
   pub few-edges : length (g .edges) ≤ edgesMost
-  pub nodes : getD graph nodeCountPlace 0 ≡ g .fresh
+  pub nodes : getD graph nodeCountPlace 0 ≡ g .nodes
   pub edges : getD graph edgeCountPlace 0 ≡ length (g .edges)
   pub edge : (e : ℕ) → e < length (g .edges) → PreparedEdge ns g code graph e
 

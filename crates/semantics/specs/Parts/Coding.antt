@@ -13,10 +13,10 @@ use Rattle.signs.specs.declared.Reason.{Reason}
 use Rattle.signs.specs.declared.Reason.the-variants.{ConditionFalse, DivisorZero, ExponentNegative, IndexNegative, IndexTooLarge, OutOfRange}
 use Rattle.program.specs.File.{firstCell, isArray}
 use Rattle.program.specs.Meaning.{Meaning}
-use Rattle.program.specs.Sorted.{arithNamed, booleanNamed, meaningNamed}
+use Rattle.program.specs.Parts.Sorted.{arithNamed, booleanNamed, meaningNamed}
 use Rattle.program.specs.Syntax.{Arith, Boolean}
 use Rattle.semantics.specs.Action.{effect, after, isDefined}
-use Rattle.semantics.specs.Cells.{Loaded}
+use Rattle.semantics.specs.Parts.Cells.{Loaded}
 use Rattle.semantics.specs.Expression.{fault, Place, at, nowhere, placeOf, value, truthIn}
 use Rattle.semantics.specs.declared.Effect.{Effect}
 use Rattle.semantics.specs.declared.Evaluation.{Evaluation}

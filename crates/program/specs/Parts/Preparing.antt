@@ -8,7 +8,7 @@ use lib.ListN.{length, getD}
 use Rattle.program.specs.File.{nameCount, sizes, entryCount, entryAt, entry, cellCount, firstCell}
 use Rattle.program.specs.Graph as drawn
 use Rattle.program.specs.Graph.{edgeAt, edgeCount, nodeCount, actionKind, actionEntry}
-use Rattle.program.specs.Prepared.{booleanPlace, sizePlace, cellPlace, nameCountPlace, codeLength, nodeCountPlace, edgeCountPlace, numbersAt, cellIn, edgeIn, Coded}
+use Rattle.program.specs.Parts.Prepared.{booleanPlace, sizePlace, cellPlace, nameCountPlace, codeLength, nodeCountPlace, edgeCountPlace, numbersAt, cellIn, edgeIn, Coded}
 use Rattle.program.specs.declared.Table.the-variants.{Arithmetic, Boolean, Commands}
 
 -- an array in which so many entries, those from a byte of a file on, were put from a place on, over what was there

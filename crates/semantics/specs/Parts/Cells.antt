@@ -6,7 +6,7 @@ use mathlib.Core.List.{List}
 use lib.IntN.{ℤ}
 use lib.ListN.{length, getD}
 use Rattle.signs.specs.Lists.{tabulate}
-use Rattle.program.specs.Prepared.{expressionsMost, cellsMost, numberPlace, arithmeticCountPlace, numberIn, Coded}
+use Rattle.program.specs.Parts.Prepared.{expressionsMost, cellsMost, numberPlace, arithmeticCountPlace, numberIn, Coded}
 use Rattle.semantics.specs.Expression.{cellValue}
 
 -- the cells of that array

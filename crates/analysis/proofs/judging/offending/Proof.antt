@@ -1,4 +1,4 @@
--- `judging::verdict`: by the verdict's cases.
+-- `judging::offending`: by the verdict's cases.
 use borrow.Author.Needs.{needs}
 use Prim.Native.Nat.{_+_, _≤_}
 use mathlib.Core.Path.{sym, _∙_}
@@ -6,8 +6,8 @@ use native.Mathlib.Nat.{mul-le-mul}
 use native.Mathlib.Omega.{arith}
 use Rattle.analysis.specs.Verdict.{offending}
 use Rattle.analysis.proofs.Judged.{initial-part, solution-part}
-use Rattle.analysis.proofs.judging.verdict.Statement.{statement}
-use Rattle.analysis.proofs.judging.verdict.Tie as tie
+use Rattle.analysis.proofs.judging.offending.Statement.{statement}
+use Rattle.analysis.proofs.judging.offending.Tie as tie
 
 mul-part : tie.Need-mul-part
 mul-part c = record { fits = omega (arith, mul-le-mul (c .before .before .before .before .name-count .ok) (c .known-told .given .0 .1)) }
@@ -36,8 +36,8 @@ returns-5 : tie.Need-returns-5
 unfolding offending
 returns-5 c = rw (sym (c .before .before .before .judge .ensures .0) ∙ c .before .enum-told3 .given .1)
 
-pub verdict-spec : {M : Type 1} → statement M
-verdict-spec =
+pub offending-spec : {M : Type 1} → statement M
+offending-spec =
     tie.close
     (tie.spec (λ c κs. search needs) (λ c. search needs) (λ c κs. search needs) (λ c. search needs) (λ c. search needs) mul-part (λ c κs. search needs) (λ c. search needs)
     (λ c. search needs) (λ c. search needs) mul-part-2 (λ c. search needs) (λ c κs. search needs) (λ c. search needs) (λ c. search needs) (λ c. search needs) (λ c. search needs)

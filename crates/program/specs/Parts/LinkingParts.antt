@@ -3,7 +3,7 @@ use mathlib.Core.Path.{_≡_}
 use mathlib.Core.List.{List}
 use Prim.Native.Nat.{ℕ, _+_, _<_, _≤_}
 use lib.ListN.{length, getD, set}
-use Rattle.program.specs.Prepared.{firstPlace, nextPlace, nodeCountPlace, edgeCountPlace, graphLength, sourceIn, Linked}
+use Rattle.program.specs.Parts.Prepared.{firstPlace, nextPlace, nodeCountPlace, edgeCountPlace, graphLength, sourceIn, Linked}
 
 -- edges that can be linked, all of them: at most 255, each out of one of 129 nodes
 pub record Linkable (graph : List ℕ) : Type 0 where

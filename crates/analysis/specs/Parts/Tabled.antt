@@ -4,7 +4,7 @@ use mathlib.Core.List.{List}
 use Prim.Native.Nat.{ℕ, _<_}
 use lib.ListN.{getD, drop}
 use Rattle.program.specs.Graph.{Graph}
-use Rattle.program.specs.Prepared.{tablePlace, Prepared, Linked}
+use Rattle.program.specs.Parts.Prepared.{tablePlace, Prepared, Linked}
 use Rattle.signs.specs.Grid.{setTable}
 
 -- code with the set table behind it

@@ -1,0 +1,11 @@
+pub mod Layouts
+pub mod Counting
+pub mod Checking
+pub mod Node
+pub mod Sorted
+pub mod Prepared
+pub mod DrawingParts
+pub mod GraphingParts
+pub mod LinkingParts
+pub mod Preparing
+pub mod Guards

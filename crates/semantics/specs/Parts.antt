@@ -1,0 +1,5 @@
+pub mod Cells
+pub mod Coding
+pub mod Stepping
+pub mod Running
+pub mod Replaying
