@@ -3,7 +3,6 @@ use mathlib.Core.Path.{_≡_, refl}
 use mathlib.Core.List.{List, [], _++_, append-assoc, append-nil}
 use Prim.Native.Nat.{ℕ}
 use Rattle.signs.specs.Truth.{certain, conjoined}
-use Rattle.signs.specs.declared.Truths.{Truths}
 use Rattle.signs.proofs.Laws.{conjoined-assoc, conjoined-certain, certain-conjoined}
 use Rattle.program.specs.Graph.{done}
 use Rattle.program.specs.Parts.Guards.{guards, allFalse}

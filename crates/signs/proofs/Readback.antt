@@ -5,7 +5,6 @@ use Prim.Native.Nat.{ℕ, _-_}
 use lib.IntN.{ℤ, pos, negsuc}
 use lib.ListN.{length, getD}
 use Rattle.signs.specs.Number.{reasonNumber, valueNumbers}
-use Rattle.signs.specs.declared.Reason.{Reason}
 use Rattle.signs.specs.declared.Reason.the-variants.{ConditionFalse, DivisorZero, ExponentNegative, IndexNegative, IndexTooLarge, OutOfRange}
 use Rattle.signs.specs.declared.Value.{Value}
 use Rattle.signs.specs.declared.Value.the-variants.{Number, Undefined}
