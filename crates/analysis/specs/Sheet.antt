@@ -15,8 +15,8 @@ use Rattle.analysis.specs.Solver.{Found, solution, roomOf}
 use Rattle.analysis.specs.Verdict.{indexMark, markNumbers}
 
 -- "Its sheet buffer has 65,536 bytes": the solver's list for an input
-unfoldable pub listed : List ℕ → Found
-listed input =
+unfoldable pub sheetOf : List ℕ → Found
+sheetOf input =
     let s = programPart input in
     solution (sizes s) (graph s) (initialPart input) (roomOf (sizes s) 65536)
 
@@ -44,4 +44,4 @@ rowsBy input f Fit = listing (programPart input) (f .records)
 rowsBy input f (Refused x) = (x .number ∷ x .offset ∷ []) ∷ []
 
 unfoldable pub printedRows : List ℕ → List (List ℕ)
-printedRows input = let f = listed input in rowsBy input f (printValidity input f)
+printedRows input = let f = sheetOf input in rowsBy input f (printValidity input f)
