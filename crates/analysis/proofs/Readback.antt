@@ -14,6 +14,7 @@ use Rattle.program.specs.declared.First.the-variants.{At, Nothing}
 use Rattle.program.specs.declared.Refusal.{Refusal}
 use Rattle.program.specs.declared.Validity.{Validity}
 use Rattle.program.specs.declared.Validity.the-variants.{Fit, Refused}
+use Rattle.program.proofs.Never.{never}
 use Rattle.program.proofs.Laws.{same-row, refusalRead, placed-ask, validity-placed}
 use Rattle.program.proofs.Places.{Placed}
 use Rattle.analysis.specs.Records.{bothWhole, listNumber, wrongByteNumbers}
@@ -39,9 +40,6 @@ use Rattle.analysis.specs.declared.WrongByte.{WrongByte}
 -- the wrong byte of a row of 17
 abbrev wrongByteRead : List ℕ → WrongByte
 wrongByteRead l = record { list = cond (eqb (getD l 1 0) 1) Initial Solution; offset = getD l 2 0 }
-
-never : {A : Type 0} → _≡_ {A = ℕ} 0 1 → A
-never e = absurd (omega (arith, e))
 
 -- ---- A verdict
 

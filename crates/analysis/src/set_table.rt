@@ -10,7 +10,7 @@ use program::prepared::TABLE;
 use signs::Operator;
 use signs::grid;
 
-// The most sets of the table.
+// The number of its sets.
 const SETS: usize = 320;
 
 // Puts it there.

@@ -17,7 +17,7 @@ use Rattle.analysis.specs.declared.Verdict.{Verdict}
 use Rattle.analysis.specs.declared.Verdict.the-variants.{Refused, Malformed, InitialMissing, ResultMissing, Accepted}
 use Rattle.desk.specs.Accepting.{markTold, ThirdTermTold}
 use Rattle.desk.specs.Reply.{replyRoom, unlessShort, replied, told}
-use Rattle.desk.proofs.Never.{never}
+use Rattle.program.proofs.Never.{never}
 use Rattle.desk.proofs.Places.{VerdictTold, verdict-told}
 
 -- the first of a row, and its rest

@@ -1,4 +1,3 @@
-pub mod Never
 pub mod Replies
 pub mod Written
 pub mod Lengths

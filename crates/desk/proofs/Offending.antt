@@ -22,7 +22,7 @@ use Rattle.analysis.specs.declared.Spot.the-variants.{At as Here, Nowhere}
 use Rattle.analysis.specs.declared.Verdict.{Verdict}
 use Rattle.analysis.specs.declared.Verdict.the-variants.{Refused as Refuses, Malformed, InitialMissing, ResultMissing, Accepted}
 use Rattle.desk.specs.Rows.{offendingBy, offended, listNamed, partNamed}
-use Rattle.desk.proofs.Never.{never}
+use Rattle.program.proofs.Never.{never}
 use Rattle.desk.proofs.Places.{record-inside}
 
 -- a row names the record itself

@@ -56,7 +56,7 @@ use Rattle.analysis.specs.declared.Verdict.{Verdict}
 use Rattle.analysis.specs.declared.Verdict.the-variants.{Refused as Declines, Malformed}
 use Rattle.analysis.specs.declared.WrongByte.{WrongByte}
 use Rattle.desk.specs.Reply.{Narrow}
-use Rattle.desk.proofs.Never.{never}
+use Rattle.program.proofs.Never.{never}
 
 -- ---- Drawing and splitting
 

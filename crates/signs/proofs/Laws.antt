@@ -223,9 +223,6 @@ andThen-monotone a a′ b b′ ha hb false =
 
 -- ---- Rows of numbers
 
--- a value is fixed by its row alone; and a natural number out of a row of integers
+-- a value is fixed by its row alone
 pub value-row : (v w : Value) → valueNumbers v ≡ valueNumbers w → v ≡ w
 value-row = Readback.value-row
-
-abbrev pub natural : ℤ → ℕ
-natural = Readback.natural

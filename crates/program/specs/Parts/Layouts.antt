@@ -8,7 +8,7 @@ use Rattle.program.specs.declared.FieldHeads.{FieldHeads}
 use Rattle.program.specs.declared.Layout.{Layout}
 use Rattle.program.specs.declared.Table.{Table}
 
--- the four heads that it is worked out from, and what stands after the four fields
+-- the four heads that a layout is worked out from, and what stands after the four fields
 unfoldable pub headsOf : List ℕ → FieldHeads
 headsOf s = record { names = fieldHead s 0; arithmetic = fieldHead s 1; boolean = fieldHead s 2; commands = fieldHead s 3; initial = fieldHead s 4 }
 
