@@ -2,21 +2,27 @@
 use mathlib.Core.Path.{_≡_, refl, sym, _∙_, ap}
 use mathlib.Core.List.{List}
 use Prim.Native.Nat.{ℕ, _+_, _*_, _%_, _≤_, _<_}
-use native.Mathlib.Decide.{ℕ-discrete, decLt}
+use native.Mathlib.Decide.{ℕ-discrete}
 use native.Mathlib.Omega.{arith}
 use borrow.Author.Tests.{lt-ltb}
+use mathlib.Core.Bool.{cond}
+use lib.Dec.{ltb}
 use lib.ListN.{length, getD, set, replicate, length-set}
 use lib.Seq.{getD-set-same, getD-set-other}
-use Rattle.program.specs.Parts.Prepared.{noEntry, booleanPlace, sizePlace, cellPlace, nameCountPlace, arithmeticCountPlace, codeLength, numbersAt, sizeIn, cellIn, Coded}
+use Rattle.program.specs.Parts.Prepared.{noEntry, booleanPlace, sizePlace, cellPlace, nameCountPlace, arithmeticCountPlace, codeLength, numbersAt, sizeIn, cellIn, arithIn, leafCell, Coded}
 use Rattle.program.specs.File.{nameCount, sizeAt, sizes, layoutOf, spanOf, tableStart, entryOffset, entryCount, entry, cellsOf, cellCount, firstCell}
+use Rattle.program.specs.Kind.{arithKind}
 use Rattle.program.specs.Parts.Preparing.{Copied, NamesPut, NamesDone, fourthIn, CellsPut, CodeIn}
 use Rattle.program.specs.Questions.{validity}
+use Rattle.program.specs.declared.ArithNode.{ArithNode}
+use Rattle.program.specs.declared.ArithNode.the-variants.{Number, Variable, Element, Operator}
 use Rattle.program.specs.declared.Entry.{Entry}
 use Rattle.program.specs.declared.Layout.{Layout}
 use Rattle.program.specs.declared.Table.the-variants.{Arithmetic, Boolean}
 use Rattle.program.specs.declared.Validity.the-variants.{Fit}
 use Rattle.program.proofs.Cells.{cells-inside, sizes-length, size-at}
 use Rattle.program.proofs.Copying.{numbers-same}
+use Rattle.program.proofs.Expressions.{There, node-there, node-lower}
 use Rattle.program.proofs.Fit.{counts, few-cells}
 use Rattle.program.proofs.Lists.{getD-same}
 
@@ -73,15 +79,36 @@ module _ (s old : List ℕ) where
         count = getD-set-same first nameCountPlace names 0 (rw length-set (omega arith)) ∙ f;
       }
 
+-- the cells of leaves depend on the first cells of the names that are there
+named-cell : (f g : ℕ → ℕ) (names n : ℕ) → ((x : ℕ) → x < names → f x ≡ g x) → (k : ArithNode) → There names k → leafCell f n k ≡ leafCell g n k
+unfolding leafCell
+named-cell f g names n same (Number z) there = refl
+named-cell f g names n same (Variable x) there = same x there
+named-cell f g names n same (Element x i) there = refl
+named-cell f g names n same (Operator o p q) there = refl
+
+-- the fourth number of an entry, where code has asked what the entry is, and was told
+pub fourth-told : (code : List ℕ) (n : ℕ) {x k : ArithNode} → x ≡ arithIn code n → x ≡ k → fourthIn code n ≡ leafCell (cellIn code) n k
+unfolding fourthIn
+fourth-told code n e told = ap (leafCell (cellIn code) n) (sym e ∙ told)
+
 -- the fourth numbers of the arithmetic entries: none yet, and one more
 module _ (old : List ℕ) where
   pub cells-none : length old ≡ codeLength → CellsPut 0 old old
   cells-none len = record { long = len; fourth = λ n h. absurd (omega arith); others = λ i h. refl; after = λ i h. refl }
 
+  -- what an entry is does not depend on its fourth number, nor do the names' first cells
+  kind-kept : (k : ℕ) {code : List ℕ} → CellsPut k old code → (n : ℕ) → arithIn code n ≡ arithIn old n
+  unfolding arithIn arithKind numbersAt
+  kind-kept k {code} p n = rw (p .others (4 * n) (omega arith), p .others (4 * n + 1) (omega arith), p .others (4 * n + 2) (omega arith))
+
+  cell-kept : (k : ℕ) {code : List ℕ} → k < 512 → CellsPut k old code → cellIn code ≡ cellIn old
+  unfolding cellIn
+  cell-kept k h p = λ i x. cond (ltb x 32) (p .after (cellPlace + x) (omega arith) i) 0
+
   fourth-kept : (k : ℕ) {code : List ℕ} → k < 512 → CellsPut k old code → fourthIn code k ≡ fourthIn old k
-  unfolding fourthIn cellIn
-  fourth-kept k {code} h p =
-      rw (p .others (4 * k) (omega arith), p .others (4 * k + 1) (omega arith), p .after (4 * k + 3) (omega arith), p .after (cellPlace + getD old (4 * k + 1) 0) (omega arith))
+  unfolding fourthIn
+  fourth-kept k {code} h p = rw (kind-kept k p k, cell-kept k h p)
 
   pub cells-next : (k cell : ℕ) {m : ℕ} {code : List ℕ} → k < 512 → cell ≡ fourthIn code k → m ≡ k + 1 → CellsPut k old code → CellsPut m old (set code (4 * k + 3) cell)
   cells-next k cell {m} {code} h e next p =
@@ -123,16 +150,25 @@ module _ (s : List ℕ) (fit : validity s ≡ Fit) (one two three four : List �
   counted : getD last arithmeticCountPlace 0 ≡ entryCount s Arithmetic
   counted = getD-set-same four arithmeticCountPlace (entryCount s Arithmetic) 0 (omega (arith, v .long))
 
-  variable-cell : (k : ℕ) → k < entryCount s Arithmetic → getD last (4 * k) 0 ≡ 1 → getD last (4 * k + 1) 0 < nameCount s
-      → getD last (4 * k + 3) 0 ≡ firstCell (sizes s) (getD last (4 * k + 1) 0)
-  unfolding fourthIn cellIn
-  variable-cell k h one there =
+  -- the arithmetic entries are the file's
+  same-node : (k : ℕ) → k < entryCount s Arithmetic → arithIn last k ≡ arithKind (entry s Arithmetic k)
+  unfolding arithIn arithKind numbersAt
+  same-node k h =
       let few = counts s fit .arithmetic in
-      let kind = sym (end (4 * k) (omega arith) ∙ v .others (4 * k) (omega arith)) ∙ one in
-      let name = end (4 * k + 1) (omega arith) ∙ v .others (4 * k + 1) (omega arith) in
-      let x = getD last (4 * k + 1) 0 in
-      let cell = v .fourth k h in
-      end (4 * k + 3) (omega arith) ∙ (rw (kind, ← name, lt-ltb x 32 (omega (arith, counts s fit .names, there))) at cell) ∙ n .put .cell x there
+      let file = arithmetic-at k h in
+      rw (front (4 * k) (omega arith) (omega arith) ∙ ap (λ (x : Entry). x .kind) file, front (4 * k + 1) (omega arith) (omega arith) ∙ ap (λ (x : Entry). x .p) file, front (4 * k + 2) (omega arith) (omega arith) ∙ ap (λ (x : Entry). x .q) file)
+
+  first-put : (x : ℕ) → x < nameCount s → cellIn three x ≡ firstCell (sizes s) x
+  unfolding cellIn
+  first-put x there = rw (lt-ltb x 32 (omega (arith, counts s fit .names))) (n .put .cell x there)
+
+  leaf-cell : (k : ℕ) → k < entryCount s Arithmetic → getD last (4 * k + 3) 0 ≡ leafCell (firstCell (sizes s)) k (arithIn last k)
+  unfolding fourthIn arithIn arithKind numbersAt
+  leaf-cell k h =
+      let few = counts s fit .arithmetic in
+      let same : arithIn three k ≡ arithIn last k = rw (end (4 * k) (omega arith) ∙ v .others (4 * k) (omega arith), end (4 * k + 1) (omega arith) ∙ v .others (4 * k + 1) (omega arith), end (4 * k + 2) (omega arith) ∙ v .others (4 * k + 2) (omega arith)) in
+      end (4 * k + 3) (omega arith) ∙ v .fourth k h ∙ ap (leafCell (cellIn three) k) same
+      ∙ named-cell (cellIn three) (firstCell (sizes s)) (nameCount s) k first-put (arithIn last k) (rw (same-node k h) (node-there s fit k h))
 
   past : (k : ℕ) → entryCount s Arithmetic ≤ k → k < 512 → numbersAt last (4 * k) ≡ noEntry
   unfolding numbersAt
@@ -154,11 +190,8 @@ module _ (s : List ℕ) (fit : validity s ≡ Fit) (one two three four : List �
         size = λ x h. rw (lt-ltb x 32 (omega arith)) (behind (sizePlace + x) (omega arith) (omega arith) ∙ n .put .size x (omega arith));
         cell = λ x h. rw (lt-ltb x 32 (omega arith)) (behind (cellPlace + x) (omega arith) (omega arith) ∙ n .put .cell x (omega arith));
         cells = behind (cellPlace + 32) (omega arith) (omega arith) ∙ n .cells;
-        variable =
-            λ k h one there. elim (decLt k (entryCount s Arithmetic)) [
-              | yes l ↦ variable-cell k l one (omega arith)
-              | no l ↦ absurd (omega (arith, one, ap (λ (x : Entry). x .kind) (past k (omega arith) h)))
-            ];
+        ordered = record { few = omega (arith, counted); lower = λ k h. rw (same-node k (omega (arith, counted))) (node-lower s fit k (omega (arith, counted))) };
+        leaf = λ k h. leaf-cell k (omega (arith, counted));
         past = λ k l h. past k (omega (arith, counted)) h;
       }
 

@@ -4,20 +4,25 @@ use mathlib.Core.Bool.{true, _&&_}
 use mathlib.Core.List.{List}
 use Prim.Native.Nat.{ℕ, _<_}
 use native.Mathlib.Omega.{arith}
-use lib.Dec.{ltb}
-use borrow.Author.Tests.{lt-ltb}
-use Rattle.program.specs.File.{sizes, entryCount, entry}
+use lib.Dec.{eqb, ltb}
+use lib.ListN.{length, getD}
+use borrow.Author.Tests.{lt-ltb, ltb-true}
+use Rattle.program.specs.File.{nameCount, sizes, entryCount, entry, isVariable}
 use Rattle.program.specs.Kind.{kinds, shape, tableOf, arithKind, booleanKind}
+use Rattle.program.specs.Parts.Prepared.{Lower}
 use Rattle.program.specs.Questions.{sameTable, limit, validity}
 use Rattle.program.specs.Parts.Sorted.{arithNamed, booleanNamed, arithPoints, booleanPoints, arithEntry}
 use Rattle.program.specs.Syntax.{Arith, Boolean, booleanEntry}
 use Rattle.program.specs.Tree.{arithBelow, arithNode, arithTrees, arithAt, booleanBelow, booleanNode, booleanTrees, booleanAt, arithMade, booleanMade}
+use Rattle.program.specs.declared.ArithNode.{ArithNode}
+use Rattle.program.specs.declared.ArithNode.the-variants.{Number, Variable, Element, Operator}
 use Rattle.program.specs.declared.Sort.the-variants.{Expression, Condition}
 use Rattle.program.specs.declared.Table.the-variants.{Arithmetic, Boolean as Booleans}
 use Rattle.program.specs.declared.Validity.the-variants.{Fit}
+use Rattle.program.proofs.Cells.{sizes-length}
 use Rattle.program.proofs.Induction.{from-below, by-kind}
 use Rattle.program.proofs.Operands.{Reference, Operands, operands-fit}
-use Rattle.program.proofs.Tests.{both}
+use Rattle.program.proofs.Tests.{two, both}
 use Rattle.program.proofs.Trees.{arith-below, arith-entry, boolean-below, boolean-entry}
 
 -- names that are there and of the right sort, and references that point as they must
@@ -59,6 +64,35 @@ pub arith-sorted : (s : List ℕ) → validity s ≡ Fit → (n : ℕ) → n < e
 unfolding arithAt
 arith-sorted s fit =
     from-below _ (λ n below h. arith-node s n (λ m l. below m l (omega arith)) _ _ _ _ (operands-fit s fit Arithmetic n h))
+
+-- the same of what an entry is: its references are lower, and a variable's name is there
+abbrev pub There : ℕ → ArithNode → Type 0
+There names (Number z) = Unit
+There names (Variable x) = x < names
+There names (Element x i) = Unit
+There names (Operator o p q) = Unit
+
+module _ (s : List ℕ) (n : ℕ) where
+  variable-there : (x : ℕ) → isVariable (sizes s) x ≡ true → x < nameCount s
+  unfolding isVariable
+  variable-there x h = omega (arith, ltb-true x (length (sizes s)) (two (ltb x (length (sizes s))) (eqb (getD (sizes s) x 0) 0) h .0), sizes-length s)
+
+  node-fit : (k p q r : ℕ) → Operands s Arithmetic n (shape Arithmetic k) (record { kind = k; p = p; q = q; r = r })
+      → Lower n (arithKind (record { kind = k; p = p; q = q; r = r })) × There (nameCount s) (arithKind (record { kind = k; p = p; q = q; r = r }))
+  unfolding shape kinds arithKind limit sameTable tableOf
+  node-fit =
+      by-kind _
+      (λ p q r h. (tt, tt)) (λ p q r h. (tt, variable-there p (h .0))) (λ p q r h. (h .1 .lower, tt))
+      (λ p q r h. ((h .0 .lower, h .1 .lower), tt)) (λ p q r h. ((h .0 .lower, h .1 .lower), tt)) (λ p q r h. ((h .0 .lower, h .1 .lower), tt))
+      (λ p q r h. ((h .0 .lower, h .1 .lower), tt)) (λ p q r h. ((h .0 .lower, h .1 .lower), tt))
+      (λ k p q r h. absurd h)
+
+module _ (s : List ℕ) (fit : validity s ≡ Fit) (n : ℕ) (h : n < entryCount s Arithmetic) where
+  pub node-lower : Lower n (arithKind (entry s Arithmetic n))
+  node-lower = node-fit s n _ _ _ _ (operands-fit s fit Arithmetic n h) .0
+
+  pub node-there : There (nameCount s) (arithKind (entry s Arithmetic n))
+  node-there = node-fit s n _ _ _ _ (operands-fit s fit Arithmetic n h) .1
 
 -- boolean entry n, where the arithmetic entries and the boolean ones below are well sorted
 module _ (s : List ℕ) (fit : validity s ≡ Fit) (n : ℕ) (below : (m : ℕ) → m < n → BooleanSorted (sizes s) (booleanAt (entry s) m)) where

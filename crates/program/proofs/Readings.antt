@@ -1,31 +1,24 @@
 -- What the functions that read a prepared program tell apart by numbers.
-use mathlib.Core.Path.{_≡_, refl, sym}
+use mathlib.Core.Path.{_≡_, refl, sym, ap, _∙_}
 use mathlib.Core.List.{List, []}
-use Prim.Native.Nat.{ℕ, zero, suc, _+_}
+use Prim.Native.Nat.{ℕ, zero, suc, _<_}
 use native.Mathlib.Decide.{decLe}
 use native.Mathlib.Omega.{arith}
-use borrow.Author.Tests.{le-ltb}
+use borrow.Author.Tests.{lt-ltb, le-ltb}
 use Rattle.program.specs.Kind.{arithKind, booleanKind, commandKind}
 use Rattle.program.specs.File.{signed32}
-use Rattle.program.specs.Parts.Prepared.{entriesIn, cellKind, actionForm}
+use Rattle.program.specs.Parts.Prepared.{entriesIn, arithIn, numberOf, numberIn, actionForm}
 use Rattle.program.specs.Tree.{Entries, arithBelow, arithTrees, arithAt, booleanBelow, booleanTrees, booleanAt, commandBelow, commandTrees, commandAt, arithMade, booleanMade, commandMade}
 use Rattle.program.specs.declared.ActionNode.the-variants.{Nothing}
-use Rattle.program.specs.declared.CellNode.the-variants.{Cell}
-use Rattle.program.proofs.Induction.{by-kind}
+use Rattle.program.specs.declared.ArithNode.{ArithNode}
 use Rattle.program.proofs.Trees.{arith-below, arith-past, boolean-below, boolean-past, command-below, command-past}
 
--- a kind that is none of 1 to 7 is a number's
-pub cell-other : (n k p q r : ℕ)
-    → (((((((Unit {0} × (k ≡ 1 → ⊥)) × (k ≡ 2 → ⊥)) × (k ≡ 3 → ⊥)) × (k ≡ 4 → ⊥)) × (k ≡ 5 → ⊥)) × (k ≡ 6 → ⊥)) × (k ≡ 7 → ⊥))
-    → Cell (512 + n) ≡ cellKind n (record { kind = k; p = p; q = q; r = r })
-unfolding cellKind
-cell-other n =
-    by-kind _
-    (λ p q r h. refl) (λ p q r h. absurd (h .0 .0 .0 .0 .0 .0 .1 refl)) (λ p q r h. absurd (h .0 .0 .0 .0 .0 .1 refl)) (λ p q r h. absurd (h .0 .0 .0 .0 .1 refl))
-    (λ p q r h. absurd (h .0 .0 .0 .1 refl)) (λ p q r h. absurd (h .0 .0 .1 refl)) (λ p q r h. absurd (h .0 .1 refl)) (λ p q r h. absurd (h .1 refl))
-    (λ k p q r h. refl)
+-- the number at an entry, where code has asked what the entry is, and was told
+pub number-told : (code : List ℕ) (n : ℕ) {x k : ArithNode} → n < 512 → x ≡ arithIn code n → x ≡ k → numberIn code n ≡ numberOf k
+unfolding numberIn
+number-told code n h e told = rw (lt-ltb n 512 h) (ap numberOf (sym e ∙ told))
 
--- and one that is none of 1 to 3 is no action's
+-- a kind that is none of 1 to 3 is no action's
 pub action-other : (es : Entries) (k n : ℕ) → (((Unit {0} × (k ≡ 1 → ⊥)) × (k ≡ 2 → ⊥)) × (k ≡ 3 → ⊥)) → Nothing ≡ actionForm es k n
 unfolding actionForm
 action-other es zero n h = refl

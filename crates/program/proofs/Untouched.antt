@@ -1,14 +1,14 @@
 -- A prepared program depends on the numbers of its code before the set table alone.
-use mathlib.Core.Path.{_≡_, refl, sym, ap, _∙_}
+use mathlib.Core.Path.{_≡_, refl, ap, _∙_}
 use mathlib.Core.List.{List}
 use Prim.Native.Nat.{ℕ, _+_, _*_, _<_}
 use native.Mathlib.Decide.{decLe}
 use native.Mathlib.Omega.{arith}
 use borrow.Author.Tests.{lt-ltb, le-ltb}
 use lib.ListN.{length, getD}
-use Rattle.program.specs.File.{firstCell}
 use Rattle.program.specs.Graph.{Graph}
-use Rattle.program.specs.Parts.Prepared.{nameCountPlace, arithmeticCountPlace, tablePlace, codeLength, numbersAt, entriesIn, sizeIn, cellIn, Coded, PreparedEdge, Prepared}
+use Rattle.program.specs.Kind.{arithKind}
+use Rattle.program.specs.Parts.Prepared.{nameCountPlace, arithmeticCountPlace, tablePlace, codeLength, numbersAt, entriesIn, sizeIn, cellIn, arithIn, Coded, PreparedEdge, Prepared}
 use Rattle.program.specs.declared.Table.{Table}
 use Rattle.program.specs.declared.Table.the-variants.{Arithmetic, Boolean, Commands}
 
@@ -16,6 +16,10 @@ module _ (a b : List ℕ) (long : length b ≡ codeLength) (kept : (i : ℕ) →
   same-numbers : (at : ℕ) → at + 3 < tablePlace → numbersAt b at ≡ numbersAt a at
   unfolding numbersAt
   same-numbers at h = rw (kept at (omega arith), kept (at + 1) (omega arith), kept (at + 2) (omega arith), kept (at + 3) h)
+
+  same-node : (n : ℕ) → n < 512 → arithIn b n ≡ arithIn a n
+  unfolding arithIn
+  same-node n h = ap arithKind (same-numbers (4 * n) (omega arith))
 
   same-entry : (graph : List ℕ) (t : Table) (n : ℕ) → entriesIn b graph t n ≡ entriesIn a graph t n
   unfolding entriesIn
@@ -58,9 +62,16 @@ module _ (a b : List ℕ) (long : length b ≡ codeLength) (kept : (i : ℕ) →
         size = λ x h. same-size x ∙ c .size x h;
         cell = λ x h. same-cell x ∙ c .cell x h;
         cells = kept 3136 (omega arith) ∙ c .cells;
-        variable = λ n h k l. kept (4 * n + 3) (omega arith) ∙ c .variable n h (sym (kept (4 * n) (omega arith)) ∙ k) (rw (← kept (4 * n + 1) (omega arith)) l) ∙ ap (firstCell ns) (sym (kept (4 * n + 1) (omega arith)));
-        past = λ n h k. same-numbers (4 * n) (omega arith) ∙ c .past n (rw (← kept arithmeticCountPlace (omega arith)) h) k;
+        ordered = record { few = rw counted (c .ordered .few); lower = λ n h. rw (same-node n (below n h)) (c .ordered .lower n (rw (← counted) h)) };
+        leaf = λ n h. rw (same-node n (below n h)) (kept (4 * n + 3) (omega (arith, below n h)) ∙ c .leaf n (rw (← counted) h));
+        past = λ n h k. same-numbers (4 * n) (omega arith) ∙ c .past n (rw (← counted) h) k;
       }
+    where
+      counted : getD b arithmeticCountPlace 0 ≡ getD a arithmeticCountPlace 0
+      counted = kept arithmeticCountPlace (omega arith)
+
+      below : (n : ℕ) → n < getD b arithmeticCountPlace 0 → n < 512
+      below n h = omega (arith, c .ordered .few, counted)
 
   pub prepared-still : {ns : List ℕ} {g : Graph} {graph : List ℕ} → Prepared ns g a graph → Prepared ns g b graph
   prepared-still {ns} {g} {graph} p =

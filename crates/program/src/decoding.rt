@@ -29,7 +29,7 @@ pub fn signed(x: u32) -> i32
 }
 
 // What an arithmetic entry of these numbers is.
-pub(crate) fn arith_kind(kind: u16, p: u16, q: u16) -> ArithNode
+pub fn arith_kind(kind: u16, p: u16, q: u16) -> ArithNode
     ensures { λ x. ⌜ x ≡ Kind.arithKind (record { kind = kind; p = p; q = q; r = 0 }) ⌝ }
 {
     match kind {

@@ -102,14 +102,6 @@ pub enum CommandNode {
     Choice(u16, u16),
 }
 
-// What an arithmetic entry is in a memory that has the program's numbers behind it: the number 0 where it is none, a cell, an element of an array at an index entry, or an operator on two entries.
-pub enum CellNode {
-    Zero,
-    Cell(u16),
-    Element(u16, u16),
-    Operator(Operator, u16, u16),
-}
-
 // What an edge's action is: nothing, an assignment, a store, a condition that must hold, or the exit of the do whose operand is a command entry.
 pub enum ActionNode {
     Nothing,

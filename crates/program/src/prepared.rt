@@ -16,13 +16,11 @@ mod linking;
 use crate::ActionNode;
 use crate::ArithNode;
 use crate::BooleanNode;
-use crate::CellNode;
 use crate::CommandNode;
 use crate::Validity;
 use crate::decoding;
 use crate::file;
 use crate::validation;
-use signs::Operator;
 
 // The places of the code's sections: four words for each of 768 entries, 32 sizes, 33 first cells (the last is the number of all cells), two counts, and room for the set table, which a
 // crate above puts there.
@@ -73,6 +71,9 @@ pub const NONE: u16 = 255;
 
 // The cell from which on a program's numbers stand behind a memory.
 pub const NUMBERS: u16 = 512;
+
+// What stands for the cell of an entry that is no leaf: it is past the last number's.
+pub const NO_CELL: u16 = 1024;
 
 // The number of names.
 pub fn name_count(code: &[u16; CODE]) -> usize
@@ -209,7 +210,16 @@ pub fn next_edge(graph: &[u16; GRAPH], e: u16) -> u16
     }
 }
 
-// What entry `n` of the arithmetic table is as a part of entry `bound`: one that is not lower is the number 0.
+// What an entry of the arithmetic table is.
+pub(crate) fn arith_at(code: &[u16; CODE], n: u16) -> ArithNode
+    requires { ⌜ n < spec.expressionsMost ⌝ }
+    ensures { λ r. ⌜ r ≡ spec.arithIn (now (code .entry)) n ⌝ }
+{
+    let at = 4 * n as usize;
+    decoding::arith_kind(code[at], code[at + 1], code[at + 2])
+}
+
+// What entry `n` of it is as a part of entry `bound`: one that is not lower is the number 0.
 pub fn arith_node(code: &[u16; CODE], bound: u16, n: u16) -> ArithNode
     ensures { λ r. ⌜ ((graph : List ℕ) → r ≡ Node.arithForm (spec.entriesIn (now (code .entry)) graph) bound n) ⌝ }
 {
@@ -219,39 +229,7 @@ pub fn arith_node(code: &[u16; CODE], bound: u16, n: u16) -> ArithNode
     if EXPRESSIONS <= n {
         return ArithNode::Number(0);
     }
-    let at = 4 * n as usize;
-    decoding::arith_kind(code[at], code[at + 1], code[at + 2])
-}
-
-// What it is in a memory with the numbers behind it.
-pub fn cell_node(code: &[u16; CODE], bound: u16, n: u16) -> CellNode
-    ensures { λ r. ⌜ r ≡ spec.cellForm (now (code .entry)) bound n ⌝ }
-{
-    if bound <= n {
-        return CellNode::Zero;
-    }
-    if EXPRESSIONS <= n {
-        return CellNode::Zero;
-    }
-    let at = 4 * n as usize;
-    cell_kind(n, code[at], code[at + 1], code[at + 2], code[at + 3])
-}
-
-// What an arithmetic entry of these numbers is there.
-fn cell_kind(n: u16, kind: u16, p: u16, q: u16, cell: u16) -> CellNode
-    requires { ⌜ n < spec.expressionsMost ⌝ }
-    ensures { λ r. ⌜ r ≡ spec.cellKind n (record { kind = kind; p = p; q = q; r = cell }) ⌝ }
-{
-    match kind {
-        1 => CellNode::Cell(cell),
-        2 => CellNode::Element(p, q),
-        3 => CellNode::Operator(Operator::Add, p, q),
-        4 => CellNode::Operator(Operator::Sub, p, q),
-        5 => CellNode::Operator(Operator::Mul, p, q),
-        6 => CellNode::Operator(Operator::Div, p, q),
-        7 => CellNode::Operator(Operator::Pow, p, q),
-        _ => CellNode::Cell(NUMBERS + n),
-    }
+    arith_at(code, n)
 }
 
 // What entry `n` of the boolean table is as a part of entry `bound`: one that is not lower is true.
@@ -289,11 +267,13 @@ pub fn number_at(code: &[u16; CODE], n: u16) -> i32
     if EXPRESSIONS <= n {
         return 0;
     }
-    let at = 4 * n as usize;
-    if code[at] == 0 {
-        return decoding::signed(decoding::joined(code[at + 1], code[at + 2]));
+    let node = arith_at(code, n);
+    match node {
+        ArithNode::Number(z) => z,
+        ArithNode::Variable(_) => 0,
+        ArithNode::Element(_, _) => 0,
+        ArithNode::Operator(_, _, _) => 0,
     }
-    0
 }
 
 // Questions 1 to 11 of a program; where they are answered yes, its code and graph, into two arrays of zeros.

@@ -1,17 +1,17 @@
 -- A memory in an array of 1024 cells with the program's numbers behind it: how it is filled, and what is read there.
 use mathlib.Core.Path.{_≡_, refl, sym, ap, _∙_}
 use mathlib.Core.List.{List}
-use Prim.Native.Nat.{ℕ, suc, _+_, _*_, _≤_, _<_, min}
+use Prim.Native.Nat.{ℕ, suc, _+_, _≤_, _<_, min}
 use native.Mathlib.Decide.{ℕ-discrete, decLe}
 use native.Mathlib.Omega.{arith}
-use borrow.Author.Tests.{lt-ltb}
 use lib.IntN.{ℤ, pos}
 use lib.ListN.{length, getD, set, replicate, length-set, List·getD-eq-default}
 use lib.Seq.{getD-set-same, getD-set-other, ext-getD}
 use Rattle.signs.specs.Lists.{tabulate}
 use Rattle.program.specs.File.{signed32}
-use Rattle.program.specs.Parts.Prepared.{arithmeticCountPlace, numbersAt, numberIn, Coded}
-use Rattle.program.specs.declared.Entry.{Entry}
+use Rattle.program.specs.Kind.{arithKind}
+use Rattle.program.specs.Parts.Prepared.{arithmeticCountPlace, arithIn, numberOf, numberIn, Coded}
+use Rattle.program.proofs.Readings.{number-told}
 use Rattle.program.proofs.Lists.{length-tabulate, getD-tabulate, getD-same}
 use Rattle.semantics.specs.Parts.Cells.{front, Fronted, Numbered, Placed}
 use Rattle.semantics.specs.Expression.{cellValue}
@@ -113,13 +113,8 @@ numbering-all code before cells n f e =
 
 -- past the last arithmetic entry there is no number
 no-numbers : (ns code : List ℕ) → Coded ns code → (n : ℕ) → getD code arithmeticCountPlace 0 ≤ n → n < 512 → numberIn code n ≡ pos 0
-unfolding numberIn numbersAt signed32
-no-numbers ns code c n h l =
-    let none = c .past n h l in
-    let kind : getD code (4 * n) 0 ≡ 0 = ap (λ (e : Entry). e .kind) none in
-    let first : getD code (4 * n + 1) 0 ≡ 0 = ap (λ (e : Entry). e .p) none in
-    let second : getD code (4 * n + 2) 0 ≡ 0 = ap (λ (e : Entry). e .q) none in
-    rw (lt-ltb n 512 l, kind, first, second)
+unfolding arithIn arithKind numberOf signed32
+no-numbers ns code c n h l = number-told code n l refl (ap arithKind (c .past n h l))
 
 -- so with the memory in front all is in its place
 pub placed : (ns code : List ℕ) → Coded ns code → (m before cells : List ℤ) → Fronted m before → Numbered code before cells → Placed code m cells

@@ -1,5 +1,5 @@
 -- Numbers that stand for the values and truths of trees: of a leaf, and of a tree from those of its parts.
-use mathlib.Core.Path.{_≡_, refl, sym, _∙_}
+use mathlib.Core.Path.{_≡_, refl, sym, ap, _∙_}
 use mathlib.Core.Bool.{true}
 use mathlib.Core.List.{List}
 use Prim.Native.Nat.{ℕ, _<_}
@@ -7,27 +7,39 @@ use lib.Dec.{T}
 use lib.IntN.{ℤ, pos}
 use lib.ListN.{length}
 use mir.Facts.{and-yes}
+use mir.Syntax.{w32}
+use mir.Val.{SFits}
+use Rattle.signs.proofs.Signed.{wide}
 use Rattle.signs.specs.Number.{inRange}
 use Rattle.signs.specs.declared.Comparison.{Comparison}
 use Rattle.signs.specs.declared.Operator.{Operator}
-use Rattle.program.specs.Parts.Prepared.{Coded}
+use Rattle.program.specs.Parts.Prepared.{cellIn, Coded}
 use Rattle.program.specs.File.{isArray}
 use Rattle.program.specs.Parts.Sorted.{arithNamed, booleanNamed}
-use Rattle.program.specs.Syntax.{Arith, number, element, operator, Boolean, truth, comparison, conjunction, shortCircuit, negation}
+use Rattle.program.specs.Syntax.{Arith, number, variable, element, operator, Boolean, truth, comparison, conjunction, shortCircuit, negation}
 use Rattle.semantics.specs.Parts.Coding.{evaluated, decided, isCode, ValueIn, TruthIn}
 use Rattle.semantics.specs.Expression.{cellValue, placeOf, valueAt, combine, value, compareValues, conjoin, andThen, negate, truthIn}
 use Rattle.semantics.specs.declared.Evaluation.the-variants.{Number}
 use Rattle.semantics.specs.declared.Truth.{Truth}
 use Rattle.semantics.specs.declared.Truth.the-variants.{Known}
 use Rattle.semantics.proofs.Leaves.{CellOf}
-use Rattle.semantics.proofs.Coded.{isFault, fault-evaluated}
-use Rattle.semantics.proofs.Named.{array-there}
+use Rattle.semantics.proofs.Coded.{isFault, fault-evaluated, small-handed}
+use Rattle.semantics.proofs.Named.{variable-there, array-there}
 
 module _ {code : List ℕ} {m : List ℤ} where
-  -- a leaf, by what it is in the memory
-  pub zero-valued : (k : ℕ) → ValueIn code m (number k (pos 0)) (pos 0)
+  -- a number, which is cast to 64 bits; an entry past the last, which is the number 0; and a leaf by its cell
+  pub number-valued : (k : ℕ) (z : ℤ) → SFits w32 z → ValueIn code m (number k z) (wide z)
+  unfolding value
+  number-valued k z f = record { code = small-handed z f .0; gives = λ ns loaded t. small-handed z f .1 }
+
+  pub past-valued : {a : Arith} (k : ℕ) → ((ns : List ℕ) → Coded ns code → a ≡ number k (pos 0)) → ValueIn code m a (pos 0)
   unfolding value isCode inRange evaluated
-  zero-valued k = record { code = tt; gives = λ ns loaded t. refl }
+  past-valued k past = record { code = tt; gives = λ ns loaded t. rw (past ns (loaded .coded)) }
+
+  pub variable-valued : (k x : ℕ) {r : ℤ} → T (isCode r) → evaluated r ≡ Number (cellValue m (cellIn code x)) → ValueIn code m (variable k x) r
+  unfolding value arithNamed
+  variable-valued k x c e =
+      record { code = c; gives = λ ns loaded t. e ∙ ap (λ (y : ℕ). Number (cellValue m y)) (loaded .coded .cell x (variable-there ns x t .0)) }
 
   pub cell-valued : {a : Arith} (c : ℕ) {r : ℤ} → CellOf code a c → T (isCode r) → evaluated r ≡ Number (cellValue m c) → ValueIn code m a r
   cell-valued c stands k e = record { code = k; gives = λ ns loaded t. e ∙ sym (stands ns m loaded t) }

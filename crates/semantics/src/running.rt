@@ -6,7 +6,7 @@ ghost use Prim.Native.Nat.{ℕ, _<_, _≤_};
 ghost use lib.ListN.{length};
 ghost use Rattle.program.specs.File.{cellCount};
 ghost use Rattle.program.specs.Graph.{Graph};
-ghost use Rattle.program.specs.Parts.Prepared.{nodesMost, cellsMost, Linked, Prepared};
+ghost use Rattle.program.specs.Parts.Prepared.{nodesMost, cellsMost, Ordered, Linked, Prepared};
 ghost use Rattle.semantics.specs.Budget as spec;
 ghost use Rattle.semantics.specs.Parts.Cells;
 ghost use Rattle.semantics.specs.Parts.Running;
@@ -50,6 +50,7 @@ fn take_lowest(
     memory: &mut [i32; MEMORY],
     node: u16,
 ) -> u16
+    requires { ⌜ Ordered (now code) ⌝ }
     requires { ⌜ Linked (now graph) ⌝ }
     ensures { λ r. ⌜ ((ns : List ℕ) (g : Graph) → Prepared ns g (now (code .entry)) (now (graph .entry)) → Cells.NumbersIn (now (code .entry)) (now (memory .entry))
         → node < nodesMost → Running.Lowest ns g node (now (memory .entry)) r (now (memory .exit))) ⌝ }
@@ -72,6 +73,7 @@ fn run_on(
     budget: u16,
     memory: &mut [i32; MEMORY],
 ) -> Ended
+    requires { ⌜ Ordered (now code) ⌝ }
     requires { ⌜ Linked (now graph) ⌝ }
     ensures { λ r. ⌜ ((ns : List ℕ) (g : Graph) → Prepared ns g (now (code .entry)) (now (graph .entry)) → Cells.NumbersIn (now (code .entry)) (now (memory .entry))
         → Running.EndsAs (spec.runFrom budget ns g (Step.begun (now (memory .entry)))) (now (memory .exit)) r) ⌝ }
@@ -116,6 +118,7 @@ fn refused(x: Refusal) -> Ended
 
 // A run over a prepared program, in a memory that has the names' cells.
 fn run_copied(code: &[u16; CODE], graph: &[u16; GRAPH], budget: u16, memory: &mut [i32]) -> Ended
+    requires { ⌜ Ordered (now code) ⌝ }
     requires { ⌜ Linked (now graph) ⌝ }
     ensures { λ r. ⌜ ((ns : List ℕ) (g : Graph) → Prepared ns g (now (code .entry)) (now (graph .entry)) → length (now (memory .entry)) ≡ cellCount ns
         → Running.EndsAs (spec.runFrom budget ns g (Step.begun (now (memory .entry)))) (now (memory .exit)) r) ⌝ }
@@ -129,6 +132,7 @@ fn run_copied(code: &[u16; CODE], graph: &[u16; GRAPH], budget: u16, memory: &mu
 
 // Question 12, then a run over a prepared program.
 fn run_prepared(code: &[u16; CODE], graph: &[u16; GRAPH], budget: u16, memory: &mut [i32]) -> Ended
+    requires { ⌜ Ordered (now code) ⌝ }
     requires { ⌜ Linked (now graph) ⌝ }
     ensures { λ r. ⌜ ((ns : List ℕ) (g : Graph) → Prepared ns g (now (code .entry)) (now (graph .entry))
         → Running.EndsAs (spec.budgeted ns g budget (now (memory .entry))) (now (memory .exit)) r) ⌝ }

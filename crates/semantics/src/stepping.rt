@@ -6,7 +6,7 @@ ghost use lib.IntN.{ℤ, pos};
 ghost use Prim.Native.Nat.{ℕ, _<_, _+_, min};
 ghost use lib.ListN.{length, replicate};
 ghost use Rattle.program.specs.Graph.{Graph};
-ghost use Rattle.program.specs.Parts.Prepared.{Coded, Prepared};
+ghost use Rattle.program.specs.Parts.Prepared.{Ordered, Coded, Prepared};
 ghost use Rattle.semantics.specs.Action;
 ghost use Rattle.semantics.specs.Parts.Cells;
 ghost use Rattle.semantics.specs.Step as spec;
@@ -157,6 +157,7 @@ fn settled(run: Run, target: u16, effect: Effect, memory: &mut [i32]) -> Stepped
 
 // The effect of an edge in a memory.
 fn edge_effect(code: &[u16; CODE], graph: &[u16; GRAPH], edge: u16, memory: &[i32]) -> Effect
+    requires { ⌜ Ordered (now code) ⌝ }
     ensures { λ r. ⌜ ((ns : List ℕ) (g : Graph) → Prepared ns g (now (code .entry)) (now (graph .entry)) → edge < length (g .edges)
         → r ≡ spec.edgeEffect ns g (now (memory .entry)) edge) ⌝ }
 {
@@ -183,6 +184,7 @@ fn step_prepared(
     edge: u16,
     memory: &mut [i32],
 ) -> Stepped
+    requires { ⌜ Ordered (now code) ⌝ }
     ensures { λ r. ⌜ ((ns : List ℕ) (g : Graph) → Prepared ns g (now (code .entry)) (now (graph .entry))
         → Stepping.StepsTo ns g run edge (now (memory .entry)) (now (memory .exit)) r) ⌝ }
 {

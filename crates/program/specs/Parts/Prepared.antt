@@ -8,10 +8,10 @@ use mathlib.Core.List.{List, [], _∷_}
 use lib.Dec.{T, eqb, ltb}
 use lib.IntN.{ℤ, pos}
 use lib.ListN.{length, getD}
-use Rattle.signs.specs.declared.Operator.the-variants.{Add, Sub, Mul, Div, Pow}
-use Rattle.program.specs.File.{signed32, sizes, cellCount, firstCell}
+use Rattle.program.specs.File.{sizes, cellCount, firstCell}
 use Rattle.program.specs.Graph as drawn
 use Rattle.program.specs.Graph.{Graph, edgeAt, done}
+use Rattle.program.specs.Kind.{arithKind}
 use Rattle.program.specs.Meaning.{Meaning, nothing, assigns, stores, condition, meaning}
 use Rattle.program.specs.Parts.Node.{commandForm}
 use Rattle.program.specs.Questions.{validity}
@@ -19,8 +19,8 @@ use Rattle.program.specs.Parts.Sorted.{meaningNamed}
 use Rattle.program.specs.Tree.{Entries, arithAt, booleanAt, commandAt}
 use Rattle.program.specs.declared.ActionNode.{ActionNode}
 use Rattle.program.specs.declared.ActionNode.the-variants.{Nothing, Assign, Store, Holds, Exit}
-use Rattle.program.specs.declared.CellNode.{CellNode}
-use Rattle.program.specs.declared.CellNode.the-variants.{Zero, Cell, Element, Operator}
+use Rattle.program.specs.declared.ArithNode.{ArithNode}
+use Rattle.program.specs.declared.ArithNode.the-variants.{Number, Variable, Element, Operator}
 use Rattle.program.specs.declared.CommandNode.{CommandNode}
 use Rattle.program.specs.declared.CommandNode.the-variants.{Skip, Assign as AssignNode, Store as StoreNode, Sequence, Conditional, Iteration, Guarded, Choice}
 use Rattle.program.specs.declared.Entry.{Entry}
@@ -56,6 +56,10 @@ none = edgesMost
 -- the cell from which on a program's numbers stand behind a memory
 abbrev pub numberPlace : ℕ
 numberPlace = cellsMost
+
+-- what stands for a cell where there is none: it is past the last number's
+abbrev pub noCell : ℕ
+noCell = 1024
 
 -- the places of the code's sections: four numbers for each of 512 arithmetic and 256 boolean entries, 32 sizes, 33 first cells (the last is the number of all
 -- cells), the counts of names and of arithmetic entries, and room for the set table, which a crate above puts there
@@ -121,32 +125,34 @@ sizeIn code x = cond (ltb x namesMost) (getD code (sizePlace + x) 0) 0
 unfoldable pub cellIn : List ℕ → ℕ → ℕ
 cellIn code x = cond (ltb x namesMost) (getD code (cellPlace + x) 0) 0
 
--- the value of the number at an arithmetic entry; 0, where it is none
+-- what one of 512 arithmetic entries is
+unfoldable pub arithIn : List ℕ → ℕ → ArithNode
+arithIn code n = arithKind (numbersAt code (4 * n))
+
+-- the value of a number; 0, where it is none
+unfoldable pub numberOf : ArithNode → ℤ
+numberOf (Number z) = z
+numberOf (Variable x) = pos 0
+numberOf (Element x i) = pos 0
+numberOf (Operator o p q) = pos 0
+
 unfoldable pub numberIn : List ℕ → ℕ → ℤ
-numberIn code n =
-    cond (ltb n expressionsMost)
-    (cond (eqb (getD code (4 * n) 0) 0) (signed32 (getD code (4 * n + 1) 0 * 65536 + getD code (4 * n + 2) 0)) (pos 0))
-    (pos 0)
+numberIn code n = cond (ltb n expressionsMost) (numberOf (arithIn code n)) (pos 0)
 
--- what an arithmetic entry is in a memory with the program's numbers behind it, from cell 512 on: a variable and a number are both a cell
-unfoldable pub cellKind : ℕ → Entry → CellNode
-cellKind n e =
-    getD
-    (Cell (numberPlace + n)
-    ∷ Cell (e .r)
-    ∷ Element (e .p) (e .q)
-    ∷ Operator Add (e .p) (e .q)
-    ∷ Operator Sub (e .p) (e .q)
-    ∷ Operator Mul (e .p) (e .q)
-    ∷ Operator Div (e .p) (e .q)
-    ∷ Operator Pow (e .p) (e .q)
-    ∷ [])
-    (e .kind)
-    (Cell (numberPlace + n))
+-- the cell of entry n in a memory with the program's numbers behind it, from cell 512 on, where the first cells of names are these: a variable and a number have
+-- one, and what is no leaf has none
+unfoldable pub leafCell : (ℕ → ℕ) → ℕ → ArithNode → ℕ
+leafCell cell n (Number z) = numberPlace + n
+leafCell cell n (Variable x) = cell x
+leafCell cell n (Element x i) = noCell
+leafCell cell n (Operator o p q) = noCell
 
--- entry n as a part of entry bound: a reference that is not lower is the number 0
-unfoldable pub cellForm : List ℕ → ℕ → ℕ → CellNode
-cellForm code bound n = cond (ltb n bound) (cond (ltb n expressionsMost) (cellKind n (numbersAt code (4 * n))) Zero) Zero
+-- "A reference inside one table goes to a lower entry": those of what entry n is
+abbrev pub Lower : ℕ → ArithNode → Type 0
+Lower n (Number z) = Unit
+Lower n (Variable x) = Unit
+Lower n (Element x i) = i < n
+Lower n (Operator o p q) = (p < n) × (q < n)
 
 -- where an edge comes from and goes to, and its action's kind and entry; past the last of 255, zeros
 unfoldable pub edgeIn : List ℕ → ℕ → ℕ → ℕ
@@ -198,7 +204,13 @@ unfoldable pub lowestFrom : ℕ → (ℕ → ℕ) → ℕ → ℕ → ℕ
 lowestFrom zero source i node = none
 lowestFrom (suc n) source i node = cond (eqb (source i) node) i (lowestFrom n source (suc i) node)
 
--- code of a program whose names have the sizes ns, at most 32 of at most 512 cells. A variable's entry has its cell; past the last arithmetic entry there are zeros
+-- code whose arithmetic entries, at most 512, refer to lower ones. An evaluator that follows references ends by this, and reads without a test
+pub record Ordered (code : List ℕ) : Type 0 where
+  pub few : getD code arithmeticCountPlace 0 ≤ expressionsMost
+  pub lower : (n : ℕ) → n < getD code arithmeticCountPlace 0 → Lower n (arithIn code n)
+
+-- code of a program whose names have the sizes ns, at most 32 of at most 512 cells. The fourth number of an arithmetic entry is its cell; past the last entry
+-- there are zeros
 pub record Coded (ns code : List ℕ) : Type 0 where
   pub long : length code ≡ codeLength
   pub some : 0 < length ns
@@ -208,7 +220,8 @@ pub record Coded (ns code : List ℕ) : Type 0 where
   pub size : (x : ℕ) → x < length ns → sizeIn code x ≡ getD ns x 0
   pub cell : (x : ℕ) → x < length ns → cellIn code x ≡ firstCell ns x
   pub cells : getD code (cellPlace + namesMost) 0 ≡ cellCount ns
-  pub variable : (n : ℕ) → n < expressionsMost → getD code (4 * n) 0 ≡ 1 → getD code (4 * n + 1) 0 < length ns → getD code (4 * n + 3) 0 ≡ firstCell ns (getD code (4 * n + 1) 0)
+  pub ordered : Ordered code
+  pub leaf : (n : ℕ) → n < getD code arithmeticCountPlace 0 → getD code (4 * n + 3) 0 ≡ leafCell (firstCell ns) n (arithIn code n)
   pub past : (n : ℕ) → getD code arithmeticCountPlace 0 ≤ n → n < expressionsMost → numbersAt code (4 * n) ≡ noEntry
 
 -- edge e of a graph: its nodes, which are in the graph, and its action, whose names are there

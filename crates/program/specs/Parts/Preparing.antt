@@ -1,14 +1,12 @@
 -- What the functions that prepare a program promise each other. No public contract cites these.
 use mathlib.Core.Path.{_≡_}
-use mathlib.Core.Bool.{cond}
 use mathlib.Core.List.{List}
 use Prim.Native.Nat.{ℕ, _+_, _*_, _%_, _≤_, _<_}
-use lib.Dec.{eqb}
 use lib.ListN.{length, getD}
 use Rattle.program.specs.File.{nameCount, sizes, entryCount, entryAt, entry, cellCount, firstCell}
 use Rattle.program.specs.Graph as drawn
 use Rattle.program.specs.Graph.{edgeAt, edgeCount, nodeCount, actionKind, actionEntry}
-use Rattle.program.specs.Parts.Prepared.{booleanPlace, sizePlace, cellPlace, nameCountPlace, codeLength, nodeCountPlace, edgeCountPlace, numbersAt, cellIn, edgeIn, Coded}
+use Rattle.program.specs.Parts.Prepared.{booleanPlace, sizePlace, cellPlace, nameCountPlace, codeLength, nodeCountPlace, edgeCountPlace, numbersAt, cellIn, arithIn, leafCell, edgeIn, Coded}
 use Rattle.program.specs.declared.Table.the-variants.{Arithmetic, Boolean, Commands}
 
 -- an array in which so many entries, those from a byte of a file on, were put from a place on, over what was there
@@ -31,9 +29,9 @@ pub record NamesDone (s old code : List ℕ) : Type 0 where
   pub cells : getD code (cellPlace + 32) 0 ≡ cellCount (sizes s)
   pub count : getD code nameCountPlace 0 ≡ nameCount s
 
--- the fourth number of arithmetic entry n: a variable's cell, or what is there
+-- the fourth number of arithmetic entry n: its cell, where it is a leaf
 unfoldable pub fourthIn : List ℕ → ℕ → ℕ
-fourthIn code n = cond (eqb (getD code (4 * n) 0) 1) (cellIn code (getD code (4 * n + 1) 0)) (getD code (4 * n + 3) 0)
+fourthIn code n = leafCell (cellIn code) n (arithIn code n)
 
 -- an array in which the fourth numbers of the first k arithmetic entries were put
 pub record CellsPut (k : ℕ) (old code : List ℕ) : Type 0 where
@@ -42,7 +40,7 @@ pub record CellsPut (k : ℕ) (old code : List ℕ) : Type 0 where
   pub others : (i : ℕ) → i % 4 < 3 → getD code i 0 ≡ getD old i 0
   pub after : (i : ℕ) → 4 * k ≤ i → getD code i 0 ≡ getD old i 0
 
--- the code of a file: what is promised of it, and the entries of its expressions. A variable's fourth number is its cell and not the file's
+-- the code of a file: what is promised of it, and the entries of its expressions. The fourth number of an arithmetic entry is its cell and not the file's
 pub record CodeIn (s code : List ℕ) : Type 0 where
   pub coded : Coded (sizes s) code
   pub kind : (n : ℕ) → n < entryCount s Arithmetic → getD code (4 * n) 0 ≡ entry s Arithmetic n .kind

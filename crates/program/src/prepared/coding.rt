@@ -8,6 +8,7 @@ ghost use Rattle.program.specs.Parts.Prepared.{expressionsMost, codeLeng
 ghost use Rattle.program.specs.Parts.Preparing as spec;
 ghost use Rattle.program.specs.Questions.{validity};
 ghost use Rattle.program.specs.declared.Validity.the-variants.{Fit};
+use crate::ArithNode;
 use crate::Layout;
 use crate::Span;
 use crate::file;
@@ -68,20 +69,24 @@ fn put_names(program: &[u8], names: u16, code: &mut [u16; CODE])
     code[prepared::NAMES] = names;
 }
 
-// The fourth number of arithmetic entry `n`: a variable's cell, or what is there.
+// The fourth number of arithmetic entry `n`: its cell, where it is a leaf.
 fn fourth(code: &[u16; CODE], n: u16) -> u16
     requires { ⌜ n < expressionsMost ⌝ }
     ensures { λ r. ⌜ r ≡ spec.fourthIn (now (code .entry)) n ⌝ }
 {
-    let at = 4 * n as usize;
-    if code[at] == 1 {
-        let x = code[at + 1];
-        if x < prepared::NAMES_MOST {
-            return code[prepared::CELLS + x as usize];
+    let node = prepared::arith_at(code, n);
+    match node {
+        ArithNode::Number(_) => prepared::NUMBERS + n,
+        ArithNode::Variable(x) => {
+            if x < prepared::NAMES_MOST {
+                code[prepared::CELLS + x as usize]
+            } else {
+                0
+            }
         }
-        return 0;
+        ArithNode::Element(_, _) => prepared::NO_CELL,
+        ArithNode::Operator(_, _, _) => prepared::NO_CELL,
     }
-    code[at + 3]
 }
 
 // Those of so many arithmetic entries.

@@ -12,7 +12,6 @@ use program::prepared::CELLS_MOST;
 use program::prepared::CODE;
 use program::prepared::COMMANDS;
 use program::prepared::CONDITIONS;
-use program::prepared::EXPRESSIONS;
 use program::prepared::GRAPH;
 use signs::Reason;
 ghost use mathlib.Core.Path.{_≡_};
@@ -97,28 +96,31 @@ fn shifted(c: usize, i: usize) -> usize
 
 // The index of a store, as one number.
 fn store_index(code: &[u16; CODE], memory: &[i32; MEMORY], x: u16, i: u16) -> i64
+    requires { ⌜ made.Ordered (now code) ⌝ }
     ensures { λ r. ⌜ ((graph : List ℕ) → coding.IndexIn (now (code .entry)) (now (memory .entry)) x (arithAt (made.entriesIn (now (code .entry)) graph) i) r) ⌝ }
 {
-    let v = arithmetic::operand(code, memory, EXPRESSIONS, i);
+    let v = arithmetic::any_operand(code, memory, i);
     indexed(prepared::size_of(code, x), v)
 }
 
 // x := a.
 fn assigned(code: &[u16; CODE], memory: &[i32; MEMORY], x: u16, a: u16) -> Effect
+    requires { ⌜ made.Ordered (now code) ⌝ }
     ensures { λ r. ⌜ ((graph : List ℕ) → coding.EffectIn (now (code .entry)) (now (memory .entry))
         (assigns x (arithAt (made.entriesIn (now (code .entry)) graph) a)) r) ⌝ }
 {
-    let v = arithmetic::value(code, memory, EXPRESSIONS, a);
+    let v = arithmetic::any_value(code, memory, a);
     stored(prepared::first_cell(code, x), v)
 }
 
 // A[i] := a.
 fn element_stored(code: &[u16; CODE], memory: &[i32; MEMORY], x: u16, i: u16, a: u16) -> Effect
+    requires { ⌜ made.Ordered (now code) ⌝ }
     ensures { λ r. ⌜ ((graph : List ℕ) → coding.EffectIn (now (code .entry)) (now (memory .entry))
         (stores x (arithAt (made.entriesIn (now (code .entry)) graph) i) (arithAt (made.entriesIn (now (code .entry)) graph) a)) r) ⌝ }
 {
     let index = store_index(code, memory, x, i);
-    let v = arithmetic::operand(code, memory, EXPRESSIONS, a);
+    let v = arithmetic::any_operand(code, memory, a);
     if is_fault(index) {
         return failure(index);
     }
@@ -132,6 +134,7 @@ pub(crate) fn effect(
     memory: &[i32; MEMORY],
     action: ActionNode,
 ) -> Effect
+    requires { ⌜ made.Ordered (now code) ⌝ }
     ensures { λ r. ⌜ coding.EffectIn (now (code .entry)) (now (memory .entry))
         (made.decodedMeaning (made.entriesIn (now (code .entry)) (now (graph .entry))) action) r ⌝ }
 {
@@ -160,15 +163,17 @@ fn put(memory: &mut [i32], c: usize, v: i64) -> bool
 
 // Performs x := a, where it is defined; whether it is.
 fn assign(code: &[u16; CODE], memory: &mut [i32; MEMORY], x: u16, a: u16) -> bool
+    requires { ⌜ made.Ordered (now code) ⌝ }
     ensures { λ r. ⌜ ((graph : List ℕ) → coding.Performs (now (code .entry)) (now (memory .entry))
         (assigns x (arithAt (made.entriesIn (now (code .entry)) graph) a)) r (now (memory .exit))) ⌝ }
 {
-    let v = arithmetic::value(code, memory, EXPRESSIONS, a);
+    let v = arithmetic::any_value(code, memory, a);
     put(memory, prepared::first_cell(code, x), v)
 }
 
 // Performs A[i] := a, where it is defined; whether it is.
 fn store_element(code: &[u16; CODE], memory: &mut [i32; MEMORY], x: u16, i: u16, a: u16) -> bool
+    requires { ⌜ made.Ordered (now code) ⌝ }
     ensures { λ r. ⌜ ((graph : List ℕ) → coding.Performs (now (code .entry)) (now (memory .entry))
         (stores x (arithAt (made.entriesIn (now (code .entry)) graph) i) (arithAt (made.entriesIn (now (code .entry)) graph) a)) r (now (memory .exit))) ⌝ }
 {
@@ -176,7 +181,7 @@ fn store_element(code: &[u16; CODE], memory: &mut [i32; MEMORY], x: u16, i: u16,
     if is_fault(k) {
         return false;
     }
-    let v = arithmetic::operand(code, memory, EXPRESSIONS, a);
+    let v = arithmetic::any_operand(code, memory, a);
     put(
         memory,
         shifted(prepared::first_cell(code, x), k as usize),
@@ -191,6 +196,7 @@ pub(crate) fn perform(
     memory: &mut [i32; MEMORY],
     action: ActionNode,
 ) -> bool
+    requires { ⌜ made.Ordered (now code) ⌝ }
     ensures { λ r. ⌜ coding.Performs (now (code .entry)) (now (memory .entry))
         (made.decodedMeaning (made.entriesIn (now (code .entry)) (now (graph .entry))) action) r (now (memory .exit)) ⌝ }
 {

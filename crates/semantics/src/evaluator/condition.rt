@@ -9,29 +9,30 @@ use program::CommandNode;
 use program::prepared;
 use program::prepared::CODE;
 use program::prepared::CONDITIONS;
-use program::prepared::EXPRESSIONS;
 use program::prepared::GRAPH;
 use signs::Comparison;
 ghost use mathlib.Core.List.{List};
 ghost use Prim.Native.Nat.{ℕ};
 ghost use Rattle.program.specs.Graph.{done};
-ghost use Rattle.program.specs.Parts.Prepared.{entriesIn};
+ghost use Rattle.program.specs.Parts.Prepared.{entriesIn, Ordered};
 ghost use Rattle.program.specs.Syntax as syntax;
 ghost use Rattle.program.specs.Tree.{arithAt, booleanBelow, booleanTrees, commandBelow, commandTrees};
 ghost use Rattle.semantics.specs.Parts.Coding.{TruthIn};
 
 // A comparison of two arithmetic entries, as one number.
 fn comparison(code: &[u16; CODE], memory: &[i32; MEMORY], o: Comparison, p: u16, q: u16) -> i64
+    requires { ⌜ Ordered (now code) ⌝ }
     ensures { λ r. ⌜ ((graph : List ℕ) (k : ℕ) → TruthIn (now (code .entry)) (now (memory .entry))
         (syntax.comparison k o (arithAt (entriesIn (now (code .entry)) graph) p) (arithAt (entriesIn (now (code .entry)) graph) q)) r) ⌝ }
 {
-    let a = arithmetic::operand(code, memory, EXPRESSIONS, p);
-    let b = arithmetic::operand(code, memory, EXPRESSIONS, q);
+    let a = arithmetic::any_operand(code, memory, p);
+    let b = arithmetic::any_operand(code, memory, q);
     compare(o, a, b)
 }
 
 // The truth of boolean entry `n`, a part of entry `bound`, as one number.
 pub(crate) fn truth(code: &[u16; CODE], memory: &[i32; MEMORY], bound: u16, n: u16) -> i64
+    requires { ⌜ Ordered (now code) ⌝ }
     ensures { λ r. ⌜ ((graph : List ℕ) → TruthIn (now (code .entry)) (now (memory .entry))
         (booleanBelow (booleanTrees (entriesIn (now (code .entry)) graph) bound) n) r) ⌝ }
 {
@@ -57,6 +58,7 @@ pub(crate) fn truth(code: &[u16; CODE], memory: &[i32; MEMORY], bound: u16, n: u
 
 // The same of a whole entry that is often a comparison, which is worked out where it stands.
 pub(crate) fn holds(code: &[u16; CODE], memory: &[i32; MEMORY], n: u16) -> i64
+    requires { ⌜ Ordered (now code) ⌝ }
     ensures { λ r. ⌜ ((graph : List ℕ) → TruthIn (now (code .entry)) (now (memory .entry))
         (booleanBelow (booleanTrees (entriesIn (now (code .entry)) graph) 256) n) r) ⌝ }
 {
@@ -75,6 +77,7 @@ pub(crate) fn exit(
     bound: u16,
     n: u16,
 ) -> i64
+    requires { ⌜ Ordered (now code) ⌝ }
     ensures { λ r. ⌜ TruthIn (now (code .entry)) (now (memory .entry))
         (done (commandBelow (commandTrees (entriesIn (now (code .entry)) (now (graph .entry))) bound) n)) r ⌝ }
 {

@@ -4,7 +4,7 @@ use borrow.Author.Tests.{lt-ltb, le-ltb}
 use Rattle.program.specs.Kind.{arithKind}
 use Rattle.program.specs.File.{signed32}
 use Rattle.program.specs.Parts.Node.{arithForm}
-use Rattle.program.specs.Parts.Prepared.{numbersAt, entriesIn}
+use Rattle.program.specs.Parts.Prepared.{entriesIn, arithIn}
 use Rattle.program.proofs.prepared.arith_node.Statement.{statement}
 use Rattle.program.proofs.prepared.arith_node.Tie as tie
 
@@ -17,10 +17,8 @@ unfolding arithForm arithKind entriesIn signed32
 returns-2 c graph = rw (lt-ltb _ _ (c .before .if1 .left), le-ltb _ _ (c .if2 .taken))
 
 returns-3 : tie.Need-returns-3
-unfolding arithForm arithKind entriesIn numbersAt
-returns-3 c graph =
-    let small = c .before .before .before .before in
-    rw (lt-ltb _ _ (small .before .if1 .left), lt-ltb _ _ (small .if2 .left)) (c .arith-kind .ensures)
+unfolding arithForm arithIn entriesIn
+returns-3 c graph = rw (lt-ltb _ _ (c .before .before .if1 .left), lt-ltb _ _ (c .before .if2 .left)) (c .arith-at .ensures)
 
 pub arith-node-spec : {M : Type 1} → statement M
-arith-node-spec = tie.close (tie.spec returns returns-2 (λ c. search needs) (λ c. search needs) (λ c. search needs) (λ c. search needs) (λ c. search needs) (λ c. search needs) (λ c. search needs) (λ c. search needs) (λ c. search needs) (λ c κs. search needs) returns-3)
+arith-node-spec = tie.close (tie.spec returns returns-2 (λ c κs. search needs) returns-3)

@@ -18,6 +18,11 @@ whole : {s : List ℕ} {run : Run} {e : ℕ} {m m′ : List ℤ} {r : Stepped} �
 unfolding stepRow
 whole k = ((k .reply, k .memory), ap steppedNumbers (k .reply))
 
+step-prepared-requires : tie.Need-step-prepared-requires
+step-prepared-requires c κs =
+    let told = c .before .before .before in
+    told .before .before .prepare .ensures .prepared (told .enum-told .given .1) .coded .ordered
+
 returns : tie.Need-returns
 returns c =
     let told = c .before .before .before .before .before in
@@ -32,4 +37,4 @@ returns-2 c =
 pub step-spec : {M : Type 1} → statement M
 step-spec =
     tie.close
-    (tie.spec (λ c κs. tt) (λ c. search needs) (λ c κs. tt) (λ c. search needs) (λ c κs. tt) (λ c. search needs) returns returns-2)
+    (tie.spec (λ c κs. tt) (λ c. search needs) step-prepared-requires (λ c. search needs) (λ c κs. tt) (λ c. search needs) returns returns-2)

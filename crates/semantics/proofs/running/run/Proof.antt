@@ -20,7 +20,9 @@ whole s budget m k = ((k .reply, k .memory), ap endedNumbers (k .reply))
 run-prepared-requires : tie.Need-run-prepared-requires
 run-prepared-requires c κs =
     let told = c .before .before .before in
-    told .before .before .prepare-linked .ensures .linked (told .enum-told .given .1)
+    let made = told .before .before .prepare-linked .ensures in
+    let fit = told .enum-told .given .1 in
+    (made .prepared .prepared fit .coded .ordered, made .linked fit)
 
 returns : tie.Need-returns
 returns c =

@@ -20,7 +20,7 @@ abbrev μ-loop : tie.MeasureT-loop
 μ-loop code graph memory₀ node count e₀ memory e = count - e
 
 loop-holds : tie.Need-loop-holds Inv-loop μ-loop
-loop-holds c ns g p numbers h = record { following = rw (c .first-edge .ensures) (first-is-followed (c .before .before .pre) _ _ h); memory = refl }
+loop-holds c ns g p numbers h = record { following = rw (c .first-edge .ensures) (first-is-followed (c .before .before .pre .1) _ _ h); memory = refl }
 
 -- the edge that is looked at exists
 there : (c : tie.In-loop Inv-loop μ-loop) → c .before .loop .e < getD (c .before .before .before .before .args .graph .now) edgeCountPlace 0
@@ -35,7 +35,7 @@ returns c ns g p numbers h =
 loop-less : tie.Need-loop-less Inv-loop μ-loop
 loop-less c =
     let at = c .before .before .before .before .before in
-    let more = next-is-beyond (at .before .before .before .before .pre) (at .before .loop .e) (there at) in
+    let more = next-is-beyond (at .before .before .before .before .pre .1) (at .before .loop .e) (there at) in
     omega (arith, c .next-edge .ensures, at .loop-test .taken)
 
 loop-again : tie.Need-loop-again Inv-loop μ-loop
@@ -46,7 +46,7 @@ loop-again c ns g p numbers h =
     let found = rw (tried .before .action .ensures) at (tried .perform .ensures) in
     record {
       following = rw (c .next-edge .ensures)
-          (next-is-followed (at .before .before .before .before .pre) _ _ (at .before .loop .e) (there at) (here .following) (undefined-here p here numbers (there at) found (c .before .if1 .left)));
+          (next-is-followed (at .before .before .before .before .pre .1) _ _ (at .before .loop .e) (there at) (here .following) (undefined-here p here numbers (there at) found (c .before .if1 .left)));
       memory = unchanged-here p here numbers (there at) found (c .before .if1 .left);
     }
 
@@ -56,4 +56,4 @@ returns-2 c ns g p numbers h = none-taken p (c .before .loop .inv ns g p numbers
 pub take-lowest-spec : {M : Type 1} → statement M
 take-lowest-spec =
     tie.close
-    (tie.spec Inv-loop μ-loop (λ c κs. tt) (λ c κs. tt) loop-holds (λ c κs. tt) (λ c κs. tt) returns (λ c κs. tt) loop-less loop-again returns-2)
+    (tie.spec Inv-loop μ-loop (λ c κs. tt) (λ c κs. tt) loop-holds (λ c κs. tt) (λ c κs. c .before .before .before .before .before .before .pre .0) returns (λ c κs. tt) loop-less loop-again returns-2)

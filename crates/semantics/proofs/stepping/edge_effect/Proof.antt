@@ -10,4 +10,4 @@ returns c ns g p h =
     edge-found p (s .args .edge) h (c .before .before .before .copy-in .ensures ns (p .coded)) (rw (c .before .action .ensures) at (c .effect .ensures))
 
 pub edge-effect-spec : {M : Type 1} → statement M
-edge-effect-spec = tie.close (tie.spec (λ c κs. search needs) (λ c κs. search needs) (λ c κs. search needs) returns)
+edge-effect-spec = tie.close (tie.spec (λ c κs. search needs) (λ c κs. search needs) (λ c κs. c .before .before .before .before .pre) returns)

@@ -33,4 +33,4 @@ returns-2 c ns g p =
 pub step-prepared-spec : {M : Type 1} → statement M
 step-prepared-spec =
     tie.close
-    (tie.spec (λ c κs. tt) (λ c. search needs) (λ c κs. tt) (λ c κs. tt) (λ c κs. tt) (λ c. search needs) (λ c κs. tt) (λ c. search needs) returns returns-2)
+    (tie.spec (λ c κs. tt) (λ c. search needs) (λ c κs. c .before .before .before .before .pre) (λ c κs. tt) (λ c κs. tt) (λ c. search needs) (λ c κs. tt) (λ c. search needs) returns returns-2)

@@ -38,5 +38,5 @@ returns-5 c =
 pub effect-spec : {M : Type 1} → statement M
 effect-spec =
     tie.close
-    (tie.spec (λ c. search needs) (λ c. search needs) (λ c κs. tt) (λ c. search needs) (λ c κs. tt) (λ c. search needs) (λ c κs. tt) (λ c κs. tt) (λ c. search needs) (λ c κs. tt)
-    (λ c κs. tt) returns returns-2 returns-3 returns-4 returns-5)
+    (tie.spec (λ c. search needs) (λ c. search needs) (λ c κs. c .before .before .before .pre) (λ c. search needs) (λ c κs. c .before .before .before .pre) (λ c. search needs) (λ c κs. c .before .before .before .pre)
+    (λ c κs. tt) (λ c. search needs) (λ c κs. c .before .before .before .pre) (λ c κs. tt) returns returns-2 returns-3 returns-4 returns-5)

@@ -2,7 +2,6 @@
 use mathlib.Core.Path.{_≡_, sym, _∙_}
 use mathlib.Core.Bool.{false}
 use mathlib.Core.List.{[]}
-use Rattle.program.proofs.Laws.{arith-whole}
 use Rattle.program.specs.Parts.Prepared.{entriesIn}
 use Rattle.program.specs.Tree.{arithAt}
 use Rattle.semantics.proofs.Coded.{isFault, handed, tested, whole-index}
@@ -35,7 +34,7 @@ shifted-requires c κs =
     rw (handed (k .store-index .result) (k .store-index .ok)) (k .store-index .ensures [] .below (inside e) .1)
 
 stored-requires : tie.Need-stored-requires
-stored-requires c κs = let v = c .before .before .before .before in rw (handed (v .operand .result) (v .operand .ok)) (v .operand .ensures [] .code)
+stored-requires c κs = let v = c .before .before .before .before in rw (handed (v .any-operand .result) (v .any-operand .ok)) (v .any-operand .ensures [] .code)
 
 returns-2 : tie.Need-returns-2
 returns-2 c graph =
@@ -44,11 +43,11 @@ returns-2 c graph =
     let k = v .before in
     let s = k .before in
     let sum = rw (c .before .before .first-cell .ensures, handed (k .store-index .result) (k .store-index .ok)) at (c .before .shifted .ensures) in
-    rw (rw (handed (v .operand .result) (v .operand .ok)) at (c .stored .ensures))
+    rw (rw (handed (v .any-operand .result) (v .any-operand .ok)) at (c .stored .ensures))
     (store-effect (s .args .x) (arithAt (entriesIn (s .args .code .now) graph) (s .args .a)) (k .store-index .ensures graph) (inside e)
-    (rw (arith-whole (s .args .code .now) graph (s .args .a)) (v .operand .ensures graph)) sum)
+    (v .any-operand .ensures graph) sum)
 
 pub element-stored-spec : {M : Type 1} → statement M
 element-stored-spec =
     tie.close
-    (tie.spec (λ c κs. tt) (λ c κs. tt) (λ c κs. tt) failure-requires returns (λ c κs. tt) cast-shifted shifted-requires stored-requires returns-2)
+    (tie.spec (λ c κs. c .pre) (λ c κs. c .before .pre) (λ c κs. tt) failure-requires returns (λ c κs. tt) cast-shifted shifted-requires stored-requires returns-2)

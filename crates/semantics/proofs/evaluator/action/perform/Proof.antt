@@ -37,5 +37,5 @@ returns-5 c =
 pub perform-spec : {M : Type 1} → statement M
 perform-spec =
     tie.close
-    (tie.spec (λ c. search needs) (λ c. search needs) (λ c κs. tt) (λ c. search needs) (λ c κs. tt) (λ c. search needs) (λ c κs. tt) (λ c. search needs) (λ c κs. tt) returns
-    returns-2 returns-3 returns-4 returns-5)
+    (tie.spec (λ c. search needs) (λ c. search needs) (λ c κs. c .before .before .before .before .pre) (λ c. search needs) (λ c κs. c .before .before .before .before .pre) (λ c. search needs)
+    (λ c κs. c .before .before .before .before .pre) (λ c. search needs) (λ c κs. c .before .before .before .before .pre) returns returns-2 returns-3 returns-4 returns-5)

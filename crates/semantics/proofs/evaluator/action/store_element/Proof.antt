@@ -2,7 +2,6 @@
 use mathlib.Core.Path.{_≡_, refl}
 use mathlib.Core.Bool.{false}
 use mathlib.Core.List.{[]}
-use Rattle.program.proofs.Laws.{arith-whole}
 use Rattle.program.specs.Parts.Prepared.{entriesIn}
 use Rattle.program.specs.Tree.{arithAt}
 use Rattle.semantics.specs.Action.{after, isDefined}
@@ -34,7 +33,7 @@ shifted-requires c κs =
     rw (handed (k .store-index .result) (k .store-index .ok)) (k .store-index .ensures [] .below (inside e) .1)
 
 put-requires : tie.Need-put-requires
-put-requires c κs = let v = c .before .before .before in rw (handed (v .operand .result) (v .operand .ok)) (v .operand .ensures [] .code)
+put-requires c κs = let v = c .before .before .before in rw (handed (v .any-operand .result) (v .any-operand .ok)) (v .any-operand .ensures [] .code)
 
 returns-2 : tie.Need-returns-2
 returns-2 c graph =
@@ -45,10 +44,10 @@ returns-2 c graph =
     let sum = rw (c .before .before .first-cell .ensures, handed (k .store-index .result) (k .store-index .ok)) at (c .before .shifted .ensures) in
     performs
     (store-effect (s .args .x) (arithAt (entriesIn (s .args .code .now) graph) (s .args .a)) (k .store-index .ensures graph) (inside e)
-    (rw (arith-whole (s .args .code .now) graph (s .args .a)) (v .operand .ensures graph)) sum)
-    (rw (handed (v .operand .result) (v .operand .ok)) at (c .put .ensures))
+    (v .any-operand .ensures graph) sum)
+    (rw (handed (v .any-operand .result) (v .any-operand .ok)) at (c .put .ensures))
 
 pub store-element-spec : {M : Type 1} → statement M
 store-element-spec =
     tie.close
-    (tie.spec (λ c κs. tt) (λ c κs. tt) returns (λ c κs. tt) (λ c κs. tt) cast-shifted shifted-requires put-requires returns-2)
+    (tie.spec (λ c κs. c .before .pre) (λ c κs. tt) returns (λ c κs. c .before .before .before .before .before .pre) (λ c κs. tt) cast-shifted shifted-requires put-requires returns-2)

@@ -48,10 +48,10 @@ enum-known-node-2 : (t : ℕ) → lts.Need-enum-known-node-2 (claims t) (exit-at
 enum-known-node-2 t c = search needs
 
 exit-requires : (t : ℕ) → lts.Need-exit-requires (claims t) (exit-at t) reads.Post
-exit-requires t c κs = (lower t (c .before .before .before) (c .before .node2 .given .1) tt, tt)
+exit-requires t c κs = (lower t (c .before .before .before) (c .before .node2 .given .1) tt, c .before .before .before .before .pre .1)
 
 exit-requires-2 : (t : ℕ) → lts.Need-exit-requires-2 (claims t) (exit-at t) reads.Post
-exit-requires-2 t c κs = let k = c .before in (lower t (k .before .before .before) (k .before .node2 .given .1) tt, tt)
+exit-requires-2 t c κs = let k = c .before in (lower t (k .before .before .before) (k .before .node2 .given .1) tt, k .before .before .before .before .pre .1)
 
 returns : (t : ℕ) → lts.Need-returns (claims t) (exit-at t) reads.Post
 unfolding commandMade done
@@ -86,7 +86,7 @@ pub +exit-spec : {M : Type 1} → statement M
     reads.Post
     (λ c κs. tt)
     (enum-known-node t)
-    (λ c κs. tt)
+    (λ c κs. c .before .before .before .before .pre .1)
     (λ c κs. tt)
     (enum-known-node-2 t)
     (exit-requires t)

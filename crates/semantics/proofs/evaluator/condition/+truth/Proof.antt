@@ -49,25 +49,25 @@ enum-known-node-2 : (t : ℕ) → lts.Need-enum-known-node-2 (claims t) (truth-a
 enum-known-node-2 t c = search needs
 
 truth-requires : (t : ℕ) → lts.Need-truth-requires (claims t) (truth-at t) reads.Post
-truth-requires t c κs = (lower t (c .before .before .before) (c .before .node2 .given .1) tt, tt)
+truth-requires t c κs = (lower t (c .before .before .before) (c .before .node2 .given .1) tt, c .before .before .before .before .pre .1)
 
 truth-requires-2 : (t : ℕ) → lts.Need-truth-requires-2 (claims t) (truth-at t) reads.Post
-truth-requires-2 t c κs = let k = c .before in (lower t (k .before .before .before) (k .before .node2 .given .1) tt, tt)
+truth-requires-2 t c κs = let k = c .before in (lower t (k .before .before .before) (k .before .node2 .given .1) tt, k .before .before .before .before .pre .1)
 
 enum-known-node-3 : (t : ℕ) → lts.Need-enum-known-node-3 (claims t) (truth-at t) reads.Post
 enum-known-node-3 t c = search needs
 
 truth-requires-3 : (t : ℕ) → lts.Need-truth-requires-3 (claims t) (truth-at t) reads.Post
-truth-requires-3 t c κs = (lower t (c .before .before .before) (c .before .node3 .given .1) tt, tt)
+truth-requires-3 t c κs = (lower t (c .before .before .before) (c .before .node3 .given .1) tt, c .before .before .before .before .pre .1)
 
 truth-requires-4 : (t : ℕ) → lts.Need-truth-requires-4 (claims t) (truth-at t) reads.Post
-truth-requires-4 t c κs = let k = c .before .before in (lower t (k .before .before .before) (k .before .node3 .given .1) tt, tt)
+truth-requires-4 t c κs = let k = c .before .before in (lower t (k .before .before .before) (k .before .node3 .given .1) tt, k .before .before .before .before .pre .1)
 
 enum-known-node-4 : (t : ℕ) → lts.Need-enum-known-node-4 (claims t) (truth-at t) reads.Post
 enum-known-node-4 t c = search needs
 
 truth-requires-5 : (t : ℕ) → lts.Need-truth-requires-5 (claims t) (truth-at t) reads.Post
-truth-requires-5 t c κs = (lower t (c .before .before .before) (c .before .node4 .given .1) tt, tt)
+truth-requires-5 t c κs = (lower t (c .before .before .before) (c .before .node4 .given .1) tt, c .before .before .before .before .pre .1)
 
 returns : (t : ℕ) → lts.Need-returns (claims t) (truth-at t) reads.Post
 unfolding booleanMade
@@ -125,7 +125,7 @@ pub +truth-spec : {M : Type 1} → statement M
     (λ c κs. tt)
     (enum-told t)
     (enum-known-node t)
-    (λ c κs. tt)
+    (λ c κs. c .before .before .before .before .pre .1)
     (enum-known-node-2 t)
     (truth-requires t)
     (truth-requires-2 t)

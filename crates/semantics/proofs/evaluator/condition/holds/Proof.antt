@@ -16,4 +16,4 @@ returns-2 : tie.Need-returns-2
 returns-2 c graph = rw (handed (c .truth .result) (c .truth .ok)) (c .truth .ensures graph)
 
 pub holds-spec : {M : Type 1} → statement M
-holds-spec = tie.close (tie.spec (λ c κs. tt) (λ c. search needs) (λ c κs. tt) (λ c κs. tt) returns returns-2)
+holds-spec = tie.close (tie.spec (λ c κs. tt) (λ c. search needs) (λ c κs. c .before .before .before .before .pre) (λ c κs. c .before .before .pre) returns returns-2)
