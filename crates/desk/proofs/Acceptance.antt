@@ -1,64 +1,49 @@
--- The third term, of the row that was written.
-use mathlib.Core.Path.{_≡_, refl, sym, _∙_, ap}
-use mathlib.Core.Bool.{Bool, true, false, cond}
-use mathlib.Core.List.{List, [], _∷_}
-use Prim.Native.Nat.{ℕ}
+-- The third term, of what was returned and written.
+use mathlib.Core.Path.{_≡_, refl, ap}
+use mathlib.Core.List.{List, map}
+use Prim.Native.Nat.{ℕ, _<_}
 use native.Mathlib.Omega.{arith}
-use lib.Dec.{leb}
-use lib.ListN.{length, take}
-use lib.Seq.{take-at}
-use Rattle.program.specs.Drawing.{over}
+use lib.IntN.{ℤ, pos, natAbs}
+use lib.Signed.{mag}
+use mir.Syntax.{w32}
+use mir.Val.{toZ, ofZ}
+use mir.ValLaws.{toZ-ofZ}
+use Rattle.signs.specs.Number.{equal}
 use Rattle.analysis.specs.Soundness.{ThirdTermFor}
-use Rattle.analysis.specs.Records.{wrongByteNumbers}
-use Rattle.analysis.specs.Verdict.{verdict, markNumbers, verdictNumbers}
 use Rattle.analysis.specs.declared.Mark.{Mark}
 use Rattle.analysis.specs.declared.Mark.the-variants.{Clean, Unclean}
 use Rattle.analysis.specs.declared.Verdict.{Verdict}
 use Rattle.analysis.specs.declared.Verdict.the-variants.{Refused, Malformed, InitialMissing, ResultMissing, Accepted}
-use Rattle.desk.specs.Accepting.{markTold, ThirdTermTold}
-use Rattle.desk.specs.Reply.{replyRoom, unlessShort, replied, told}
+use Rattle.desk.specs.Accepting.{markIn, ThirdTermTold}
+use Rattle.desk.specs.Parts.Heads.{verdictHead, verdictBehind}
+use Rattle.desk.specs.Reply.{none, answeredWith, refusedWith, malformedWith, tell, overAt}
 use Rattle.program.proofs.Never.{never}
-use Rattle.desk.proofs.Places.{VerdictTold, verdict-told}
+use Rattle.desk.proofs.Places.{VerdictTold}
 
--- the first of a row, and its rest
-first-same : {a b : ℕ} {xs ys : List ℕ} → a ∷ xs ≡ b ∷ ys → a ≡ b
-first-same e = cc
-
-rest-same : {a b : ℕ} {xs ys : List ℕ} → a ∷ xs ≡ b ∷ ys → xs ≡ ys
-rest-same e = cc
-
--- the numbers of an index mark tell it
-mark-told : (mark : Mark) → markTold (markNumbers mark) ≡ mark
-unfolding markTold markNumbers
-mark-told Clean = refl
-mark-told (Unclean k e) = refl
-
--- a verdict's numbers begin with 0 where it is accepted, and only there
-row-third : (s initial solution : List ℕ) (v : Verdict) → VerdictTold v → ThirdTermFor s initial solution v → ThirdTermTold s initial solution (verdictNumbers v)
-unfolding verdictNumbers wrongByteNumbers ThirdTermFor ThirdTermTold
-row-third s initial solution (Refused x) told third rest e = absurd (omega (arith, told .refused x refl .numbered, first-same e))
-row-third s initial solution (Malformed w) told third rest e = absurd (omega (arith, first-same e))
-row-third s initial solution (InitialMissing k) told third rest e = absurd (omega (arith, first-same e))
-row-third s initial solution (ResultMissing k k') told third rest e = absurd (omega (arith, first-same e))
-row-third s initial solution (Accepted mark) told third rest e =
-    rw (sym (ap markTold (rest-same e)) ∙ mark-told mark) (third mark refl)
-
--- a row that was written, and none
-written : (row reply : List ℕ) → take (length row) (over row reply) ≡ row
-unfolding over
-written row reply = take-at row _ _ refl
-
-nothing-third : (s initial solution : List ℕ) → ThirdTermTold s initial solution []
+-- nothing is told where the reply is too short
+pub short-third : (s initial solution : List ℕ) (reply : List ℤ) → ThirdTermTold s initial solution none reply
 unfolding ThirdTermTold
-nothing-third s initial solution rest e = never (cc)
+short-third s initial solution reply returned = never (cc)
 
--- of what a call wrote: the row, or nothing where the reply is too short
-pub written-third : (s initial solution reply : List ℕ) {v : Verdict} {numbers after : List ℕ} {n : ℕ}
-    → v ≡ verdict s initial solution → ThirdTermFor s initial solution v → numbers ≡ verdictNumbers v
-    → (n ≡ told numbers reply) × (after ≡ replied numbers reply) → ThirdTermTold s initial solution (take n after)
-unfolding told replied unlessShort
-written-third s initial solution reply {v} {numbers} same third e w = rw (w .0, w .1) (by (leb replyRoom (length reply)))
-  where
-    by : (roomy : Bool) → ThirdTermTold s initial solution (take (cond roomy (length numbers) 0) (cond roomy (over numbers reply) reply))
-    by true = rw (written numbers reply, e) (row-third s initial solution v (rw same (verdict-told s initial solution)) third)
-    by false = nothing-third s initial solution
+-- the row of an accepted sheet tells its index mark
+mark-in : (names : ℕ) (mark : Mark) (reply : List ℤ) → markIn (overAt 0 (tell (verdictHead (Accepted mark)) (map pos (verdictBehind names (Accepted mark))) .row) reply) ≡ mark
+unfolding markIn equal overAt tell answeredWith verdictHead verdictBehind
+mark-in names Clean reply = refl
+mark-in names (Unclean k e) reply = refl
+
+-- a call returns 0 with the answer 0 where the sheet is accepted, and only there
+row-third : (s initial solution : List ℕ) (names : ℕ) (reply : List ℤ) (v : Verdict) → VerdictTold v → ThirdTermFor s initial solution v
+    → ThirdTermTold s initial solution (pos (tell (verdictHead v) (map pos (verdictBehind names v)) .status)) (overAt 0 (tell (verdictHead v) (map pos (verdictBehind names v)) .row) reply)
+unfolding ThirdTermFor ThirdTermTold overAt tell answeredWith refusedWith malformedWith verdictHead verdictBehind
+row-third s initial solution names reply (Refused x) told third returned answer = absurd (omega (arith, told .refused x refl .numbered, ap natAbs returned))
+row-third s initial solution names reply (Malformed w) told third returned answer = absurd (omega (arith, ap natAbs returned))
+row-third s initial solution names reply (InitialMissing k) told third returned answer = absurd (omega (arith, ap natAbs answer))
+row-third s initial solution names reply (ResultMissing k e) told third returned answer = absurd (omega (arith, ap natAbs answer))
+row-third s initial solution names reply (Accepted mark) told third returned answer = rw (mark-in names mark reply) (third mark refl)
+
+-- of what a call returned and wrote
+pub written-third : (s initial solution : List ℕ) (names : ℕ) (reply : List ℤ) {after : List ℤ} {v : Verdict} {r : ℤ} → mag r < 2147483648 → VerdictTold v → ThirdTermFor s initial solution v
+    → (r ≡ pos (tell (verdictHead v) (map pos (verdictBehind names v)) .status)) × (after ≡ overAt 0 (tell (verdictHead v) (map pos (verdictBehind names v)) .row) reply)
+    → ThirdTermTold s initial solution (toZ w32 (ofZ w32 r)) after
+written-third s initial solution names reply {after} {v} {r} ok told third w =
+    rw (toZ-ofZ w32 r (record { sfits = ok }), w .0, w .1) (row-third s initial solution names reply v told third)

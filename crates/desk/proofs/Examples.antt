@@ -1,4 +1,4 @@
--- The rows of the calls on the factorial lesson are those of document 01, by computation.
+-- The calls on the factorial lesson tell what document 01 states, by computation.
 use lib.Dec.{T}
 use Rattle.signs.specs.Case.{allHold}
 use Rattle.desk.specs.Examples.{cases}

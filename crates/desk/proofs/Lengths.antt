@@ -1,123 +1,102 @@
--- Every row has one to four numbers, and every row of figures eight or nine.
+-- Every row has the length of its call.
 use mathlib.Core.Path.{_≡_, refl}
-use mathlib.Core.Bool.{Bool, true, false, cond, _&&_}
-use mathlib.Core.List.{List, [], _∷_, _++_, map}
-use Prim.Native.Nat.{ℕ, _≤_, _<_}
-use native.Mathlib.Omega.{arith}
-use lib.Dec.{T, leb}
-use lib.IntN.{ℤ, pos}
+use mathlib.Core.Bool.{Bool, true, false, cond}
+use mathlib.Core.List.{List, _++_}
+use Prim.Native.Nat.{ℕ}
+use lib.IntN.{ℤ}
 use lib.ListN.{length}
-use borrow.Author.Tests.{leb-true, leb-false}
-use Rattle.program.specs.Asking.{validityNumbers}
-use Rattle.program.specs.declared.Validity.{Validity}
-use Rattle.program.specs.declared.Validity.the-variants.{Fit, Refused}
-use Rattle.program.proofs.Tests.{two, is-true}
-use Rattle.semantics.specs.Budget.{endingNumbers}
-use Rattle.semantics.specs.Step.{outcomeNumbers}
-use Rattle.semantics.specs.declared.Ending.{Ending}
-use Rattle.semantics.specs.declared.Ending.the-variants.{Arrived, Spent, Stuck, Refused as Halts}
-use Rattle.semantics.specs.declared.Outcome.{Outcome}
-use Rattle.semantics.specs.declared.Outcome.the-variants.{Taken, Undefined as Stays, Refused as Refuses}
-use Rattle.figures.specs.Figures.{fractionNumbers, totalsNumbers, figuresNumbers}
+use lib.Dec.{eqb}
+use Rattle.program.specs.Questions.{validationRow, inputRow}
+use Rattle.program.specs.Drawing.{drawingRow}
+use Rattle.semantics.specs.Budget.{runRow}
+use Rattle.semantics.specs.Step.{Configuration, stepRow}
+use Rattle.analysis.specs.Solver.{solverRow}
+use Rattle.analysis.specs.Splitter.{splitRow}
+use Rattle.analysis.specs.Verdict.{verdictRow, markRow}
+use Rattle.figures.specs.Figures.{listFigures, joinFigures, figuresRow, joinRow, totalsNumbers, fractionNumbers}
 use Rattle.figures.specs.declared.Figures.{Figures}
-use Rattle.analysis.specs.Records.{wrongByteNumbers}
-use Rattle.analysis.specs.Solver.{solvingNumbers}
-use Rattle.analysis.specs.Verdict.{markNumbers, verdictNumbers, markingNumbers}
-use Rattle.analysis.specs.declared.Mark.{Mark}
-use Rattle.analysis.specs.declared.Mark.the-variants.{Clean, Unclean}
-use Rattle.analysis.specs.declared.Marking.{Marking}
-use Rattle.analysis.specs.declared.Marking.the-variants.{Refused as MarkRefused, Malformed as MarkMalformed, Marked}
-use Rattle.analysis.specs.declared.Solving.{Solving}
-use Rattle.analysis.specs.declared.Solving.the-variants.{Finished, Full, Refused as SolveRefused, Malformed as SolveMalformed}
-use Rattle.analysis.specs.declared.Verdict.{Verdict}
-use Rattle.analysis.specs.declared.Verdict.the-variants.{Refused as Declines, Malformed, InitialMissing, ResultMissing, Accepted}
-use Rattle.desk.specs.Reply.{replyRoom, unlessShort, told, figuresRoom}
-use Rattle.desk.specs.Rows.{partsBy, offendingBy}
+use Rattle.figures.specs.declared.Totals.{Totals}
+use Rattle.desk.specs.Parts.Heads.{validityHead}
+use Rattle.desk.specs.Reply.{Told, answeredWith, refusedWith, malformedWith, tell}
+use Rattle.desk.specs.Rows.{_!_, validationTold, validated, inputValidated, partsTold, parts, twoTold, drew, stepped, ran, verdictTold, judged, markTold, marked, solverTold, solved, split, figured, joined}
+use Rattle.desk.specs.declared.Head.{Head}
+use Rattle.desk.specs.declared.Head.the-variants.{Answered, Refused, Malformed}
+use Rattle.desk.proofs.Heads.{figures-head}
 
-abbrev pub Fitting : List ℕ → Type 0
-Fitting row = T (leb 1 (length row) && leb (length row) replyRoom)
+abbrev pub Long : ℕ → Told → Type 0
+Long n t = length (t .row) ≡ n
 
-pub validity-fits : (v : Validity) → Fitting (validityNumbers v)
-unfolding validityNumbers
-validity-fits Fit = tt
-validity-fits (Refused x) = tt
+-- of either
+choice : (n : ℕ) (b : Bool) (t u : Told) → Long n t → Long n u → Long n (cond b t u)
+choice n true t u p q = p
+choice n false t u p q = q
 
-pub validity-and-fits : (v : Validity) (a b : ℕ) → Fitting (validityNumbers v ++ (a ∷ b ∷ []))
-unfolding validityNumbers
-validity-and-fits Fit a b = tt
-validity-and-fits (Refused x) a b = tt
+validation-long : (xs : List ℕ) → Long 3 (validationTold xs)
+unfolding validationTold answeredWith refusedWith
+validation-long xs = choice 3 (eqb (length xs) 1) _ _ refl refl
 
-pub parts-fit : (s : List ℕ) (v : Validity) → Fitting (partsBy s v)
-unfolding partsBy
-parts-fit s Fit = tt
-parts-fit s (Refused x) = tt
+two-long : (xs : List ℕ) → Long 5 (twoTold xs)
+unfolding twoTold answeredWith refusedWith
+two-long xs = choice 5 (eqb (length xs) 3) _ _ refl refl
 
-pub outcome-fits : (o : Outcome) (a b : ℕ) → Fitting (outcomeNumbers o ++ (a ∷ b ∷ []))
-unfolding outcomeNumbers
-outcome-fits Taken a b = tt
-outcome-fits (Stays f) a b = tt
-outcome-fits (Refuses x) a b = tt
+pub validated-long : (s : List ℕ) → Long 3 (validated s)
+unfolding validated
+validated-long s = validation-long (validationRow s)
 
-pub ending-fits : (e : Ending) (a b : ℕ) → Fitting (endingNumbers e ++ (a ∷ b ∷ []))
-unfolding endingNumbers
-ending-fits Arrived a b = tt
-ending-fits Spent a b = tt
-ending-fits Stuck a b = tt
-ending-fits (Halts x) a b = tt
+pub input-long : (s : List ℕ) → Long 3 (inputValidated s)
+unfolding inputValidated
+input-long s = validation-long (inputRow s)
 
-mark-fits : (mark : Mark) → Fitting (0 ∷ markNumbers mark)
-unfolding markNumbers
-mark-fits Clean = tt
-mark-fits (Unclean k e) = tt
+pub parts-long : (s : List ℕ) → Long 6 (parts s)
+unfolding parts partsTold answeredWith refusedWith
+parts-long s = choice 6 (eqb (length (inputRow s)) 1) _ _ refl refl
 
-pub verdict-fits : (v : Verdict) → Fitting (verdictNumbers v)
-unfolding verdictNumbers wrongByteNumbers
-verdict-fits (Declines x) = tt
-verdict-fits (Malformed w) = tt
-verdict-fits (InitialMissing k) = tt
-verdict-fits (ResultMissing k e) = tt
-verdict-fits (Accepted mark) = mark-fits mark
+pub drew-long : (s buffer : List ℕ) → Long 5 (drew s buffer)
+unfolding drew
+drew-long s buffer = two-long (drawingRow s buffer)
 
-pub offending-fits : (names : ℕ) (v : Verdict) → Fitting (offendingBy names v)
-unfolding offendingBy
-offending-fits names (Declines x) = tt
-offending-fits names (Malformed w) = tt
-offending-fits names (InitialMissing k) = tt
-offending-fits names (ResultMissing k e) = tt
-offending-fits names (Accepted mark) = tt
+pub stepped-long : (s : List ℕ) (c : Configuration) (e : ℕ) → Long 5 (stepped s c e)
+unfolding stepped
+stepped-long s c e = two-long (stepRow s c e)
 
-pub marking-fits : (m : Marking) → Fitting (markingNumbers m)
-unfolding markingNumbers wrongByteNumbers
-marking-fits (MarkRefused x) = tt
-marking-fits (MarkMalformed w) = tt
-marking-fits (Marked mark) = mark-fits mark
+pub ran-long : (s : List ℕ) (budget : ℕ) (m : List ℤ) → Long 5 (ran s budget m)
+unfolding ran
+ran-long s budget m = two-long (runRow s budget m)
 
-pub solving-fits : (r : Solving) (count : ℕ) → Fitting (solvingNumbers r ++ (count ∷ []))
-unfolding solvingNumbers wrongByteNumbers
-solving-fits Finished count = tt
-solving-fits Full count = tt
-solving-fits (SolveRefused x) count = tt
-solving-fits (SolveMalformed w) count = tt
+pub split-long : (s : List ℕ) (place : ℕ) → Long 5 (split s place)
+unfolding split
+split-long s place = two-long (splitRow s place)
 
--- so 0 numbers are told only where the reply is too short
-pub none-told : (row reply : List ℕ) → Fitting row → told row reply ≡ 0 → length reply < replyRoom
-unfolding told unlessShort
-none-told row reply fits e = by (leb replyRoom (length reply)) refl e
-  where
-    by : (roomy : Bool) → leb replyRoom (length reply) ≡ roomy → cond roomy (length row) 0 ≡ 0 → length reply < replyRoom
-    by true r e =
-        let some : 1 ≤ length row = leb-true _ _ (two (leb 1 (length row)) (leb (length row) replyRoom) (is-true _ fits) .0) in
-        absurd (omega arith)
-    by false r e = leb-false _ _ r
+pub judged-long : (s initial solution : List ℕ) → Long 10 (judged s initial solution)
+unfolding judged verdictTold answeredWith refusedWith malformedWith
+judged-long s initial solution =
+    let xs = verdictRow s initial solution in
+    choice 10 (eqb (xs ! 0) 0) _ _ refl (choice 10 (eqb (xs ! 0) 41) _ _ refl (choice 10 (eqb (xs ! 0) 42) _ _ refl (choice 10 (eqb (length xs) 3) _ _ refl refl)))
 
--- a row of figures
-abbrev pub FiguresFitting : List ℤ → Type 0
-FiguresFitting row = T (leb 8 (length row) && leb (length row) figuresRoom)
+pub marked-long : (s solution : List ℕ) → Long 5 (marked s solution)
+unfolding marked markTold answeredWith refusedWith malformedWith
+marked-long s solution = let xs = markRow s solution in choice 5 (eqb (xs ! 0) 0) _ _ refl (choice 5 (eqb (length xs) 3) _ _ refl refl)
 
-pub figures-fits : (f : Figures) → FiguresFitting (figuresNumbers f)
-unfolding figuresNumbers totalsNumbers fractionNumbers validityNumbers
-figures-fits f = by (f .validity)
-  where
-    by : (v : Validity) → FiguresFitting (map pos (validityNumbers v) ++ totalsNumbers (f .totals) ++ fractionNumbers (f .mean) ++ fractionNumbers (f .variance))
-    by Fit = tt
-    by (Refused x) = tt
+pub solved-long : (s initial buffer : List ℕ) → Long 4 (solved s initial buffer)
+unfolding solved solverTold answeredWith refusedWith malformedWith
+solved-long s initial buffer =
+    let xs = solverRow s initial buffer in
+    choice 4 (eqb (length xs) 4) _ _ refl (choice 4 (eqb (length xs) 3) _ _ refl (choice 4 (eqb (xs ! 0) 0) _ _ refl refl))
+
+tell-long : (h : Head) (rest : List ℤ) → length rest ≡ 7 → Long 10 (tell h rest)
+unfolding tell answeredWith refusedWith malformedWith
+tell-long (Answered a) rest e = rw e
+tell-long (Refused q place) rest e = rw e
+tell-long (Malformed list place) rest e = rw e
+
+figures-long : (f : Figures) → Long 10 (tell (validityHead (f .validity)) (totalsNumbers (f .totals) ++ fractionNumbers (f .mean) ++ fractionNumbers (f .variance)))
+unfolding totalsNumbers fractionNumbers
+figures-long f = tell-long (validityHead (f .validity)) _ refl
+
+pub figured-long : (marks : List ℤ) → Long 10 (figured marks)
+unfolding figured figuresRow
+figured-long marks = rw (figures-head (listFigures marks)) (figures-long (listFigures marks))
+
+pub joined-long : (a b : Totals) → Long 10 (joined a b)
+unfolding joined joinRow
+joined-long a b = rw (figures-head (joinFigures a b)) (figures-long (joinFigures a b))

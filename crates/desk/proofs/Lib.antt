@@ -1,8 +1,9 @@
 pub mod Replies
 pub mod Written
-pub mod Lengths
 pub mod Places
 pub mod Parts
+pub mod Heads
+pub mod Lengths
 pub mod Acceptance
 pub mod Offending
 pub mod Laws

@@ -1,10 +1,11 @@
 -- The offending record lies inside its list.
 use mathlib.Core.Path.{_≡_, refl, sym, _∙_, ap}
 use mathlib.Core.Bool.{Bool, false, false≢true}
-use mathlib.Core.List.{List, []}
+use mathlib.Core.List.{List, map}
 use Prim.Native.Nat.{ℕ, _+_, _/_, _≤_, _<_}
 use native.Mathlib.Omega.{arith}
-use lib.ListN.{length, getD}
+use lib.IntN.{pos}
+use lib.ListN.{length}
 use Rattle.program.specs.File.{sizes}
 use Rattle.program.specs.Graph.{Graph, graph}
 use Rattle.program.specs.declared.First.{First}
@@ -13,29 +14,40 @@ use Rattle.program.specs.declared.Validity.{Validity}
 use Rattle.program.specs.declared.Validity.the-variants.{Fit, Refused}
 use Rattle.program.specs.Questions.{validity}
 use Rattle.program.proofs.Laws.{sizes-length, first-found, such-first}
-use Rattle.analysis.specs.Records.{initialWidth, recordWidth, recordCount, recordAt, listNumber}
-use Rattle.analysis.specs.Verdict.{missingInitial, isHere, spotAt, firstSpot, missingResult, verdictBy, verdictUnlessRefused, unlessMalformed, verdictOver, verdict, offending}
+use Rattle.analysis.specs.Records.{initialWidth, recordWidth, recordCount, recordAt}
+use Rattle.analysis.specs.Verdict.{missingInitial, isHere, spotAt, firstSpot, missingResult, verdictBy, verdictUnlessRefused, unlessMalformed, verdictOver, verdict, verdictRow, offending}
 use Rattle.analysis.specs.declared.Mark.{Mark}
+use Rattle.analysis.specs.declared.Mark.the-variants.{Clean, Unclean}
 use Rattle.analysis.specs.declared.RecordList.{RecordList}
 use Rattle.analysis.specs.declared.Spot.{Spot}
 use Rattle.analysis.specs.declared.Spot.the-variants.{At as Here, Nowhere}
 use Rattle.analysis.specs.declared.Verdict.{Verdict}
 use Rattle.analysis.specs.declared.Verdict.the-variants.{Refused as Refuses, Malformed, InitialMissing, ResultMissing, Accepted}
-use Rattle.desk.specs.Rows.{offendingBy, offended, listNamed, partNamed}
+use Rattle.desk.specs.Parts.Heads.{verdictHead, verdictBehind}
+use Rattle.desk.specs.Reply.{answeredWith, refusedWith, malformedWith, tell}
+use Rattle.desk.specs.Rows.{toldAt, judged, listNamed, partNamed}
 use Rattle.program.proofs.Never.{never}
-use Rattle.desk.proofs.Places.{record-inside}
+use Rattle.desk.proofs.Heads.{verdict-head}
+use Rattle.desk.proofs.Places.{record-inside, verdict-told}
+
+-- what the verdict's call tells, by the verdict
+told-as-verdict : (s initial solution : List ℕ)
+    → judged s initial solution ≡ tell (verdictHead (verdict s initial solution)) (map pos (verdictBehind (length (sizes s)) (verdict s initial solution)))
+unfolding judged verdictRow
+told-as-verdict s initial solution = rw (← sizes-length s) (verdict-head _ _ (verdict-told s initial solution))
 
 -- a row names the record itself
-pub offending-part : (s initial solution : List ℕ) → partNamed initial solution (offended s initial solution) ≡ offending (sizes s) initial solution (verdict s initial solution)
-unfolding offended offendingBy partNamed listNamed listNumber offending recordAt initialWidth recordWidth
-offending-part s initial solution = rw (← sizes-length s) (by (verdict s initial solution))
+pub offending-part : (s initial solution : List ℕ) → partNamed initial solution (judged s initial solution) ≡ offending (sizes s) initial solution (verdict s initial solution)
+unfolding partNamed listNamed offending recordAt initialWidth recordWidth tell answeredWith refusedWith malformedWith verdictHead verdictBehind
+offending-part s initial solution = rw (told-as-verdict s initial solution) (by (verdict s initial solution))
   where
-    by : (v : Verdict) → partNamed initial solution (offendingBy (length (sizes s)) v) ≡ offending (sizes s) initial solution v
+    by : (v : Verdict) → partNamed initial solution (tell (verdictHead v) (map pos (verdictBehind (length (sizes s)) v))) ≡ offending (sizes s) initial solution v
     by (Refuses x) = refl
     by (Malformed w) = refl
     by (InitialMissing k) = refl
     by (ResultMissing k e) = refl
-    by (Accepted mark) = refl
+    by (Accepted Clean) = refl
+    by (Accepted (Unclean k e)) = refl
 
 -- a verdict names records that are there
 record Named (initials solutions : ℕ) (v : Verdict) : Type 0 where
@@ -108,17 +120,17 @@ over-named ns g initial solution =
     (formed-named _ _ _ _ _ (found-named _ _ _ _ _ (λ k e. such-first _ _ k e .below) (λ k e p. spot-there ns g solution _ k e p))))
 
 -- so the part that a row names lies inside its list
-pub offending-inside : (s initial solution : List ℕ) → let row = offended s initial solution in
-    getD row 1 0 + getD row 2 0 ≤ length (listNamed initial solution (getD row 0 0))
-unfolding offended offendingBy listNamed listNumber verdict recordCount initialWidth recordWidth
+pub offending-inside : (s initial solution : List ℕ) → let t = judged s initial solution in toldAt t 5 + toldAt t 6 ≤ length (listNamed initial solution (toldAt t 0))
+unfolding listNamed verdict recordCount initialWidth recordWidth tell answeredWith refusedWith malformedWith verdictHead verdictBehind
 offending-inside s initial solution =
-    rw (← sizes-length s)
+    rw (told-as-verdict s initial solution)
     (by (verdict s initial solution) refl (unless-named _ _ (validity s) _ (over-named (sizes s) (graph s) initial solution)))
   where
     by : (v : Verdict) → verdict s initial solution ≡ v → Named (length initial / length (sizes s)) (length solution / (2 + length (sizes s))) (verdict s initial solution)
-        → (let row = offendingBy (length (sizes s)) v in getD row 1 0 + getD row 2 0 ≤ length (listNamed initial solution (getD row 0 0)))
+        → (let t = tell (verdictHead v) (map pos (verdictBehind (length (sizes s)) v)) in toldAt t 5 + toldAt t 6 ≤ length (listNamed initial solution (toldAt t 0)))
     by (Refuses x) e named = omega arith
     by (Malformed w) e named = omega arith
     by (InitialMissing k) e named = record-inside (length (sizes s)) (length initial) k (named .first k e)
     by (ResultMissing k a) e named = record-inside (2 + length (sizes s)) (length solution) k (named .later k a e)
-    by (Accepted mark) e named = omega arith
+    by (Accepted Clean) e named = omega arith
+    by (Accepted (Unclean k a)) e named = omega arith

@@ -2,10 +2,11 @@
 use Rattle.desk.specs.Reply
 use Rattle.desk.specs.Rows
 use Rattle.desk.specs.Accepting
+use Rattle.desk.specs.Parts.Heads
 use Rattle.desk.specs.Examples
 use Rattle.analysis.proofs.Open as Below
 use Rattle.figures.proofs.Open as Class
 
 unfoldable pub definitions : Unit {0}
-unfolding Reply.unlessShort Reply.replied Reply.told Reply.overAt Reply.figuresReplied Reply.figuresTold Reply.rowNumbers Rows.validated Rows.inputValidated Rows.partsBy Rows.parts Rows.drew Rows.stepped Rows.ran Rows.judged Rows.offendingBy Rows.offended Rows.listNamed Rows.partNamed Rows.marked Rows.solved Rows.split Rows.figured Rows.joined Accepting.markTold Accepting.ThirdTermTold Examples.replies Examples.files Examples.start Examples.runs Examples.sheets Examples.figures Examples.cases Below.definitions Class.definitions
+unfolding Reply.answeredWith Reply.refusedWith Reply.malformedWith Reply.tell Reply.unlessShort Reply.overAt Reply.returned Reply.replied Rows.validationTold Rows.validated Rows.inputValidated Rows.partsTold Rows.parts Rows.twoTold Rows.drew Rows.stepped Rows.ran Rows.marking Rows.verdictTold Rows.judged Rows.listNamed Rows.partNamed Rows.markTold Rows.marked Rows.solverTold Rows.solved Rows.split Rows.figuresTold Rows.figured Rows.joined Rows.version Accepting.markIn Accepting.ThirdTermTold Heads.validityHead Heads.outcomeHead Heads.endingHead Heads.verdictHead Heads.markHead Heads.markingHead Heads.solvingHead Heads.verdictBehind Heads.markBehind Examples.calls Examples.replies Examples.files Examples.start Examples.runs Examples.sheets Examples.figures Examples.cases Below.definitions Class.definitions
 definitions = tt

@@ -1,19 +1,29 @@
--- The third term, said of the row that the verdict's call wrote.
+-- The third term, said of what the verdict's call returned and wrote.
 use Prim.Native.Nat.{ℕ}
+use mathlib.Core.Bool.{cond}
 use mathlib.Core.Path.{_≡_}
-use mathlib.Core.List.{List, [], _∷_}
+use mathlib.Core.List.{List}
+use lib.IntN.{ℤ, pos, natAbs}
+use lib.ListN.{getD}
+use Rattle.signs.specs.Number.{equal}
 use Rattle.analysis.specs.Soundness.{Sound}
 use Rattle.analysis.specs.declared.Mark.{Mark}
 use Rattle.analysis.specs.declared.Mark.the-variants.{Clean, Unclean}
+use Rattle.desk.specs.Rows.{clean}
 
--- the index mark that the numbers after the 0 of an accepted sheet tell: clean where there are none, else the record and the edge
-unfoldable pub markTold : List ℕ → Mark
-markTold [] = Clean
-markTold (k ∷ []) = Unclean k 0
-markTold (k ∷ e ∷ rest) = Unclean k e
+-- the places of a verdict's row that tell the answer, the index mark, and its record and edge
+abbrev pub answerPlace : ℕ
+answerPlace = 0
 
--- where the row begins with 0, the sheet is accepted, and `Sound` of it: for every memory whose signs are in the start list, every list of step calls
--- and every budget, the sheet has the record of what is reached; and where nothing follows the 0, no index below zero is met
-unfoldable pub ThirdTermTold : List ℕ → List ℕ → List ℕ → List ℕ → Type 0
-ThirdTermTold s initial solution row =
-    (rest : List ℕ) → row ≡ 0 ∷ rest → Sound s initial solution (markTold rest)
+abbrev pub markPlace : ℕ
+markPlace = 7
+
+-- the index mark that a row tells of an accepted sheet
+unfoldable pub markIn : List ℤ → Mark
+markIn row = cond (equal (getD row markPlace (pos 0)) (pos clean)) Clean (Unclean (natAbs (getD row 8 (pos 0))) (natAbs (getD row 9 (pos 0))))
+
+-- where the call returned 0 and the row's answer is 0, the sheet is accepted, and `Sound` of it: for every memory whose signs are in the start list, every list of step
+-- calls and every budget, the sheet has the record of what is reached; and where the row says clean, no index below zero is met
+unfoldable pub ThirdTermTold : List ℕ → List ℕ → List ℕ → ℤ → List ℤ → Type 0
+ThirdTermTold s initial solution r row =
+    r ≡ pos 0 → getD row answerPlace (pos 0) ≡ pos 0 → Sound s initial solution (markIn row)

@@ -1,4 +1,5 @@
 pub mod Reply
 pub mod Rows
 pub mod Accepting
+pub mod Parts
 pub mod Examples

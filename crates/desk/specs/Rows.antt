@@ -1,98 +1,176 @@
--- The row of each call, in document 01's numbers: what it writes at the front of the reply.
+-- What each call tells, place by place, out of the operation's own row of numbers: the clause `numbers` of the crate below. Places 0 to 2 of every row are the answer, a
+-- refusal's place, and the list of question 17; what follows is the call's own. A number stands at one place of a row whatever the answer is, and zero where a place does not
+-- apply.
 use Prim.Native.Nat.{ℕ, _+_, _*_}
 use mathlib.Core.Bool.{cond}
 use mathlib.Core.List.{List, [], _∷_}
 use lib.Dec.{eqb}
-use lib.IntN.{ℤ}
+use lib.IntN.{ℤ, pos, natAbs}
 use lib.ListN.{length, getD, take, drop}
 use Rattle.program.specs.Drawing.{drawingRow}
 use Rattle.program.specs.File.{nameCount}
-use Rattle.program.specs.Questions.{inputValidity, validationRow, inputRow, programPart, initialPart}
-use Rattle.program.specs.declared.Validity.{Validity}
-use Rattle.program.specs.declared.Validity.the-variants.{Fit, Refused}
+use Rattle.program.specs.Questions.{validationRow, inputRow, programPart, initialPart}
 use Rattle.semantics.specs.Budget.{runRow}
 use Rattle.semantics.specs.Step.{Configuration, stepRow}
-use Rattle.analysis.specs.Records.{listNumber}
 use Rattle.analysis.specs.Solver.{solverRow}
 use Rattle.analysis.specs.Splitter.{splitRow}
-use Rattle.analysis.specs.Verdict.{verdict, verdictRow, markRow}
+use Rattle.analysis.specs.Verdict.{verdictRow, markRow}
 use Rattle.figures.specs.Figures.{figuresRow, joinRow}
 use Rattle.figures.specs.declared.Totals.{Totals}
-use Rattle.analysis.specs.declared.RecordList.the-variants.{Initial, Solution}
-use Rattle.analysis.specs.declared.Verdict.{Verdict}
-use Rattle.analysis.specs.declared.Verdict.the-variants.{Refused as Refuses, Malformed, InitialMissing, ResultMissing, Accepted}
+use Rattle.desk.specs.Reply.{Told, answered, refused, malformed, answeredWith, refusedWith}
 
--- questions 1 to 11 of a program file, and of the sheet program's input: 0, or the question's number and its place
-unfoldable pub validated : List ℕ → List ℕ
-validated s = validationRow s
+-- the number at a place of an operation's row; past its end, 0
+infix 40 _!_
+abbrev pub _!_ : List ℕ → ℕ → ℕ
+xs ! k = getD xs k 0
 
-unfoldable pub inputValidated : List ℕ → List ℕ
-inputValidated s = inputRow s
+-- ---- questions 1 to 11, of a program file and of the sheet program's input: "0", or the question's number and its place
 
--- the parts of that input: 0, the program's length, where the start list begins, after the three bytes of the fifth field's head, and its length;
--- or the question's number and its place
-unfoldable pub partsBy : List ℕ → Validity → List ℕ
-partsBy s Fit = 0 ∷ length (programPart s) ∷ (length (programPart s) + 3) ∷ length (initialPart s) ∷ []
-partsBy s (Refused x) = x .number ∷ x .offset ∷ []
+abbrev pub validationRoom : ℕ
+validationRoom = 3
 
-unfoldable pub parts : List ℕ → List ℕ
-parts s = partsBy s (inputValidity s)
+unfoldable pub validationTold : List ℕ → Told
+validationTold xs = cond (eqb (length xs) 1) (answered (xs ! 0) []) (refused (xs ! 0) (xs ! 1) [])
 
--- the graph drawn into a buffer: the answer's, then nodes and edges
-unfoldable pub drew : List ℕ → List ℕ → List ℕ
-drew s buffer = drawingRow s buffer
+unfoldable pub validated : List ℕ → Told
+validated s = validationTold (validationRow s)
+
+unfoldable pub inputValidated : List ℕ → Told
+inputValidated s = validationTold (inputRow s)
+
+-- ---- the parts of that input: the program's length, where the start list begins, after the three bytes of the fifth field's head, and its length
+
+abbrev pub partsRoom : ℕ
+partsRoom = 6
+
+unfoldable pub partsTold : List ℕ → List ℕ → List ℕ → Told
+partsTold program initial xs =
+    cond (eqb (length xs) 1)
+    (answered (xs ! 0) (length program ∷ (length program + 3) ∷ length initial ∷ []))
+    (refused (xs ! 0) (xs ! 1) (0 ∷ 0 ∷ 0 ∷ []))
+
+unfoldable pub parts : List ℕ → Told
+parts s = partsTold (programPart s) (initialPart s) (inputRow s)
+
+-- ---- the graph drawn into a buffer: nodes, edges
+
+abbrev pub drawingRoom : ℕ
+drawingRoom = 5
+
+-- an answer and two numbers, or a question's number, its place and two numbers
+unfoldable pub twoTold : List ℕ → Told
+twoTold xs = cond (eqb (length xs) 3) (answered (xs ! 0) ((xs ! 1) ∷ (xs ! 2) ∷ [])) (refused (xs ! 0) (xs ! 1) ((xs ! 2) ∷ (xs ! 3) ∷ []))
+
+unfoldable pub drew : List ℕ → List ℕ → Told
+drew s buffer = twoTold (drawingRow s buffer)
+
+-- ---- a step along an edge, answered 0 or the reason's number, and a budgeted run, answered 0, 1 or 2: node, count
+
+abbrev pub runRoom : ℕ
+runRoom = 5
 
 -- a run at a node with so many edges taken, over a memory, as a step takes it
 abbrev pub standing : ℕ → ℕ → List ℤ → Configuration
 standing node count m = record { run = record { node = node; count = count }; memory = m }
 
--- a step along an edge, and a budgeted run: the answer's, then node and count
-unfoldable pub stepped : List ℕ → Configuration → ℕ → List ℕ
-stepped s c e = stepRow s c e
+unfoldable pub stepped : List ℕ → Configuration → ℕ → Told
+stepped s c e = twoTold (stepRow s c e)
 
-unfoldable pub ran : List ℕ → ℕ → List ℤ → List ℕ
-ran s budget m = runRow s budget m
+unfoldable pub ran : List ℕ → ℕ → List ℤ → Told
+ran s budget m = twoTold (runRow s budget m)
 
--- the verdict on a sheet: the answer's, with 41 its record, with 42 its record and edge, accepted the index mark's record and edge where it is not
--- clean
-unfoldable pub judged : List ℕ → List ℕ → List ℕ → List ℕ
-judged s initial solution = verdictRow s initial solution
+-- ---- the verdict on a sheet, answered 0, 41 or 42: the record and the edge of 41 or 42; "the offending record itself, as a part of whichever of the two lists it lies in",
+-- by its offset and length, in the start list after 41 and in the sheet after 42; and of an accepted sheet its index mark, 1 for clean and 2 otherwise, with its record and edge
 
--- "With 41 or 42 comes the offending record itself, as a part of whichever of the two lists it lies in; otherwise that part is empty.": the list, and
--- the record's offset and length in it, in a program with so many names
-unfoldable pub offendingBy : ℕ → Verdict → List ℕ
-offendingBy names (Refuses x) = 0 ∷ 0 ∷ 0 ∷ []
-offendingBy names (Malformed w) = 0 ∷ 0 ∷ 0 ∷ []
-offendingBy names (InitialMissing k) = listNumber Initial ∷ (names * k) ∷ names ∷ []
-offendingBy names (ResultMissing k e) = listNumber Solution ∷ ((2 + names) * k) ∷ (2 + names) ∷ []
-offendingBy names (Accepted mark) = 0 ∷ 0 ∷ 0 ∷ []
+abbrev pub verdictRoom : ℕ
+verdictRoom = 10
 
-unfoldable pub offended : List ℕ → List ℕ → List ℕ → List ℕ
-offended s initial solution = offendingBy (nameCount s) (verdict s initial solution)
+abbrev pub clean : ℕ
+clean = 1
 
--- the part of the lists that such a row names: of the start list for 1, of the sheet for 2
+abbrev pub unclean : ℕ
+unclean = 2
+
+-- nothing follows the 0 of a clean mark
+unfoldable pub marking : List ℕ → ℕ
+marking xs = cond (eqb (length xs) 1) clean unclean
+
+-- in a program with so many names. Of the refusals 17 has three numbers
+unfoldable pub verdictTold : ℕ → List ℕ → Told
+verdictTold names xs =
+    cond (eqb (xs ! 0) 0) (answered 0 (0 ∷ 0 ∷ 0 ∷ 0 ∷ marking xs ∷ (xs ! 1) ∷ (xs ! 2) ∷ []))
+    (cond (eqb (xs ! 0) 41) (answered 41 ((xs ! 1) ∷ 0 ∷ (names * (xs ! 1)) ∷ names ∷ 0 ∷ 0 ∷ 0 ∷ []))
+    (cond (eqb (xs ! 0) 42) (answered 42 ((xs ! 1) ∷ (xs ! 2) ∷ ((2 + names) * (xs ! 1)) ∷ (2 + names) ∷ 0 ∷ 0 ∷ 0 ∷ []))
+    (cond (eqb (length xs) 3) (malformed (xs ! 1) (xs ! 2) (0 ∷ 0 ∷ 0 ∷ 0 ∷ 0 ∷ 0 ∷ 0 ∷ []))
+    (refused (xs ! 0) (xs ! 1) (0 ∷ 0 ∷ 0 ∷ 0 ∷ 0 ∷ 0 ∷ 0 ∷ [])))))
+
+unfoldable pub judged : List ℕ → List ℕ → List ℕ → Told
+judged s initial solution = verdictTold (nameCount s) (verdictRow s initial solution)
+
+-- the number at a place of a row that is told
+abbrev pub toldAt : Told → ℕ → ℕ
+toldAt t k = natAbs (getD (t .row) k (pos 0))
+
+-- the part of the two lists that a verdict's row names: of the start list after 41, of the sheet after 42
 unfoldable pub listNamed : List ℕ → List ℕ → ℕ → List ℕ
-listNamed initial solution n = cond (eqb n 1) initial (cond (eqb n 2) solution [])
+listNamed initial solution answer = cond (eqb answer 41) initial (cond (eqb answer 42) solution [])
 
-unfoldable pub partNamed : List ℕ → List ℕ → List ℕ → List ℕ
-partNamed initial solution row = take (getD row 2 0) (drop (getD row 1 0) (listNamed initial solution (getD row 0 0)))
+unfoldable pub partNamed : List ℕ → List ℕ → Told → List ℕ
+partNamed initial solution t = take (toldAt t 6) (drop (toldAt t 5) (listNamed initial solution (toldAt t 0)))
 
--- the index mark of a sheet by itself
-unfoldable pub marked : List ℕ → List ℕ → List ℕ
-marked s solution = markRow s solution
+-- ---- the index mark of a sheet by itself, answered 1 for clean and 2 otherwise: record, edge
 
--- the solver's list into a buffer: the answer's, then the count
-unfoldable pub solved : List ℕ → List ℕ → List ℕ → List ℕ
-solved s initial buffer = solverRow s initial buffer
+abbrev pub markRoom : ℕ
+markRoom = 5
 
--- a place in a sheet: the answer's, then record and column
-unfoldable pub split : List ℕ → ℕ → List ℕ
-split s place = splitRow s place
+unfoldable pub markTold : List ℕ → Told
+markTold xs =
+    cond (eqb (xs ! 0) 0) (answered (marking xs) ((xs ! 1) ∷ (xs ! 2) ∷ []))
+    (cond (eqb (length xs) 3) (malformed (xs ! 1) (xs ! 2) (0 ∷ 0 ∷ [])) (refused (xs ! 0) (xs ! 1) (0 ∷ 0 ∷ [])))
 
--- the figures of a list of marks: the answer's, then count, sum and sum of squares, then mean and variance, each numerator first
-unfoldable pub figured : List ℤ → List ℤ
-figured marks = figuresRow marks
+unfoldable pub marked : List ℕ → List ℕ → Told
+marked s solution = markTold (markRow s solution)
 
--- the figures of two classes joined: the same numbers
-unfoldable pub joined : Totals → Totals → List ℤ
-joined a b = joinRow a b
+-- ---- the solver's list into a buffer: its records. 18 is refused without a place, and has the count of the records that the buffer holds
+
+abbrev pub solverRoom : ℕ
+solverRoom = 4
+
+unfoldable pub solverTold : List ℕ → Told
+solverTold xs =
+    cond (eqb (length xs) 4) (malformed (xs ! 1) (xs ! 2) ((xs ! 3) ∷ []))
+    (cond (eqb (length xs) 3) (refused (xs ! 0) (xs ! 1) ((xs ! 2) ∷ []))
+    (cond (eqb (xs ! 0) 0) (answered 0 ((xs ! 1) ∷ [])) (refused (xs ! 0) 0 ((xs ! 1) ∷ []))))
+
+unfoldable pub solved : List ℕ → List ℕ → List ℕ → Told
+solved s initial buffer = solverTold (solverRow s initial buffer)
+
+-- ---- a place in a sheet: record, column
+
+abbrev pub splitRoom : ℕ
+splitRoom = 5
+
+unfoldable pub split : List ℕ → ℕ → Told
+split s place = twoTold (splitRow s place)
+
+-- ---- the figures of a list of marks, and of two classes joined: count, sum and sum of squares, then mean and variance, each numerator first
+
+abbrev pub figuresRoom : ℕ
+figuresRoom = 10
+
+unfoldable pub figuresTold : List ℤ → Told
+figuresTold xs =
+    cond (eqb (length xs) 8)
+    (answeredWith (natAbs (getD xs 0 (pos 0))) (drop 1 xs))
+    (refusedWith (natAbs (getD xs 0 (pos 0))) (natAbs (getD xs 1 (pos 0))) (drop 2 xs))
+
+unfoldable pub figured : List ℤ → Told
+figured marks = figuresTold (figuresRow marks)
+
+unfoldable pub joined : Totals → Totals → Told
+joined a b = figuresTold (joinRow a b)
+
+-- ---- the number of the version, as the pkg-config file has it
+
+unfoldable pub version : ℕ
+version = 1

@@ -1,21 +1,24 @@
-// The figures of classes. Their numbers go below zero and beyond 32 bits, so that their reply is one of signed 64-bit numbers, with a room of its own.
+// The figures of classes: their numbers go below zero and beyond 32 bits.
 
 ghost use Prim.Native.Nat.{_+_, _≤_};
 ghost use mathlib.Core.Path.{_≡_};
 ghost use mathlib.Core.List.{[], _∷_, _++_};
+ghost use lib.ListN.{length};
 ghost use Rattle.program.specs.declared.Refusal.{Refusal};
 ghost use Rattle.figures.specs.Figures as Class;
 ghost use Rattle.figures.specs.Totals as sums;
 ghost use Rattle.desk.specs.Reply as spec;
 ghost use Rattle.desk.specs.Rows as row;
+use crate::files;
+use crate::reply;
 use figures::Figures;
 use figures::Fraction;
 use figures::Totals;
 use figures::class;
 use program::Validity;
 
-// The numbers of the longest row of figures: a reply that does not hold so many is too short.
-const ROOM: usize = 9;
+// The numbers of the row.
+const FIGURES: usize = 10;
 
 // A count and two sums into a reply, from a place on.
 fn put_totals(count: u32, sum: i64, squares: i64, at: usize, reply: &mut [i64])
@@ -47,36 +50,26 @@ fn put_from(totals: Totals, mean: Fraction, variance: Fraction, at: usize, reply
     put_two(variance.numerator, variance.denominator, at + 5, reply);
 }
 
-// The row of figures at the front of a reply, unless that is too short; returns how many numbers were written.
-fn put(f: Figures, reply: &mut [i64]) -> u32
+// The row of figures at the front of a reply that has room; returns what the call returns.
+fn put(f: Figures, reply: &mut [i64]) -> i32
     requires { ⌜ ((x : Refusal) → f .validity ≡ Validity.Refused x → spec.Narrow (x .offset)) ⌝ }
-    ensures { λ r. ⌜ (r ≡ spec.figuresTold (Class.figuresNumbers f) (now (reply .entry)))
-        × (now (reply .exit) ≡ spec.figuresReplied (Class.figuresNumbers f) (now (reply .entry))) ⌝ }
+    requires { ⌜ row.figuresRoom ≤ length (now reply) ⌝ }
+    ensures { λ r. ⌜ spec.Tells row.figuresRoom (row.figuresTold (Class.figuresNumbers f)) (now (reply .entry)) r (now (reply .exit)) ⌝ }
 {
-    if reply.len() < ROOM {
-        return 0;
-    }
     let v = f.validity;
-    match v {
-        Validity::Fit => {
-            reply[0] = 0;
-            put_from(f.totals, f.mean, f.variance, 1, reply);
-            8
-        }
-        Validity::Refused(x) => {
-            put_two(x.number as i64, x.offset as i64, 0, reply);
-            put_from(f.totals, f.mean, f.variance, 2, reply);
-            9
-        }
-    }
+    let status = reply::put_head(files::of_validity(v), reply);
+    put_from(f.totals, f.mean, f.variance, 3, reply);
+    status
 }
 
 // The figures of a list of marks.
 #[no_mangle]
-pub extern "C" fn pizwoter_figures(marks: &[i32], reply: &mut [i64]) -> u32
-    ensures { λ r. ⌜ (r ≡ spec.figuresTold (row.figured (now (marks .entry))) (now (reply .entry)))
-        × (now (reply .exit) ≡ spec.figuresReplied (row.figured (now (marks .entry))) (now (reply .entry))) ⌝ }
+pub extern "C" fn pizwoter_figures(marks: &[i32], reply: &mut [i64]) -> i32
+    ensures { λ r. ⌜ spec.Tells row.figuresRoom (row.figured (now (marks .entry))) (now (reply .entry)) r (now (reply .exit)) ⌝ }
 {
+    if reply.len() < FIGURES {
+        return reply::SHORT;
+    }
     put(class::of_list(marks), reply)
 }
 
@@ -90,10 +83,13 @@ pub extern "C" fn pizwoter_join(
     second_sum: i64,
     second_squares: i64,
     reply: &mut [i64],
-) -> u32
-    ensures { λ r. ⌜ (r ≡ spec.figuresTold (row.joined (sums.class «first_count» «first_sum» «first_squares») (sums.class «second_count» «second_sum» «second_squares»)) (now (reply .entry)))
-        × (now (reply .exit) ≡ spec.figuresReplied (row.joined (sums.class «first_count» «first_sum» «first_squares») (sums.class «second_count» «second_sum» «second_squares»)) (now (reply .entry))) ⌝ }
+) -> i32
+    ensures { λ r. ⌜ spec.Tells row.figuresRoom (row.joined (sums.class «first_count» «first_sum» «first_squares») (sums.class «second_count» «second_sum» «second_squares»))
+        (now (reply .entry)) r (now (reply .exit)) ⌝ }
 {
+    if reply.len() < FIGURES {
+        return reply::SHORT;
+    }
     let first = Totals {
         count: first_count,
         sum: first_sum,

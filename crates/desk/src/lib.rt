@@ -1,4 +1,4 @@
-// The engine as a C library: each operation on numbers and slices, its reply a row of document 01's numbers, and of document 02's for figures.
+// The engine as a C library: each operation on numbers and slices. A call returns how it went, and writes a row of one length with one meaning at each place.
 
 pub mod classes;
 pub mod files;
@@ -7,10 +7,20 @@ pub mod sheets;
 pub mod solver;
 pub mod steps;
 
-// A row of numbers for a reply.
-pub(crate) enum Row {
-    One(u32),
-    Two(u32, u32),
-    Three(u32, u32, u32),
-    Four(u32, u32, u32, u32),
+ghost use mathlib.Core.Path.{_≡_};
+ghost use Rattle.desk.specs.Rows as row;
+
+// How a call went: answered, refused with a question's number and place, or with 17, the number of a list and a place in it.
+pub(crate) enum Head {
+    Answered(u32),
+    Refused(u8, u32),
+    Malformed(u32, u32),
+}
+
+// The number of this version, as the pkg-config file has it.
+#[no_mangle]
+pub extern "C" fn pizwoter_version() -> u32
+    ensures { λ r. ⌜ r ≡ row.version ⌝ }
+{
+    1
 }

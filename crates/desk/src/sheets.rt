@@ -1,15 +1,13 @@
 // Sheets judged, and the index mark of one.
 
-ghost use mathlib.Core.List.{_∷_};
 ghost use mathlib.Core.Path.{_≡_};
-ghost use lib.ListN.{take};
 ghost use Rattle.program.specs.declared.Refusal.{Refusal};
 ghost use Rattle.analysis.specs.Records;
-ghost use Rattle.analysis.specs.Verdict as verdict;
 ghost use Rattle.desk.specs.Accepting;
+ghost use Rattle.desk.specs.Parts.Heads as heads;
 ghost use Rattle.desk.specs.Reply as spec;
 ghost use Rattle.desk.specs.Rows as row;
-use crate::Row;
+use crate::Head;
 use crate::reply;
 use analysis::Mark;
 use analysis::Marking;
@@ -18,6 +16,16 @@ use analysis::Verdict;
 use analysis::WrongByte;
 use analysis::judging;
 use program::file;
+
+// The numbers of each row.
+const VERDICT: usize = 10;
+
+const MARK: usize = 5;
+
+// An index mark that is clean, and one that is not.
+const CLEAN: u32 = 1;
+
+const UNCLEAN: u32 = 2;
 
 // The number of a list: 1 for the start list, 2 for the sheet.
 pub(crate) fn list_number(list: RecordList) -> u32
@@ -29,37 +37,51 @@ pub(crate) fn list_number(list: RecordList) -> u32
     }
 }
 
-// The row of 17: its number, the list and the place in it.
-fn of_wrong_byte(w: WrongByte) -> Row
+// 17, with its list and the place in it.
+pub(crate) fn of_wrong_byte(w: WrongByte) -> Head
     requires { ⌜ spec.Narrow (w .offset) ⌝ }
-    ensures { λ r. ⌜ spec.rowNumbers r ≡ Records.wrongByteNumbers w ⌝ }
+    ensures { λ r. ⌜ r ≡ Head.Malformed (Records.listNumber (w .list)) (w .offset) ⌝ }
 {
     let list = w.list;
-    Row::Three(17, list_number(list), w.offset as u32)
+    Head::Malformed(list_number(list), w.offset as u32)
 }
 
-// The row of an accepted sheet: 0, then the index mark's record and edge where it is not clean.
-fn of_mark(mark: Mark) -> Row
-    ensures { λ r. ⌜ spec.rowNumbers r ≡ 0 ∷ verdict.markNumbers mark ⌝ }
+// A verdict: 0, 41 or 42.
+fn of_verdict(v: Verdict) -> Head
+    requires { ⌜ ((x : Refusal) → v ≡ Verdict.Refused x → spec.Narrow (x .offset)) ⌝ }
+    requires { ⌜ ((w : WrongByte) → v ≡ Verdict.Malformed w → spec.Narrow (w .offset)) ⌝ }
+    ensures { λ r. ⌜ r ≡ heads.verdictHead v ⌝ }
 {
-    match mark {
-        Mark::Clean => Row::One(0),
-        Mark::Unclean { record, edge } => Row::Three(0, record as u32, edge as u32),
+    match v {
+        Verdict::Refused(x) => Head::Refused(x.number, x.offset as u32),
+        Verdict::Malformed(w) => of_wrong_byte(w),
+        Verdict::InitialMissing { record: _ } => Head::Answered(41),
+        Verdict::ResultMissing { record: _, edge: _ } => Head::Answered(42),
+        Verdict::Accepted(_) => Head::Answered(0),
     }
 }
 
-// A verdict's row.
-fn of_verdict(v: Verdict) -> Row
-    requires { ⌜ ((x : Refusal) → v ≡ Verdict.Refused x → spec.Narrow (x .offset)) ⌝ }
-    requires { ⌜ ((w : WrongByte) → v ≡ Verdict.Malformed w → spec.Narrow (w .offset)) ⌝ }
-    ensures { λ r. ⌜ spec.rowNumbers r ≡ verdict.verdictNumbers v ⌝ }
+// What stands behind it: record and edge, the offending record's offset and length, and the index mark, in a program with so many names.
+fn behind(names: u16, v: Verdict) -> [u32; 7]
+    ensures { λ r. ⌜ r ≡ heads.verdictBehind names v ⌝ }
 {
+    let names = names as u32;
     match v {
-        Verdict::Refused(x) => Row::Two(x.number as u32, x.offset as u32),
-        Verdict::Malformed(w) => of_wrong_byte(w),
-        Verdict::InitialMissing { record } => Row::Two(41, record as u32),
-        Verdict::ResultMissing { record, edge } => Row::Three(42, record as u32, edge as u32),
-        Verdict::Accepted(mark) => of_mark(mark),
+        Verdict::Refused(_) => [0; 7],
+        Verdict::Malformed(_) => [0; 7],
+        Verdict::InitialMissing { record } => {
+            let record = record as u32;
+            [record, 0, names * record, names, 0, 0, 0]
+        }
+        Verdict::ResultMissing { record, edge } => {
+            let record = record as u32;
+            let width = 2 + names;
+            [record, edge as u32, width * record, width, 0, 0, 0]
+        }
+        Verdict::Accepted(mark) => match mark {
+            Mark::Clean => [0, 0, 0, 0, CLEAN, 0, 0],
+            Mark::Unclean { record, edge } => { [0, 0, 0, 0, UNCLEAN, record as u32, edge as u32] }
+        },
     }
 }
 
@@ -69,77 +91,65 @@ pub extern "C" fn pizwoter_judge(
     program: &[u8],
     initial: &[u8],
     solution: &[u8],
-    reply: &mut [u32],
-) -> u32
-    ensures { λ r. ⌜ (r ≡ spec.told (row.judged (now (program .entry)) (now (initial .entry)) (now (solution .entry))) (now (reply .entry)))
-        × (now (reply .exit) ≡ spec.replied (row.judged (now (program .entry)) (now (initial .entry)) (now (solution .entry))) (now (reply .entry))) ⌝ }
-    ensures third { λ r. ⌜ Accepting.ThirdTermTold (now (program .entry)) (now (initial .entry)) (now (solution .entry)) (take r (now (reply .exit))) ⌝ }
+    reply: &mut [i64],
+) -> i32
+    ensures { λ r. ⌜ spec.Tells row.verdictRoom (row.judged (now (program .entry)) (now (initial .entry)) (now (solution .entry))) (now (reply .entry)) r (now (reply .exit)) ⌝ }
+    ensures third { λ r. ⌜ Accepting.ThirdTermTold (now (program .entry)) (now (initial .entry)) (now (solution .entry)) r (now (reply .exit)) ⌝ }
 {
-    let verdict = judging::judge(program, initial, solution);
-    reply::put(of_verdict(verdict), reply)
-}
-
-// The offending record of a verdict, in a program with so many names.
-fn offending_row(names: u16, v: Verdict) -> Row
-    ensures { λ r. ⌜ spec.rowNumbers r ≡ row.offendingBy names v ⌝ }
-{
-    let names = names as u32;
-    match v {
-        Verdict::InitialMissing { record } => {
-            Row::Three(
-                list_number(RecordList::Initial),
-                names * record as u32,
-                names,
-            )
-        }
-        Verdict::ResultMissing { record, edge: _ } => {
-            let width = 2 + names;
-            Row::Three(
-                list_number(RecordList::Solution),
-                width * record as u32,
-                width,
-            )
-        }
-        Verdict::Refused(_) => Row::Three(0, 0, 0),
-        Verdict::Malformed(_) => Row::Three(0, 0, 0),
-        Verdict::Accepted(_) => Row::Three(0, 0, 0),
+    if reply.len() < VERDICT {
+        return reply::SHORT;
     }
-}
-
-// Where the offending record of 41 or 42 lies: the list, and offset and length in it.
-#[no_mangle]
-pub extern "C" fn pizwoter_offending(
-    program: &[u8],
-    initial: &[u8],
-    solution: &[u8],
-    reply: &mut [u32],
-) -> u32
-    ensures { λ r. ⌜ (r ≡ spec.told (row.offended (now (program .entry)) (now (initial .entry)) (now (solution .entry))) (now (reply .entry)))
-        × (now (reply .exit) ≡ spec.replied (row.offended (now (program .entry)) (now (initial .entry)) (now (solution .entry))) (now (reply .entry))) ⌝ }
-{
     let verdict = judging::judge(program, initial, solution);
-    reply::put(offending_row(file::name_count(program), verdict), reply)
+    let numbers = behind(file::name_count(program), verdict);
+    reply::put(of_verdict(verdict), &numbers, reply)
 }
 
-// The row of an index mark by itself.
-fn of_marking(m: Marking) -> Row
+// An index mark by itself.
+fn of_marking(m: Marking) -> Head
     requires { ⌜ ((x : Refusal) → m ≡ Marking.Refused x → spec.Narrow (x .offset)) ⌝ }
     requires { ⌜ ((w : WrongByte) → m ≡ Marking.Malformed w → spec.Narrow (w .offset)) ⌝ }
-    ensures { λ r. ⌜ spec.rowNumbers r ≡ verdict.markingNumbers m ⌝ }
+    ensures { λ r. ⌜ r ≡ heads.markingHead m ⌝ }
 {
     match m {
-        Marking::Refused(x) => Row::Two(x.number as u32, x.offset as u32),
+        Marking::Refused(x) => Head::Refused(x.number, x.offset as u32),
         Marking::Malformed(w) => of_wrong_byte(w),
         Marking::Marked(mark) => of_mark(mark),
     }
 }
 
+// A mark: 1 where it is clean, else 2.
+fn of_mark(mark: Mark) -> Head
+    ensures { λ r. ⌜ r ≡ heads.markHead mark ⌝ }
+{
+    match mark {
+        Mark::Clean => Head::Answered(CLEAN),
+        Mark::Unclean { record: _, edge: _ } => Head::Answered(UNCLEAN),
+    }
+}
+
+// Its record and edge.
+fn spot(m: Marking) -> [u32; 2]
+    ensures { λ r. ⌜ r ≡ heads.markBehind m ⌝ }
+{
+    match m {
+        Marking::Refused(_) => [0; 2],
+        Marking::Malformed(_) => [0; 2],
+        Marking::Marked(mark) => match mark {
+            Mark::Clean => [0; 2],
+            Mark::Unclean { record, edge } => [record as u32, edge as u32],
+        },
+    }
+}
+
 // The index mark of a sheet by itself.
 #[no_mangle]
-pub extern "C" fn pizwoter_index_mark(program: &[u8], solution: &[u8], reply: &mut [u32]) -> u32
-    ensures { λ r. ⌜ (r ≡ spec.told (row.marked (now (program .entry)) (now (solution .entry))) (now (reply .entry)))
-        × (now (reply .exit) ≡ spec.replied (row.marked (now (program .entry)) (now (solution .entry))) (now (reply .entry))) ⌝ }
+pub extern "C" fn pizwoter_index_mark(program: &[u8], solution: &[u8], reply: &mut [i64]) -> i32
+    ensures { λ r. ⌜ spec.Tells row.markRoom (row.marked (now (program .entry)) (now (solution .entry))) (now (reply .entry)) r (now (reply .exit)) ⌝ }
 {
+    if reply.len() < MARK {
+        return reply::SHORT;
+    }
     let marking = judging::index_mark(program, solution);
-    reply::put(of_marking(marking), reply)
+    let numbers = spot(marking);
+    reply::put(of_marking(marking), &numbers, reply)
 }

@@ -5,18 +5,19 @@ ghost use Rattle.signs.specs.Number;
 ghost use Rattle.program.specs.declared.Refusal.{Refusal};
 ghost use Rattle.semantics.specs.Budget;
 ghost use Rattle.semantics.specs.Step;
+ghost use Rattle.desk.specs.Parts.Heads as heads;
 ghost use Rattle.desk.specs.Reply as spec;
 ghost use Rattle.desk.specs.Rows as row;
-use crate::Row;
+use crate::Head;
 use crate::reply;
-use crate::reply::REPLY;
-use semantics::Ended;
 use semantics::Ending;
 use semantics::Outcome;
 use semantics::Run;
-use semantics::Stepped;
 use semantics::running;
 use signs::Reason;
+
+// The numbers of each row.
+const RUN: usize = 5;
 
 // Document 01's number of a reason.
 fn reason_number(reason: Reason) -> u32
@@ -32,21 +33,18 @@ fn reason_number(reason: Reason) -> u32
     }
 }
 
-// A step's row: 0, the reason, or the question's number and place; then node and count.
-fn of_stepped(s: Stepped) -> Row
-    requires { ⌜ ((x : Refusal) → s .outcome ≡ Outcome.Refused x → spec.Narrow (x .offset)) ⌝ }
-    ensures { λ r. ⌜ spec.rowNumbers r ≡ Step.steppedNumbers s ⌝ }
+// What a step answered: 0 where it is taken, or the reason's number.
+fn of_outcome(outcome: Outcome) -> Head
+    requires { ⌜ ((x : Refusal) → outcome ≡ Outcome.Refused x → spec.Narrow (x .offset)) ⌝ }
+    ensures { λ r. ⌜ r ≡ heads.outcomeHead outcome ⌝ }
 {
-    let outcome = s.outcome;
-    let node = s.run.node as u32;
-    let count = s.run.count as u32;
     match outcome {
-        Outcome::Taken => Row::Three(0, node, count),
+        Outcome::Taken => Head::Answered(0),
         Outcome::Undefined(f) => {
             let reason = f.reason;
-            Row::Three(reason_number(reason), node, count)
+            Head::Answered(reason_number(reason))
         }
-        Outcome::Refused(x) => Row::Four(x.number as u32, x.offset as u32, node, count),
+        Outcome::Refused(x) => Head::Refused(x.number, x.offset as u32),
     }
 }
 
@@ -58,34 +56,35 @@ pub extern "C" fn pizwoter_step(
     count: u16,
     edge: u16,
     memory: &mut [i32],
-    reply: &mut [u32],
-) -> u32
-    ensures { λ r. ⌜ (r ≡ spec.told (row.stepped (now (program .entry)) (row.standing node count (now (memory .entry))) edge) (now (reply .entry)))
-        × (now (reply .exit) ≡ spec.replied (row.stepped (now (program .entry)) (row.standing node count (now (memory .entry))) edge) (now (reply .entry))) ⌝ }
+    reply: &mut [i64],
+) -> i32
+    ensures { λ r. ⌜ spec.Tells row.runRoom (row.stepped (now (program .entry)) (row.standing node count (now (memory .entry))) edge) (now (reply .entry)) r (now (reply .exit)) ⌝ }
     ensures memory { λ _. ⌜ now (memory .exit)
-        ≡ spec.unlessShort (now (reply .entry)) (Step.programStep (now (program .entry)) (row.standing node count (now (memory .entry))) edge .memory) (now (memory .entry)) ⌝ }
+        ≡ spec.unlessShort row.runRoom (now (reply .entry)) (Step.programStep (now (program .entry)) (row.standing node count (now (memory .entry))) edge .memory) (now (memory .entry)) ⌝ }
 {
-    if reply.len() < REPLY {
-        return 0;
+    if reply.len() < RUN {
+        return reply::SHORT;
     }
     let run = Run { node, count };
     let stepped = run.step(program, edge, memory);
-    reply::put(of_stepped(stepped), reply)
+    let outcome = stepped.outcome;
+    reply::put(
+        of_outcome(outcome),
+        &[stepped.run.node as u32, stepped.run.count as u32],
+        reply,
+    )
 }
 
-// A budgeted run's row: 0, 1 or 2, or the question's number and place; then node and count.
-fn of_ended(e: Ended) -> Row
-    requires { ⌜ ((x : Refusal) → e .ending ≡ Ending.Refused x → spec.Narrow (x .offset)) ⌝ }
-    ensures { λ r. ⌜ spec.rowNumbers r ≡ Budget.endedNumbers e ⌝ }
+// How a budgeted run ended: 0 at node 1, 1 with its budget used up, 2 where no edge is defined.
+fn of_ending(ending: Ending) -> Head
+    requires { ⌜ ((x : Refusal) → ending ≡ Ending.Refused x → spec.Narrow (x .offset)) ⌝ }
+    ensures { λ r. ⌜ r ≡ heads.endingHead ending ⌝ }
 {
-    let ending = e.ending;
-    let node = e.run.node as u32;
-    let count = e.run.count as u32;
     match ending {
-        Ending::Arrived => Row::Three(0, node, count),
-        Ending::Spent => Row::Three(1, node, count),
-        Ending::Stuck => Row::Three(2, node, count),
-        Ending::Refused(x) => Row::Four(x.number as u32, x.offset as u32, node, count),
+        Ending::Arrived => Head::Answered(0),
+        Ending::Spent => Head::Answered(1),
+        Ending::Stuck => Head::Answered(2),
+        Ending::Refused(x) => Head::Refused(x.number, x.offset as u32),
     }
 }
 
@@ -95,16 +94,20 @@ pub extern "C" fn pizwoter_run(
     program: &[u8],
     budget: u16,
     memory: &mut [i32],
-    reply: &mut [u32],
-) -> u32
-    ensures { λ r. ⌜ (r ≡ spec.told (row.ran (now (program .entry)) budget (now (memory .entry))) (now (reply .entry)))
-        × (now (reply .exit) ≡ spec.replied (row.ran (now (program .entry)) budget (now (memory .entry))) (now (reply .entry))) ⌝ }
+    reply: &mut [i64],
+) -> i32
+    ensures { λ r. ⌜ spec.Tells row.runRoom (row.ran (now (program .entry)) budget (now (memory .entry))) (now (reply .entry)) r (now (reply .exit)) ⌝ }
     ensures memory { λ _. ⌜ now (memory .exit)
-        ≡ spec.unlessShort (now (reply .entry)) (Budget.programBudgeted (now (program .entry)) budget (now (memory .entry)) .final .memory) (now (memory .entry)) ⌝ }
+        ≡ spec.unlessShort row.runRoom (now (reply .entry)) (Budget.programBudgeted (now (program .entry)) budget (now (memory .entry)) .final .memory) (now (memory .entry)) ⌝ }
 {
-    if reply.len() < REPLY {
-        return 0;
+    if reply.len() < RUN {
+        return reply::SHORT;
     }
     let ended = running::run(program, budget, memory);
-    reply::put(of_ended(ended), reply)
+    let ending = ended.ending;
+    reply::put(
+        of_ending(ending),
+        &[ended.run.node as u32, ended.run.count as u32],
+        reply,
+    )
 }

@@ -1,53 +1,36 @@
--- `classes::put`: too short, or by the answer's cases.
-use Prim.Native.Nat.{_≤_}
-use mathlib.Core.Path.{_≡_, ap, _∙_}
-use native.Mathlib.Omega.{arith}
+-- `classes::put`: the head of the answer, then the figures behind it.
 use borrow.Author.Needs.{needs}
-use lib.ListN.{length, set, length-set}
+use mathlib.Core.Path.{sym, ap, _∙_}
+use mathlib.Core.List.{[], _++_}
+use native.Mathlib.Omega.{arith}
+use Rattle.figures.specs.Figures.{totalsNumbers, fractionNumbers}
+use Rattle.desk.specs.Reply.{tell, overAt}
+use Rattle.desk.proofs.Heads.{figures-head}
+use Rattle.desk.proofs.Replies.{tell-status, tell-row, tell-three, told-by}
+use Rattle.desk.proofs.Written.{over-then}
 use lib.IntN.{pos}
-use Rattle.signs.proofs.Signed.{fits}
-use Rattle.figures.proofs.Integers.{natural}
-use Rattle.figures.specs.Figures.{fractionNumbers, totalsNumbers}
-use Rattle.desk.specs.Reply.{figuresRoom}
-use Rattle.desk.proofs.Written.{over-length, figures-short, fit-written, refused-written}
 use Rattle.desk.proofs.classes.put.Statement.{statement}
 use Rattle.desk.proofs.classes.put.Tie as tie
 
--- the reply has room where it is not too short
-room : (c : tie.Else1) → figuresRoom ≤ length (c .before .args .reply .now)
-room c = omega (arith, c .if1 .left)
-
 returns : tie.Need-returns
-returns c = figures-short _ _ (omega (arith, c .if1 .taken))
-
-put-from-requires : tie.Need-put-from-requires
-put-from-requires c κs = simp length-set (omega (arith, room (c .before .before .before)))
-
-cast-put-two-2 : tie.Need-cast-put-two-2
-cast-put-two-2 c = let v = c .before .before .before in fits (pos _) (omega (arith, v .before .before .before .pre _ (v .v .given .1)))
-
-same-length : tie.Need-same-length
-unfolding totalsNumbers fractionNumbers
-same-length c =
-    let reply = c .before .before .before .before .before .before .args .reply .now in
-    let long : length (set reply 0 (pos 0)) ≡ length reply = length-set reply 0 (pos 0) in
-    ap length (c .before .put-from .ensures) ∙ over-length 1 _ _ (omega (arith, room (c .before .before .before .before .before))) ∙ long
-
-returns-2 : tie.Need-returns-2
-returns-2 c = let d = c .before .before .before in fit-written _ _ (room (d .before .before)) (d .enum-told .given .1) (c .before .put-from .ensures)
-
-returns-3 : tie.Need-returns-3
-returns-3 c =
-    let two = c .before .before .before .before in
-    let v = two .before .before .before .before .before in
-    let s = v .before .before .before in
-    let small = s .pre _ (v .v .given .1) in
-    refused-written _ _ (room (v .before .before)) _ (v .v .given .1)
-    (two .put-two .ensures ∙ rw (natural (v .v .given .0 .0 .number) (search needs), natural (v .v .given .0 .0 .offset) (omega arith)))
-    (c .before .put-from2 .ensures)
+returns c =
+    let behind = c .before in
+    let first = c .before .before .before .before in
+    let asked = c .before .before .before .before .before .before in
+    let s = c .before .before .before .before .before .before .before in
+    let f = s .args .f in
+    let head = asked .of-validity .result in
+    let rest = totalsNumbers (f .totals) ++ fractionNumbers (f .mean) ++ fractionNumbers (f .variance) in
+    let three = tell-three head in
+    told-by (s .pre .1) rest (first .put-head .ok) (figures-head f) (asked .of-validity .ensures) (
+      first .put-head .ensures .0 ∙ ap pos (sym (tell-status head rest)),
+      behind .put-from .ensures
+          ∙ ap (overAt 3 rest) (first .put-head .ensures .1)
+          ∙ ap (λ n. overAt n rest (overAt 0 (tell head [] .row) (s .args .reply .now))) (omega (arith, three))
+          ∙ over-then 0 (tell head [] .row) rest (s .args .reply .now) (omega (arith, three, s .pre .1))
+          ∙ ap (λ row. overAt 0 row (s .args .reply .now)) (tell-row head rest),
+    )
 
 pub put-spec : {M : Type 1} → statement M
 put-spec =
-    tie.close
-    (tie.spec returns (λ c. search needs) (λ c. search needs) put-from-requires (λ c. search needs) (λ c. search needs) cast-put-two-2 (λ c κs. search needs)
-    (λ c κs. search needs) same-length returns-2 (λ c. search needs) returns-3)
+    tie.close (tie.spec (λ c κs. search needs) (λ c κs. search needs) (λ c κs. search needs) (λ c. search needs) returns)

@@ -1,34 +1,34 @@
--- `pizwoter_draw`: a reply that is too short, and one that has room.
+-- `pizwoter_draw`: too short, or the head of the answer, with nodes and edges.
 use borrow.Author.Needs.{needs}
-use Prim.Native.Nat.{_≤_}
+use mathlib.Core.Path.{sym, ap, _∙_}
+use mathlib.Core.List.{[], _∷_, map}
 use native.Mathlib.Omega.{arith}
-use lib.ListN.{length}
-use mathlib.Core.Path.{ap, _∙_}
+use lib.IntN.{pos}
 use Rattle.program.specs.Drawing.{drawnNumbers, drawingRow}
-use Rattle.desk.specs.Reply.{replyRoom}
-use Rattle.desk.specs.Rows.{drew}
+use Rattle.desk.specs.Rows.{twoTold, drew}
+use Rattle.desk.proofs.Heads.{drawn-head}
 use Rattle.desk.proofs.Places.{drawn-narrow}
-use Rattle.desk.proofs.Replies.{short-told, short-kept, roomy-kept, told-as}
+use Rattle.desk.proofs.Replies.{short-told, short-kept, roomy-kept, told-by}
 use Rattle.desk.proofs.files.pizwoter_draw.Statement.{statement}
 use Rattle.desk.proofs.files.pizwoter_draw.Tie as tie
 
--- the reply has room where it is not too short
-room : (c : tie.Else1) → replyRoom ≤ length (c .before .before .before .before .args .reply .now)
-room c = omega (arith, c .if1 .left)
-
 returns : tie.Need-returns
-returns c = (short-told _ (omega (arith, c .if1 .taken)) _, short-kept _ (omega (arith, c .if1 .taken)) _ _)
+returns c = (short-told _ _ (omega (arith, c .if1 .taken)) _, short-kept _ _ (omega (arith, c .if1 .taken)) _ _)
 
-of-drawn-requires : tie.Need-of-drawn-requires
-of-drawn-requires c κs = drawn-narrow _ _ (c .before .before .draw .ensures .0 .0)
+of-validity-requires : tie.Need-of-validity-requires
+of-validity-requires c κs = drawn-narrow _ _ (c .before .before .draw .ensures .0 .0)
 
 returns-2 : tie.Need-returns-2
 unfolding drew drawingRow
 returns-2 c =
-    let made = c .before .before .before .before in
-    let drawn = made .before .before .before in
-    let roomy = room (drawn .before .before) in
-    (told-as _ (made .of-drawn .ensures ∙ ap drawnNumbers (drawn .draw .ensures .0 .0)) (c .before .before .put .ensures), drawn .draw .ensures .0 .1 ∙ roomy-kept _ roomy _ _)
+    let head = c .before .before .before .before .before .before in
+    let drawn = c .before .before .before .before .before .before .before .before .before in
+    let d = drawn .draw .result in (
+      told-by (omega (arith, c .before .before .before .before .before .before .before .before .before .before .before .if1 .left)) (map pos (d .nodes ∷ d .edges ∷ [])) (c .before .put .ok)
+          (ap (λ x. twoTold (drawnNumbers x)) (sym (drawn .draw .ensures .0 .0)) ∙ drawn-head d) (head .of-validity .ensures) (c .before .put .ensures),
+      drawn .draw .ensures .0 .1 ∙ roomy-kept _ _ (omega (arith, c .before .before .before .before .before .before .before .before .before .before .before .if1 .left)) _ _,
+    )
 
 pub pizwoter-draw-spec : {M : Type 1} → statement M
-pizwoter-draw-spec = tie.close (tie.spec returns (λ c κs. search needs) of-drawn-requires (λ c κs. search needs) (λ c. search needs) (λ c. search needs) returns-2)
+pizwoter-draw-spec =
+    tie.close (tie.spec returns (λ c κs. search needs) of-validity-requires (λ c. search needs) (λ c. search needs) (λ c. search needs) (λ c κs. search needs) (λ c. search needs) (λ c. search needs) returns-2)

@@ -1,22 +1,31 @@
--- `pizwoter_validate`: its row, put.
+-- `pizwoter_validate`: too short, or the head of the answer.
 use borrow.Author.Needs.{needs}
-use mathlib.Core.Path.{ap, _∙_}
+use mathlib.Core.Path.{sym, ap, _∙_}
+use mathlib.Core.List.{[]}
+use native.Mathlib.Omega.{arith}
 use Rattle.program.specs.Asking.{validityNumbers}
 use Rattle.program.specs.Questions.{validationRow}
-use Rattle.desk.specs.Rows.{validated}
+use Rattle.desk.specs.Rows.{validationTold, validated}
+use Rattle.desk.proofs.Heads.{validation-head}
 use Rattle.desk.proofs.Places.{program-narrow}
-use Rattle.desk.proofs.Replies.{told-as}
+use Rattle.desk.proofs.Replies.{short-told, told-by}
 use Rattle.desk.proofs.files.pizwoter_validate.Statement.{statement}
 use Rattle.desk.proofs.files.pizwoter_validate.Tie as tie
+
+returns : tie.Need-returns
+returns c = short-told _ _ (omega (arith, c .if1 .taken)) _
 
 of-validity-requires : tie.Need-of-validity-requires
 of-validity-requires c κs = program-narrow _ (c .validate .ensures .0)
 
-returns : tie.Need-returns
+returns-2 : tie.Need-returns-2
 unfolding validated validationRow
-returns c =
-    let made = c .before .before .before .before in
-    told-as _ (made .of-validity .ensures ∙ ap validityNumbers (made .before .validate .ensures .0)) (c .before .before .put .ensures)
+returns-2 c =
+    let head = c .before .before .before in
+    let asked = head .before in
+    told-by (omega (arith, asked .before .if1 .left)) [] (c .before .put-head .ok)
+    (ap (λ v. validationTold (validityNumbers v)) (sym (asked .validate .ensures .0)) ∙ validation-head _) (head .of-validity .ensures) (c .before .put-head .ensures)
 
 pub pizwoter-validate-spec : {M : Type 1} → statement M
-pizwoter-validate-spec = tie.close (tie.spec (λ c κs. search needs) of-validity-requires (λ c κs. search needs) (λ c. search needs) returns)
+pizwoter-validate-spec =
+    tie.close (tie.spec returns (λ c κs. search needs) of-validity-requires (λ c κs. search needs) (λ c. search needs) returns-2)

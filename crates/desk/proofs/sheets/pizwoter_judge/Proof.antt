@@ -1,26 +1,40 @@
--- `pizwoter_judge`: its row, put, and the third term of it.
+-- `pizwoter_judge`: too short, or the head of the verdict, with what stands behind it; and the third term of it.
 use borrow.Author.Needs.{needs}
-use mathlib.Core.Path.{ap, _∙_}
-use Rattle.analysis.specs.Verdict.{verdictNumbers, verdictRow}
+use mathlib.Core.Path.{sym, subst}
+use mathlib.Core.List.{map}
+use native.Mathlib.Omega.{arith}
+use lib.IntN.{pos}
+use Rattle.analysis.specs.Verdict.{verdictRow}
 use Rattle.desk.specs.Rows.{judged}
-use Rattle.desk.proofs.Acceptance.{written-third}
-use Rattle.desk.proofs.Places.{verdict-narrow}
-use Rattle.desk.proofs.Replies.{told-as}
+use Rattle.desk.proofs.Acceptance.{short-third, written-third}
+use Rattle.desk.proofs.Heads.{verdict-head}
+use Rattle.desk.proofs.Places.{VerdictTold, verdict-told, verdict-narrow}
+use Rattle.desk.proofs.Replies.{short-told, told-by}
 use Rattle.desk.proofs.sheets.pizwoter_judge.Statement.{statement}
 use Rattle.desk.proofs.sheets.pizwoter_judge.Tie as tie
 
-of-verdict-requires : tie.Need-of-verdict-requires
-of-verdict-requires c κs = verdict-narrow _ _ _ (c .judge .ensures .0)
-
 returns : tie.Need-returns
+returns c = (short-told _ _ (omega (arith, c .if1 .taken)) _, short-third _ _ _ _)
+
+of-verdict-requires : tie.Need-of-verdict-requires
+of-verdict-requires c κs = verdict-narrow _ _ _ (c .before .before .judge .ensures .0)
+
+returns-2 : tie.Need-returns-2
 unfolding judged verdictRow
-returns c =
-    let made = c .before .before .before .before in
-    let verdict = made .before .judge .ensures in
-    let written = c .before .before .put .ensures in (
-      told-as _ (made .of-verdict .ensures ∙ ap verdictNumbers (verdict .0)) written,
-      written-third _ _ _ _ (verdict .0) (verdict .1 .1) (made .of-verdict .ensures) written,
+returns-2 c =
+    let head = c .before .before .before .before in
+    let behind = head .before in
+    let names = behind .before in
+    let judged = names .before in
+    let v = judged .judge .result in
+    let same = judged .judge .ensures .0 in
+    let told = subst VerdictTold (sym same) (verdict-told _ _ _) in
+    let wrote = c .before .put .ensures in (
+      told-by (omega (arith, judged .before .if1 .left)) (map pos (behind .behind .result)) (c .before .put .ok)
+          (rw (← same, ← names .name-count .ensures, behind .behind .ensures) (verdict-head _ v told)) (head .of-verdict .ensures) wrote,
+      written-third _ _ _ (names .name-count .result) _ (c .before .put .ok) told (judged .judge .ensures .1 .1) (rw (head .of-verdict .ensures, behind .behind .ensures) at wrote),
     )
 
 pub pizwoter-judge-spec : {M : Type 1} → statement M
-pizwoter-judge-spec = tie.close (tie.spec (λ c κs. search needs) of-verdict-requires (λ c κs. search needs) (λ c. search needs) returns)
+pizwoter-judge-spec =
+    tie.close (tie.spec returns (λ c κs. search needs) (λ c κs. search needs) (λ c κs. search needs) of-verdict-requires (λ c. search needs) (λ c κs. search needs) (λ c. search needs) returns-2)

@@ -1,34 +1,34 @@
--- `pizwoter_step`: a reply that is too short, and one that has room.
+-- `pizwoter_step`: too short, or the head of the answer, with node and count.
 use borrow.Author.Needs.{needs}
-use Prim.Native.Nat.{_≤_}
+use mathlib.Core.Path.{sym, ap, _∙_}
+use mathlib.Core.List.{[], _∷_, map}
 use native.Mathlib.Omega.{arith}
-use lib.ListN.{length}
-use mathlib.Core.Path.{ap, _∙_}
+use lib.IntN.{pos}
 use Rattle.semantics.specs.Step.{steppedNumbers, stepRow}
-use Rattle.desk.specs.Reply.{replyRoom}
-use Rattle.desk.specs.Rows.{stepped}
+use Rattle.desk.specs.Rows.{twoTold, stepped}
+use Rattle.desk.proofs.Heads.{stepped-head}
 use Rattle.desk.proofs.Places.{stepped-narrow}
-use Rattle.desk.proofs.Replies.{short-told, short-kept, roomy-kept, told-as}
+use Rattle.desk.proofs.Replies.{short-told, short-kept, roomy-kept, told-by}
 use Rattle.desk.proofs.steps.pizwoter_step.Statement.{statement}
 use Rattle.desk.proofs.steps.pizwoter_step.Tie as tie
 
--- the reply has room where it is not too short
-room : (c : tie.Else1) → replyRoom ≤ length (c .before .before .before .args .reply .now)
-room c = omega (arith, c .if1 .left)
-
 returns : tie.Need-returns
-returns c = (short-told _ (omega (arith, c .if1 .taken)) _, short-kept _ (omega (arith, c .if1 .taken)) _ _)
+returns c = (short-told _ _ (omega (arith, c .if1 .taken)) _, short-kept _ _ (omega (arith, c .if1 .taken)) _ _)
 
-of-stepped-requires : tie.Need-of-stepped-requires
-of-stepped-requires c κs = stepped-narrow _ _ _ (c .before .step .ensures .0 .0)
+of-outcome-requires : tie.Need-of-outcome-requires
+of-outcome-requires c κs = stepped-narrow _ _ _ (c .before .step .ensures .0 .0)
 
 returns-2 : tie.Need-returns-2
 unfolding stepped stepRow
 returns-2 c =
-    let made = c .before .before .before .before in
-    let taken = made .before .before in
-    let roomy = room (taken .before .before) in
-    (told-as _ (made .of-stepped .ensures ∙ ap steppedNumbers (taken .step .ensures .0 .0)) (c .before .before .put .ensures), taken .step .ensures .0 .1 ∙ roomy-kept _ roomy _ _)
+    let head = c .before .before .before .before .before .before in
+    let took = c .before .before .before .before .before .before .before .before in
+    let s = took .step .result in (
+      told-by (omega (arith, c .before .before .before .before .before .before .before .before .before .before .if1 .left)) (map pos (s .run .node ∷ s .run .count ∷ [])) (c .before .put .ok)
+          (ap (λ x. twoTold (steppedNumbers x)) (sym (took .step .ensures .0 .0)) ∙ stepped-head s) (head .of-outcome .ensures) (c .before .put .ensures),
+      took .step .ensures .0 .1 ∙ roomy-kept _ _ (omega (arith, c .before .before .before .before .before .before .before .before .before .before .if1 .left)) _ _,
+    )
 
 pub pizwoter-step-spec : {M : Type 1} → statement M
-pizwoter-step-spec = tie.close (tie.spec returns (λ c κs. search needs) of-stepped-requires (λ c κs. search needs) (λ c. search needs) (λ c. search needs) returns-2)
+pizwoter-step-spec =
+    tie.close (tie.spec returns (λ c κs. search needs) of-outcome-requires (λ c. search needs) (λ c. search needs) (λ c. search needs) (λ c κs. search needs) (λ c. search needs) (λ c. search needs) returns-2)
