@@ -1,16 +1,24 @@
-/* A desk in small: loads a lesson, prints its graph, its sheet and the verdict, and steps it from the keyboard or from a script.
+/* A desk in small: loads a lesson, prints its graph, its sheet and the verdict, and steps it from the keyboard or from
+ * a script.
  *
- *     lesson INPUT [CELL ...]      INPUT is what the sheet program reads: a program and its start list; the cells are the memory, 0 where they are not given
+ *     lesson INPUT [CELL ...]
  *
- * On standard input, a word at a time: the number of an arrow takes a step along it, `r N` runs from node 0 with a budget of N, `q` leaves. `examples/run` builds it. */
-#include "pizwoter.h"
+ * INPUT is what the sheet program reads: a program and its start list. The cells are the memory, 0 where they are not
+ * given. On standard input, a word at a time: the number of an arrow takes a step along it, `r N` runs from node 0 with
+ * a budget of N, `q` leaves. The status is 1 where the engine refuses the lesson, and 2 where INPUT cannot be read or a
+ * cell is no number.
+ *
+ * With an installed library: cc lesson.c $(pkg-config --cflags --libs pizwoter); in the repository: examples/run. */
+#include <pizwoter.h>
 
+#include <errno.h>
+#include <inttypes.h>
 #include <stdio.h>
 #include <stdlib.h>
 #include <string.h>
 
 struct lesson {
-    uint8_t input[32768];
+    uint8_t input[PIZWOTER_MOST_INPUT_BYTES + 1]; /* one byte more, so that a longer file is seen to be longer */
     const uint8_t *program;
     size_t program_length;
     const uint8_t *start;
@@ -31,15 +39,28 @@ static unsigned word(const uint8_t *bytes) {
     return (unsigned)bytes[0] << 8 | bytes[1];
 }
 
+/* A decimal number between two others: 1, and the number; or 0, where the text is no such number. */
+static int read_number(const char *text, long least, long most, long *number) {
+    char *end;
+    errno = 0;
+    *number = strtol(text, &end, 10);
+    return end != text && *end == '\0' && errno == 0 && least <= *number && *number <= most;
+}
+
+/* A number of a reply that is known to be small. */
+static unsigned at(const int64_t *reply, int place) {
+    return (unsigned)reply[place];
+}
+
 /* Ends the program where a call is refused. */
-static void check(const char *what, const uint32_t *reply, uint32_t numbers) {
-    if (reply[0] != 0) {
-        fprintf(stderr, "lesson: %s: refused", what);
-        for (uint32_t i = 0; i < numbers; i++)
-            fprintf(stderr, " %u", reply[i]);
-        fprintf(stderr, "\n");
-        exit(1);
-    }
+static void check(const char *what, int32_t status, const int64_t *reply) {
+    if (status == PIZWOTER_ANSWERED)
+        return;
+    fprintf(stderr, "lesson: %s: refused %d at %u", what, (int)status, at(reply, PIZWOTER_PLACE));
+    if (status == PIZWOTER_WRONG_RECORD)
+        fprintf(stderr, " of the %s", reply[PIZWOTER_LIST] == PIZWOTER_START_LIST ? "start list" : "sheet");
+    fprintf(stderr, "\n");
+    exit(1);
 }
 
 /* The names' field comes first: its tag, its length, and two bytes for each name. */
@@ -53,26 +74,49 @@ static void read_names(struct lesson *l) {
     }
 }
 
-static void load(struct lesson *l, const char *path) {
-    uint32_t reply[PIZWOTER_REPLY];
+/* The file's bytes, up to one more than an input can have. */
+static size_t read_input(struct lesson *l, const char *path) {
     FILE *file = fopen(path, "rb");
-    if (file == NULL) {
-        perror(path);
-        exit(1);
+    size_t length = file == NULL ? 0 : fread(l->input, 1, sizeof l->input, file);
+    if (file == NULL || ferror(file)) {
+        fprintf(stderr, "lesson: %s: %s\n", path, strerror(errno));
+        exit(2);
     }
-    size_t length = fread(l->input, 1, sizeof l->input, file);
     fclose(file);
-    check("the input", reply, pizwoter_input_parts(l->input, length, reply, PIZWOTER_REPLY));
+    return length;
+}
+
+static void load(struct lesson *l, const char *path) {
+    int64_t reply[PIZWOTER_REPLY];
+    size_t length = read_input(l, path);
+    check("the input", pizwoter_input_parts(l->input, length, reply, PIZWOTER_REPLY), reply);
     l->program = l->input;
-    l->program_length = reply[1];
-    l->start = l->input + reply[2];
-    l->start_length = reply[3];
+    l->program_length = (size_t)reply[PIZWOTER_PARTS_PROGRAM_LENGTH];
+    l->start = l->input + reply[PIZWOTER_PARTS_START];
+    l->start_length = (size_t)reply[PIZWOTER_PARTS_START_LENGTH];
     read_names(l);
+}
+
+/* The cells that are given, into the memory. */
+static void read_cells(struct lesson *l, int given, char **texts) {
+    if ((size_t)given > l->cells) {
+        fprintf(stderr, "lesson: %d cells are given, and the memory has %u\n", given, (unsigned)l->cells);
+        exit(2);
+    }
+    for (int i = 0; i < given; i++) {
+        long cell;
+        if (!read_number(texts[i], INT32_MIN, INT32_MAX, &cell)) {
+            fprintf(stderr, "lesson: the cell '%s' is no number of 32 bits\n", texts[i]);
+            exit(2);
+        }
+        l->memory[i] = (int32_t)cell;
+    }
 }
 
 /* A set of signs. */
 static void print_set(unsigned set, int is_array) {
-    printf(is_array ? " [%s%s%s]" : " %s%s%s", set & PIZWOTER_MINUS ? "-" : "", set & PIZWOTER_ZERO ? "0" : "", set & PIZWOTER_PLUS ? "+" : "");
+    const char *minus = set & PIZWOTER_MINUS ? "-" : "", *zero = set & PIZWOTER_ZERO ? "0" : "";
+    printf(is_array ? " [%s%s%s]" : " %s%s%s", minus, zero, set & PIZWOTER_PLUS ? "+" : "");
 }
 
 static void print_signs(const struct lesson *l, const uint8_t *signs) {
@@ -81,16 +125,20 @@ static void print_signs(const struct lesson *l, const uint8_t *signs) {
 }
 
 static void print_arrow(const struct lesson *l, unsigned k) {
-    static const char *const kinds[] = {"", "command", "condition", "exit of"};
     const uint8_t *arrow = l->arrows + PIZWOTER_ARROW_BYTES * k;
-    printf("  arrow %u: %u to %u, %s %u\n", k, word(arrow), word(arrow + 2), kinds[arrow[4]], word(arrow + 5));
+    const char *kind = arrow[4] == PIZWOTER_ACTION_COMMAND   ? "command"
+                       : arrow[4] == PIZWOTER_ACTION_BOOLEAN ? "condition"
+                                                             : "exit of";
+    printf("  arrow %u: %u to %u, %s %u\n", k, word(arrow), word(arrow + 2), kind, word(arrow + 5));
 }
 
 static void print_graph(struct lesson *l) {
-    uint32_t reply[PIZWOTER_REPLY];
-    check("the graph", reply, pizwoter_draw(l->program, l->program_length, l->arrows, sizeof l->arrows, reply, PIZWOTER_REPLY));
-    l->nodes = reply[1];
-    l->arrow_count = reply[2];
+    int64_t reply[PIZWOTER_REPLY];
+    int32_t status =
+        pizwoter_draw(l->program, l->program_length, l->arrows, sizeof l->arrows, reply, PIZWOTER_REPLY);
+    check("the graph", status, reply);
+    l->nodes = at(reply, PIZWOTER_DRAW_NODES);
+    l->arrow_count = at(reply, PIZWOTER_DRAW_ARROWS);
     printf("graph: %u nodes, %u arrows\n", l->nodes, l->arrow_count);
     for (unsigned k = 0; k < l->arrow_count; k++)
         print_arrow(l, k);
@@ -111,28 +159,40 @@ static void print_sheet(const struct lesson *l) {
     }
 }
 
-static void print_verdict(const uint32_t *reply, uint32_t numbers) {
-    if (reply[0] == PIZWOTER_START_MISSING)
-        printf("verdict: start record %u is missing\n", reply[1]);
-    else if (reply[0] == PIZWOTER_RESULT_MISSING)
-        printf("verdict: a result of record %u along arrow %u is missing\n", reply[1], reply[2]);
-    else if (reply[0] != PIZWOTER_ACCEPTED)
-        check("the sheet", reply, numbers);
-    else if (numbers == 1)
-        printf("verdict: checked, index clean\n");
-    else
-        printf("verdict: checked, but an index may be below zero at record %u, arrow %u\n", reply[1], reply[2]);
+static void print_verdict(const struct lesson *l, const int64_t *reply) {
+    const unsigned record = at(reply, PIZWOTER_JUDGE_RECORD), offset = at(reply, PIZWOTER_JUDGE_OFFSET);
+    switch (reply[PIZWOTER_ANSWER]) {
+    case PIZWOTER_START_MISSING:
+        printf("verdict: start record %u is missing:", record);
+        print_signs(l, l->start + offset);
+        printf("\n");
+        break;
+    case PIZWOTER_RESULT_MISSING:
+        printf("verdict: a result of record %u along arrow %u is missing:", record, at(reply, PIZWOTER_JUDGE_ARROW));
+        print_signs(l, l->sheet + offset + 2);
+        printf(" at node %u\n", word(l->sheet + offset));
+        break;
+    default:
+        if (reply[PIZWOTER_JUDGE_MARK] == PIZWOTER_CLEAN)
+            printf("verdict: checked, index clean\n");
+        else
+            printf("verdict: checked, but an index may be below zero at record %u, arrow %u\n",
+                   at(reply, PIZWOTER_JUDGE_MARK_RECORD), at(reply, PIZWOTER_JUDGE_MARK_ARROW));
+    }
 }
 
 static void solve(struct lesson *l) {
-    uint32_t reply[PIZWOTER_REPLY];
-    uint32_t numbers = pizwoter_solve(l->program, l->program_length, l->start, l->start_length, l->sheet, sizeof l->sheet, reply, PIZWOTER_REPLY);
-    check("the solver", reply, numbers);
-    l->sheet_length = reply[1] * l->width;
-    printf("sheet: %u records, by node\n", reply[1]);
+    int64_t reply[PIZWOTER_REPLY];
+    int32_t status = pizwoter_solve(l->program, l->program_length, l->start, l->start_length, l->sheet,
+                                    sizeof l->sheet, reply, PIZWOTER_REPLY);
+    check("the solver", status, reply);
+    l->sheet_length = (size_t)reply[PIZWOTER_SOLVE_RECORDS] * l->width;
+    printf("sheet: %u records, by node\n", at(reply, PIZWOTER_SOLVE_RECORDS));
     print_sheet(l);
-    numbers = pizwoter_judge(l->program, l->program_length, l->start, l->start_length, l->sheet, l->sheet_length, reply, PIZWOTER_REPLY);
-    print_verdict(reply, numbers);
+    status = pizwoter_judge(l->program, l->program_length, l->start, l->start_length, l->sheet, l->sheet_length,
+                            reply, PIZWOTER_REPLY);
+    check("the sheet", status, reply);
+    print_verdict(l, reply);
 }
 
 /* The record of the memory at a node, as a sheet has it. */
@@ -160,48 +220,80 @@ static void print_state(const struct lesson *l, unsigned node, unsigned count) {
     record_of(l, node, record);
     printf("node %u, %u taken, memory", node, count);
     for (size_t i = 0; i < l->cells; i++)
-        printf(" %d", l->memory[i]);
+        printf(" %" PRId32, l->memory[i]);
     printf(", signs");
     print_signs(l, record + 2);
-    printf(is_listed(l, record) ? ": on the sheet\n" : ": NOT on the sheet (do the signs of the first memory stand in the start list?)\n");
+    if (is_listed(l, record))
+        printf(": on the sheet\n");
+    else
+        printf(": NOT on the sheet (do the signs of the first memory stand in the start list?)\n");
     for (unsigned k = 0; k < l->arrow_count; k++)
         if (word(l->arrows + PIZWOTER_ARROW_BYTES * k) == node)
             print_arrow(l, k);
 }
 
-static void print_step(unsigned arrow, const uint32_t *reply, uint32_t numbers) {
-    static const char *const reasons[] = {"condition false", "divisor zero", "exponent negative", "index below zero", "index past the size", "out of range"};
-    if (reply[0] == 0)
-        printf("\narrow %u: taken\n", arrow);
-    else if (numbers == 3)
-        printf("\narrow %u: undefined, %s\n", arrow, reasons[reply[0] - PIZWOTER_CONDITION_FALSE]);
-    else
-        printf("\narrow %u: refused %u at %u\n", arrow, reply[0], reply[1]);
+static const char *reason(int64_t answer) {
+    switch (answer) {
+    case PIZWOTER_CONDITION_FALSE: return "condition false";
+    case PIZWOTER_DIVISOR_ZERO: return "divisor zero";
+    case PIZWOTER_EXPONENT_NEGATIVE: return "exponent negative";
+    case PIZWOTER_INDEX_BELOW_ZERO: return "index below zero";
+    case PIZWOTER_INDEX_PAST_SIZE: return "index past the size";
+    default: return "out of range";
+    }
 }
 
-/* Words until there is none, or `q`. */
+/* A run as the desk keeps it: where it is, and how many arrows it has taken. The memory is the lesson's. */
+struct run {
+    uint16_t node;
+    uint16_t count;
+};
+
+static struct run step(struct lesson *l, struct run run, uint16_t arrow) {
+    int64_t reply[PIZWOTER_REPLY];
+    int32_t status = pizwoter_step(l->program, l->program_length, run.node, run.count, arrow, l->memory, l->cells,
+                                   reply, PIZWOTER_REPLY);
+    if (status != PIZWOTER_ANSWERED)
+        printf("\narrow %u: refused %d at %u\n", arrow, (int)status, at(reply, PIZWOTER_PLACE));
+    else if (reply[PIZWOTER_ANSWER] == PIZWOTER_TAKEN)
+        printf("\narrow %u: taken\n", arrow);
+    else
+        printf("\narrow %u: undefined, %s\n", arrow, reason(reply[PIZWOTER_ANSWER]));
+    run.node = (uint16_t)reply[PIZWOTER_STEP_NODE];
+    run.count = (uint16_t)reply[PIZWOTER_STEP_COUNT];
+    return run;
+}
+
+static struct run run_from_start(struct lesson *l, uint16_t budget) {
+    int64_t reply[PIZWOTER_REPLY];
+    int32_t status =
+        pizwoter_run(l->program, l->program_length, budget, l->memory, l->cells, reply, PIZWOTER_REPLY);
+    check("the run", status, reply);
+    switch (reply[PIZWOTER_ANSWER]) {
+    case PIZWOTER_ARRIVED: printf("\nrun: arrived\n"); break;
+    case PIZWOTER_BUDGET_USED_UP: printf("\nrun: budget used up\n"); break;
+    default: printf("\nrun: no arrow is defined\n");
+    }
+    return (struct run){(uint16_t)reply[PIZWOTER_RUN_NODE], (uint16_t)reply[PIZWOTER_RUN_COUNT]};
+}
+
+/* Words until there is none, or `q`. The engine's numbers have 16 bits: a wider one would arrive as another number, so
+ * it is told and no call is made. */
 static void follow(struct lesson *l) {
     char text[32];
-    uint32_t reply[PIZWOTER_REPLY];
-    uint16_t node = 0, count = 0;
-    print_state(l, node, count);
+    struct run run = {0, 0};
+    print_state(l, run.node, run.count);
     while (scanf("%31s", text) == 1 && strcmp(text, "q") != 0) {
-        uint32_t numbers;
-        if (strcmp(text, "r") == 0) {
-            unsigned budget = 0;
-            if (scanf("%u", &budget) != 1 || budget > 65535)
-                budget = 65535;
-            numbers = pizwoter_run(l->program, l->program_length, (uint16_t)budget, l->memory, l->cells, reply, PIZWOTER_REPLY);
-            printf("\nrun: %s\n", numbers == 4 ? "refused" : reply[0] == 0 ? "arrived" : reply[0] == 1 ? "budget used up" : "no arrow is defined");
-        } else {
-            unsigned long arrow = strtoul(text, NULL, 10);
-            numbers = pizwoter_step(l->program, l->program_length, node, count, (uint16_t)(arrow > 65535 ? 65535 : arrow), l->memory, l->cells, reply, PIZWOTER_REPLY);
-            print_step((unsigned)arrow, reply, numbers);
+        long number;
+        int is_run = strcmp(text, "r") == 0;
+        if (is_run && scanf("%31s", text) != 1)
+            text[0] = '\0';
+        if (!read_number(text, 0, UINT16_MAX, &number)) {
+            printf("\n'%s' is no number from 0 to %d\n", text, UINT16_MAX);
+            continue;
         }
-        /* Node and count are the last two numbers of either row. */
-        node = (uint16_t)reply[numbers - 2];
-        count = (uint16_t)reply[numbers - 1];
-        print_state(l, node, count);
+        run = is_run ? run_from_start(l, (uint16_t)number) : step(l, run, (uint16_t)number);
+        print_state(l, run.node, run.count);
     }
 }
 
@@ -212,8 +304,7 @@ int main(int argc, char **argv) {
         return 2;
     }
     load(&l, argv[1]);
-    for (int i = 2; i < argc && (size_t)(i - 2) < l.cells; i++)
-        l.memory[i - 2] = (int32_t)strtol(argv[i], NULL, 10);
+    read_cells(&l, argc - 2, argv + 2);
     print_graph(&l);
     solve(&l);
     follow(&l);
