@@ -3,271 +3,122 @@
 //! A *program* (document 01: a script) is the bytes of a file of Dijkstra's Guarded Commands. The engine validates it, draws its program graph, steps and runs it,
 //! judges and solves sheets of signs for it. Beside that it tells the mean and the variance of a class's marks (document 02). Every function here takes any bytes
 //! and any numbers whatever and has one answer, which is proved to be the one of the two documents: this crate only turns the C library's rows of numbers
-//! (`include/pizwoter.h`) into Rust's enums.
+//! (`include/pizwoter.h`) into Rust's enums. A call that is refused gives a [`Refusal`], which is an error with words.
 //!
 //! ```
-//! use pizwoter::{judge, run, Ending, Fraction, Mark, Verdict};
+//! use pizwoter::{judge, run, Ending, Mark, Outcome, Run, Verdict};
 //!
+//! # fn main() -> Result<(), Box<dyn std::error::Error>> {
 //! // y := 1; do x > 0 -> y := x * y; x := x - 1 od
 //! let lesson = include_bytes!("../tests/factorial.script");
 //! let mut memory = [3, 0];
-//! let ended = run(lesson, 11, &mut memory).unwrap();
+//! let ended = run(lesson, 11, &mut memory)?;
 //! assert_eq!((ended.ending, memory), (Ending::Arrived, [0, 6]));
 //!
+//! // A step along arrow 0, which is y := 1; and one that does not leave the node then reached.
+//! let stepped = Run::FRESH.step(lesson, 0, &mut memory)?;
+//! assert_eq!((stepped.outcome, memory), (Outcome::Taken, [0, 1]));
+//! let refusal = stepped.run.step(lesson, 3, &mut memory).unwrap_err();
+//! assert_eq!(refusal.to_string(), "the arrow does not exist, or does not leave the node (question 15)");
+//!
 //! // Start with x plus and y zero: the solver's sheet is accepted, and no index is ever below zero.
-//! let mut sheet = [0; 32];
-//! let records = pizwoter::solve(lesson, &[4, 2], &mut sheet).unwrap();
-//! assert_eq!(judge(lesson, &[4, 2], &sheet[..records * 4]), Ok(Verdict::Accepted(Mark::Clean)));
+//! let mut buffer = [0; 32];
+//! let records = pizwoter::solve(lesson, &[4, 2], &mut buffer)?;
+//! let sheet = &buffer[..records * 4];
+//! assert_eq!(judge(lesson, &[4, 2], sheet)?, Verdict::Accepted(Mark::Clean));
+//!
+//! // Without its last record, a result of arrow 4 from record 5, at node 2 with x zero and y plus, is missing.
+//! let verdict = judge(lesson, &[4, 2], &sheet[..28])?;
+//! assert_eq!(verdict, Verdict::ResultMissing { record: 5, arrow: 4, offending: &[0, 2, 2, 4] });
 //!
 //! // A class with the marks 3, 4 and 4: the mean is 11/3, the variance 2/9.
-//! let class = pizwoter::figures(&[3, 4, 4]).unwrap();
-//! assert_eq!(class.mean, Fraction { numerator: 11, denominator: 3 });
-//! assert_eq!(class.variance, Fraction { numerator: 2, denominator: 9 });
+//! let class = pizwoter::figures(&[3, 4, 4])?;
+//! assert_eq!((class.mean.to_string(), class.variance.to_string()), ("11/3".to_string(), "2/9".to_string()));
+//! # Ok(())
+//! # }
 //! ```
 
+#![deny(unsafe_code)]
+
+mod answers;
+#[allow(unsafe_code)]
 mod desk;
+#[allow(dead_code)]
+mod numbers;
+#[cfg(test)]
+mod replies;
+mod words;
+
+pub use answers::*;
+use numbers::*;
+pub use numbers::{
+    ARROW_BYTES, MINUS, MOST_ARROWS, MOST_CELLS, MOST_INPUT_BYTES, MOST_MARKS, MOST_NAMES, MOST_NODES, MOST_PROGRAM_BYTES, MOST_RECORDS, PLUS, ZERO,
+};
 
 /// The most bytes that the arrows of a graph take.
-pub const MOST_ARROW_BYTES: usize = 255 * 7;
+pub const MOST_ARROW_BYTES: usize = MOST_ARROWS * ARROW_BYTES;
 
-/// The most records of a start list or of a sheet.
-pub const MOST_RECORDS: usize = 4096;
-
-/// The most marks of a class, and of two classes joined.
-pub const MOST_MARKS: usize = 4096;
-
-/// The two lists of records that a judgement reads.
-#[derive(Clone, Copy, Debug, PartialEq, Eq)]
-pub enum List {
-    Start,
-    Sheet,
-}
-
-/// A question of document 01 or 02 that is answered no.
-#[derive(Clone, Copy, Debug, PartialEq, Eq)]
-pub enum Refusal {
-    /// Questions 1 to 16, 23 and 24: the number, and the byte of the file that it concerns, or for 24 the mark's number in the list (0 where the question has no
-    /// place).
-    Question { number: u32, place: usize },
-    /// Question 17: the list, and the place in it of its first wrong byte.
-    WrongByte { list: List, place: usize },
-}
-
-/// Why a step is undefined: document 01's 31 to 36, in their order.
-#[derive(Clone, Copy, Debug, PartialEq, Eq)]
-pub enum Reason {
-    ConditionFalse = 31,
-    DivisorZero = 32,
-    ExponentNegative = 33,
-    IndexBelowZero = 34,
-    IndexPastSize = 35,
-    OutOfRange = 36,
-}
-
-/// The graph's counts.
-#[derive(Clone, Copy, Debug, PartialEq, Eq)]
-pub struct Drawn {
-    pub nodes: usize,
-    pub arrows: usize,
-}
-
-/// What an arrow does.
-#[derive(Clone, Copy, Debug, PartialEq, Eq)]
-pub enum Action {
-    /// The command of that entry: skip, an assignment or a store.
-    Command(u16),
-    /// The condition of that boolean entry.
-    Condition(u16),
-    /// The exit of the do whose operand is that command entry.
-    Exit(u16),
-}
-
-#[derive(Clone, Copy, Debug, PartialEq, Eq)]
-pub struct Arrow {
-    pub from: u16,
-    pub to: u16,
-    pub action: Action,
-}
-
-/// A program graph: node 0 is the start, node 1 the end.
-#[derive(Clone, Debug, PartialEq, Eq)]
-pub struct Graph {
-    pub nodes: usize,
-    pub arrows: Vec<Arrow>,
-}
-
-/// A run: the node that it is at, and how many arrows it has taken, which stays at 65,535. The memory is beside it.
-#[derive(Clone, Copy, Debug, PartialEq, Eq)]
-pub struct Run {
-    pub node: u16,
-    pub count: u16,
-}
-
-/// What a call of the step answers. Only a step that is taken changes the memory or the run.
-#[derive(Clone, Copy, Debug, PartialEq, Eq)]
-pub enum Outcome {
-    Taken,
-    Undefined(Reason),
-    Refused(Refusal),
-}
-
-/// How a budgeted run ends.
-#[derive(Clone, Copy, Debug, PartialEq, Eq)]
-pub enum Ending {
-    /// At node 1.
-    Arrived,
-    /// With its budget used up.
-    Spent,
-    /// Where no arrow is defined.
-    Stuck,
-}
-
-#[derive(Clone, Copy, Debug, PartialEq, Eq)]
-pub struct Ended {
-    pub ending: Ending,
-    pub run: Run,
-}
-
-/// A sheet's index mark: clean, or the lowest record and then its lowest arrow with an index that may be below zero.
-#[derive(Clone, Copy, Debug, PartialEq, Eq)]
-pub enum Mark {
-    Clean,
-    At { record: usize, arrow: usize },
-}
-
-/// The verdict on a sheet.
-///
-/// What [`Verdict::Accepted`] means is proved: for every memory whose signs are in the start list and whatever steps are called from [`Run::FRESH`], the sheet
-/// has a record with the node that is reached and exactly the memory's signs there; and where the mark is clean, no step is undefined for
-/// [`Reason::IndexBelowZero`]. The same of [`run`] with any budget.
-#[derive(Clone, Copy, Debug, PartialEq, Eq)]
-pub enum Verdict {
-    /// 41: that record of the start list is missing at node 0.
-    StartMissing {
-        record: usize,
-    },
-    /// 42: a result of that arrow from that record of the sheet is missing at the arrow's target.
-    ResultMissing {
-        record: usize,
-        arrow: usize,
-    },
-    Accepted(Mark),
-}
-
-/// Why the solver did not finish.
-#[derive(Clone, Copy, Debug, PartialEq, Eq)]
-pub enum Unsolved {
-    Refused(Refusal),
-    /// 18: there was no room for the next record. The buffer holds so many leading ones.
-    NoRoom {
-        records: usize,
-    },
-}
-
-/// The two parts of the sheet program's input.
-#[derive(Clone, Copy, Debug, PartialEq, Eq)]
-pub struct Input<'a> {
-    pub program: &'a [u8],
-    pub start: &'a [u8],
-}
-
-/// A byte place of a sheet: its record, and the column in that.
-#[derive(Clone, Copy, Debug, PartialEq, Eq)]
-pub struct Split {
-    pub record: u32,
-    pub column: u32,
-}
-
-/// A class's totals: the number of its marks, their sum, and the sum of their squares.
-#[derive(Clone, Copy, Debug, PartialEq, Eq)]
-pub struct Totals {
-    pub count: u32,
-    pub sum: i64,
-    pub squares: i64,
-}
-
-/// A fraction in lowest terms: the denominator is positive, and zero is 0 over 1.
-#[derive(Clone, Copy, Debug, PartialEq, Eq)]
-pub struct Fraction {
-    pub numerator: i64,
-    pub denominator: i64,
-}
-
-/// The figures of a class, without rounding. The mean is the sum over the number of marks; the variance is the number times the sum of squares, less the square
-/// of the sum, over the number squared.
-#[derive(Clone, Copy, Debug, PartialEq, Eq)]
-pub struct Figures {
-    pub totals: Totals,
-    pub mean: Fraction,
-    pub variance: Fraction,
-}
-
-fn list(number: u32) -> List {
-    if number == 1 {
-        List::Start
-    } else {
-        List::Sheet
+/// Makes a call with a reply that is as long as its row.
+fn told<const ROW: usize>(call: impl FnOnce(&mut [i64]) -> i32) -> Result<[i64; ROW], Refusal> {
+    let mut row = [0; ROW];
+    match call(&mut row) {
+        ANSWERED => Ok(row),
+        status => Err(refusal(status, &row)),
     }
 }
 
-/// A refusal's two numbers, or 17's three.
-fn refusal(row: &[u32]) -> Refusal {
-    match *row {
-        [17, of, place, ..] => Refusal::WrongByte { list: list(of), place: place as usize },
-        [number, place, ..] => Refusal::Question { number, place: place as usize },
-        _ => unreachable!("a refusal has its place"),
-    }
+/// What a call returned that was not answered, with its row.
+fn refusal(status: i32, row: &[i64]) -> Refusal {
+    let question = Question::numbered(status as u32).unwrap_or_else(|| unreachable!("a call returned {status}"));
+    let (place, list) = (row[PLACE] as usize, if row[LIST] == START_LIST { List::Start } else { List::Sheet });
+    let place = match status {
+        NO_HEAD..=LAST_NOT_COMMAND => Place::Byte(place),
+        WRONG_RECORD => Place::InList(list, place),
+        WRONG_MARK => Place::Mark(place),
+        _ => Place::None,
+    };
+    Refusal { question, place }
 }
 
-/// What an index mark's row has after its 0.
-fn mark(row: &[u32]) -> Mark {
-    match *row {
-        [record, arrow] => Mark::At { record: record as usize, arrow: arrow as usize },
-        _ => Mark::Clean,
-    }
+/// The number of the library's version.
+pub fn version() -> u32 {
+    desk::version()
 }
 
 /// Questions 1 to 11 of a program file.
 pub fn validate(program: &[u8]) -> Result<(), Refusal> {
-    fit(desk::validate(program).numbers())
+    told::<VALIDATE_ROW>(|reply| desk::validate(program, reply)).map(|_| ())
 }
 
 /// Questions 1 to 11 of an input of five fields: a program file, and a field of tag 5 with a start list.
 pub fn validate_input(input: &[u8]) -> Result<(), Refusal> {
-    fit(desk::validate_input(input).numbers())
-}
-
-fn fit(row: &[u32]) -> Result<(), Refusal> {
-    match row[0] {
-        0 => Ok(()),
-        _ => Err(refusal(row)),
-    }
+    told::<VALIDATE_ROW>(|reply| desk::validate_input(input, reply)).map(|_| ())
 }
 
 /// The program and the start list of such an input.
 pub fn input_parts(input: &[u8]) -> Result<Input<'_>, Refusal> {
-    match *desk::input_parts(input).numbers() {
-        [0, program, start, length] => {
-            let start = start as usize;
-            Ok(Input { program: &input[..program as usize], start: &input[start..start + length as usize] })
-        }
-        ref row => Err(refusal(row)),
-    }
+    let row = told::<PARTS_ROW>(|reply| desk::input_parts(input, reply))?;
+    let program = &input[..row[PARTS_PROGRAM_LENGTH] as usize];
+    Ok(Input { program, start: part(input, row[PARTS_START], row[PARTS_START_LENGTH]) })
 }
 
-/// The arrows at the front of a buffer, seven bytes each: from, to, action kind, entry. [`MOST_ARROW_BYTES`] hold any graph; with less room 13 may be refused.
+/// So many bytes of others, from an offset on.
+fn part(bytes: &[u8], offset: i64, length: i64) -> &[u8] {
+    &bytes[offset as usize..][..length as usize]
+}
+
+/// The arrows at the front of a buffer, [`ARROW_BYTES`] each: from, to, action kind, entry. [`MOST_ARROW_BYTES`] hold any graph; with less room
+/// [`Question::RoomForArrows`] may be refused.
 pub fn draw(program: &[u8], buffer: &mut [u8]) -> Result<Drawn, Refusal> {
-    match *desk::draw(program, buffer).numbers() {
-        [0, nodes, arrows] => Ok(Drawn { nodes: nodes as usize, arrows: arrows as usize }),
-        ref row => Err(refusal(row)),
-    }
+    let row = told::<DRAW_ROW>(|reply| desk::draw(program, buffer, reply))?;
+    Ok(Drawn { nodes: row[DRAW_NODES] as usize, arrows: row[DRAW_ARROWS] as usize })
 }
 
 /// The program graph.
 pub fn graph(program: &[u8]) -> Result<Graph, Refusal> {
     let mut buffer = [0; MOST_ARROW_BYTES];
     let drawn = draw(program, &mut buffer)?;
-    let arrows = buffer.chunks(7).take(drawn.arrows).map(arrow).collect();
+    let arrows = buffer.chunks(ARROW_BYTES).take(drawn.arrows).map(arrow).collect();
     Ok(Graph { nodes: drawn.nodes, arrows })
 }
 
@@ -275,8 +126,8 @@ fn arrow(bytes: &[u8]) -> Arrow {
     let word = |i: usize| u16::from_be_bytes([bytes[i], bytes[i + 1]]);
     let entry = word(5);
     let action = match bytes[4] {
-        1 => Action::Command(entry),
-        2 => Action::Condition(entry),
+        ACTION_COMMAND => Action::Command(entry),
+        ACTION_BOOLEAN => Action::Condition(entry),
         _ => Action::Exit(entry),
     };
     Arrow { from: word(0), to: word(2), action }
@@ -295,154 +146,104 @@ impl Run {
     /// A run at node 0 with no arrow taken.
     pub const FRESH: Run = Run { node: 0, count: 0 };
 
-    /// A step along an arrow, by its number: the run is handed back, and what the step answers.
-    pub fn step(self, program: &[u8], arrow: u16, memory: &mut [i32]) -> (Run, Outcome) {
-        let row = desk::step(program, self.node, self.count, arrow, memory);
-        match *row.numbers() {
-            [0, node, count] => (Run { node: node as u16, count: count as u16 }, Outcome::Taken),
-            [number, _, _] => (self, Outcome::Undefined(reason(number))),
-            ref refused => (self, Outcome::Refused(refusal(refused))),
-        }
+    /// A step along an arrow, by its number. Where the step is undefined or refused, run and memory are as they were.
+    pub fn step(self, program: &[u8], arrow: u16, memory: &mut [i32]) -> Result<Stepped, Refusal> {
+        let row = told::<STEP_ROW>(|reply| desk::step(program, self.node, self.count, arrow, memory, reply))?;
+        Ok(Stepped { outcome: outcome(row[ANSWER]), run: Run { node: row[STEP_NODE] as u16, count: row[STEP_COUNT] as u16 } })
     }
 }
 
-fn reason(number: u32) -> Reason {
-    match number {
-        31 => Reason::ConditionFalse,
-        32 => Reason::DivisorZero,
-        33 => Reason::ExponentNegative,
-        34 => Reason::IndexBelowZero,
-        35 => Reason::IndexPastSize,
-        _ => Reason::OutOfRange,
-    }
+fn outcome(answer: i64) -> Outcome {
+    let reason = match answer {
+        TAKEN => return Outcome::Taken,
+        CONDITION_FALSE => Reason::ConditionFalse,
+        DIVISOR_ZERO => Reason::DivisorZero,
+        EXPONENT_NEGATIVE => Reason::ExponentNegative,
+        INDEX_BELOW_ZERO => Reason::IndexBelowZero,
+        INDEX_PAST_SIZE => Reason::IndexPastSize,
+        OUT_OF_RANGE => Reason::OutOfRange,
+        other => unreachable!("a step has no answer {other}"),
+    };
+    Outcome::Undefined(reason)
 }
 
 /// A run from node 0 that takes the lowest-numbered defined arrow each time, at most `budget` of them.
 pub fn run(program: &[u8], budget: u16, memory: &mut [i32]) -> Result<Ended, Refusal> {
-    match *desk::run(program, budget, memory).numbers() {
-        [answer, node, count] => {
-            let ending = match answer {
-                0 => Ending::Arrived,
-                1 => Ending::Spent,
-                _ => Ending::Stuck,
-            };
-            Ok(Ended { ending, run: Run { node: node as u16, count: count as u16 } })
-        }
-        ref refused => Err(refusal(refused)),
+    let row = told::<RUN_ROW>(|reply| desk::run(program, budget, memory, reply))?;
+    let ending = match row[ANSWER] {
+        ARRIVED => Ending::Arrived,
+        BUDGET_USED_UP => Ending::Spent,
+        NO_ARROW_DEFINED => Ending::Stuck,
+        other => unreachable!("a run has no answer {other}"),
+    };
+    Ok(Ended { ending, run: Run { node: row[RUN_NODE] as u16, count: row[RUN_COUNT] as u16 } })
+}
+
+/// A mark by its number, with the record and the arrow of an unclean one.
+fn mark(number: i64, record: i64, arrow: i64) -> Mark {
+    match number {
+        CLEAN => Mark::Clean,
+        UNCLEAN => Mark::At { record: record as usize, arrow: arrow as usize },
+        other => unreachable!("an index mark has no number {other}"),
     }
 }
 
 /// The verdict on a sheet over a start list.
-pub fn judge(program: &[u8], start: &[u8], sheet: &[u8]) -> Result<Verdict, Refusal> {
-    match *desk::judge(program, start, sheet).numbers() {
-        [0, ref rest @ ..] => Ok(Verdict::Accepted(mark(rest))),
-        [41, record] => Ok(Verdict::StartMissing { record: record as usize }),
-        [42, record, arrow] => Ok(Verdict::ResultMissing { record: record as usize, arrow: arrow as usize }),
-        ref refused => Err(refusal(refused)),
-    }
-}
-
-/// The offending record of the verdict 41 or 42, as a part of the list that it lies in; otherwise none.
-pub fn offending<'a>(program: &[u8], start: &'a [u8], sheet: &'a [u8]) -> Option<(List, &'a [u8])> {
-    match *desk::offending(program, start, sheet).numbers() {
-        [of @ 1..=2, offset, length] => {
-            let list = list(of);
-            let bytes = if list == List::Start { start } else { sheet };
-            Some((list, &bytes[offset as usize..(offset + length) as usize]))
-        }
-        _ => None,
-    }
+pub fn judge<'a>(program: &[u8], start: &'a [u8], sheet: &'a [u8]) -> Result<Verdict<'a>, Refusal> {
+    let row = told::<JUDGE_ROW>(|reply| desk::judge(program, start, sheet, reply))?;
+    let (record, arrow) = (row[JUDGE_RECORD] as usize, row[JUDGE_ARROW] as usize);
+    let offending = |list| part(list, row[JUDGE_OFFSET], row[JUDGE_LENGTH]);
+    Ok(match row[ANSWER] {
+        ACCEPTED => Verdict::Accepted(mark(row[JUDGE_MARK], row[JUDGE_MARK_RECORD], row[JUDGE_MARK_ARROW])),
+        START_MISSING => Verdict::StartMissing { record, offending: offending(start) },
+        RESULT_MISSING => Verdict::ResultMissing { record, arrow, offending: offending(sheet) },
+        other => unreachable!("a verdict has no answer {other}"),
+    })
 }
 
 /// The index mark of a sheet by itself, accepted or not.
 pub fn index_mark(program: &[u8], sheet: &[u8]) -> Result<Mark, Refusal> {
-    match *desk::index_mark(program, sheet).numbers() {
-        [0, ref rest @ ..] => Ok(mark(rest)),
-        ref refused => Err(refusal(refused)),
-    }
+    let row = told::<MARK_ROW>(|reply| desk::index_mark(program, sheet, reply))?;
+    Ok(mark(row[ANSWER], row[MARK_RECORD], row[MARK_ARROW]))
 }
 
 /// The solver's sheet for a start list, at the front of a buffer; answers how many records it has. A record has two bytes of node and one for each name.
 pub fn solve(program: &[u8], start: &[u8], buffer: &mut [u8]) -> Result<usize, Unsolved> {
-    match *desk::solve(program, start, buffer).numbers() {
-        [0, records] => Ok(records as usize),
-        [18, records] => Err(Unsolved::NoRoom { records: records as usize }),
-        ref refused => Err(Unsolved::Refused(refusal(refused))),
+    let mut row = [0; SOLVE_ROW];
+    let status = desk::solve(program, start, buffer, &mut row);
+    let records = row[SOLVE_RECORDS] as usize;
+    match status {
+        ANSWERED => Ok(records),
+        NO_ROOM_FOR_RECORD => Err(Unsolved::NoRoom { records }),
+        _ => Err(Unsolved::Refused(refusal(status, &row))),
     }
 }
 
 /// The record and the column of a byte place in a sheet.
 pub fn split(program: &[u8], place: u32) -> Result<Split, Refusal> {
-    match *desk::split(program, place).numbers() {
-        [0, record, column] => Ok(Split { record, column }),
-        ref refused => Err(refusal(refused)),
-    }
+    let row = told::<SPLIT_ROW>(|reply| desk::split(program, place, reply))?;
+    Ok(Split { record: row[SPLIT_RECORD] as u32, column: row[SPLIT_COLUMN] as u32 })
 }
 
-/// The figures of a class's marks: 1 to [`MOST_MARKS`] of them, else 23 is refused, each from -10,000 to 10,000, else 24 with the number of the first that is not.
+/// The figures of a class's marks: 1 to [`MOST_MARKS`] of them, else [`Question::Class`] is refused, each from -10,000 to 10,000, else [`Question::Mark`] with the
+/// number of the first that is not.
 pub fn figures(marks: &[i32]) -> Result<Figures, Refusal> {
-    class(desk::figures(marks).numbers())
+    told(|reply| desk::figures(marks, reply)).map(class)
 }
 
 /// The figures of two classes joined, by their totals. Where each class's are those of a list of marks in the range, they are the [`figures`] of the two lists as one.
 ///
-/// 23 is refused where both together have no mark or more than [`MOST_MARKS`], or where either has a sum beyond 10,000 per mark either way, a sum of squares below
-/// zero or beyond 100,000,000 per mark, or a variance below zero.
+/// [`Question::Class`] is refused where both together have no mark or more than [`MOST_MARKS`], or where either has a sum beyond 10,000 per mark either way, a sum of
+/// squares below zero or beyond 100,000,000 per mark, or a variance below zero.
 pub fn join(first: Totals, second: Totals) -> Result<Figures, Refusal> {
-    class(desk::join(first, second).numbers())
+    told(|reply| desk::join(first, second, reply)).map(class)
 }
 
-fn class(row: &[i64]) -> Result<Figures, Refusal> {
-    match *row {
-        [0, count, sum, squares, mean, mean_over, variance, variance_over] => Ok(Figures {
-            totals: Totals { count: count as u32, sum, squares },
-            mean: Fraction { numerator: mean, denominator: mean_over },
-            variance: Fraction { numerator: variance, denominator: variance_over },
-        }),
-        [number, place, ..] => Err(Refusal::Question { number: number as u32, place: place as usize }),
-        _ => unreachable!("a refusal has its place"),
-    }
-}
-
-#[cfg(test)]
-mod tests {
-    use super::*;
-
-    /// "A reply slice that is too short": 0, and no buffer changes.
-    #[test]
-    fn a_short_reply_is_refused_and_nothing_is_written() {
-        let lesson = include_bytes!("../tests/factorial.script");
-        for room in 0..desk::REPLY {
-            let (mut buffer, mut memory, mut reply) = (vec![170; 2000], vec![3, 0], vec![7; room]);
-            let told = desk::lent::all(lesson, &[4, 2], &[0, 0, 4, 2], &mut buffer, &mut memory, &mut reply);
-            assert_eq!(told, [0; 11]);
-            assert!(buffer.iter().all(|&x| x == 170) && memory == [3, 0] && reply.iter().all(|&x| x == 7));
-        }
-    }
-
-    /// The same of class figures, whose replies are longer; and of a reply with room to spare the rest stays.
-    #[test]
-    fn class_figures_are_written_at_the_front_of_a_reply_or_not_at_all() {
-        let of_marks = |marks: &[i32], room| {
-            let mut reply = vec![7; room];
-            (desk::lent::figures(marks, &mut reply), reply)
-        };
-        let of_join = |count, sum, squares, room| {
-            let mut reply = vec![7; room];
-            (desk::lent::join(Totals { count, sum, squares }, &mut reply), reply)
-        };
-        for room in 0..desk::FIGURES_REPLY {
-            let nothing = (0, vec![7; room]);
-            assert_eq!([of_marks(&[3, 4, 4], room), of_marks(&[], room)], [nothing.clone(), nothing.clone()]);
-            assert_eq!([of_join(3, 11, 41, room), of_join(2, 3, 4, room)], [nothing.clone(), nothing]);
-        }
-        for spare in 0..3 {
-            let room = desk::FIGURES_REPLY + spare;
-            let row = |numbers: &[i64]| (numbers.len() as u32, [numbers, &vec![7; room - numbers.len()]].concat());
-            assert_eq!(of_marks(&[3, 4, 4], room), row(&[0, 3, 11, 41, 11, 3, 2, 9]));
-            assert_eq!(of_marks(&[10000, 10001, -10001], room), row(&[24, 1, 0, 0, 0, 0, 1, 0, 1]));
-            assert_eq!(of_join(3, 11, 41, room), row(&[0, 6, 22, 82, 11, 3, 2, 9]));
-            assert_eq!(of_join(2, 3, 4, room), row(&[23, 0, 0, 0, 0, 0, 1, 0, 1]));
-        }
+fn class(row: [i64; FIGURES_ROW]) -> Figures {
+    let fraction = |numerator: usize, denominator: usize| Fraction { numerator: row[numerator], denominator: row[denominator] };
+    Figures {
+        totals: Totals { count: row[FIGURES_COUNT] as u32, sum: row[FIGURES_SUM], squares: row[FIGURES_SQUARES] },
+        mean: fraction(FIGURES_MEAN, FIGURES_MEAN_OVER),
+        variance: fraction(FIGURES_VARIANCE, FIGURES_VARIANCE_OVER),
     }
 }

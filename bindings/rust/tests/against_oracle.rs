@@ -4,12 +4,13 @@ use oracle::language::{self, Loaded, No};
 use oracle::making::Random;
 use oracle::trial::kinds::{random_file, Made};
 use oracle::trial::needs;
-use pizwoter::{Drawn, Ended, Ending, Input, List, Mark, Outcome, Refusal, Run, Split, Unsolved, Verdict};
+use pizwoter::{Drawn, Ended, Ending, Input, List, Mark, Outcome, Place, Question, Refusal, Run, Split, Stepped, Unsolved, Verdict};
 
 const FILES: u64 = 20_000;
 
-fn question(no: No) -> Refusal {
-    Refusal::Question { number: no.0, place: no.1 }
+fn question(No(number, place): No) -> Refusal {
+    assert!(number <= 11 || place == 0);
+    Refusal { question: Question::numbered(number).unwrap(), place: if number <= 11 { Place::Byte(place) } else { Place::None } }
 }
 
 fn list(of: language::List) -> List {
@@ -22,7 +23,7 @@ fn list(of: language::List) -> List {
 fn refusal(refusal: language::Refusal) -> Refusal {
     match refusal {
         language::Refusal::Number(no) => question(no),
-        language::Refusal::WrongByte(of, place) => Refusal::WrongByte { list: list(of), place },
+        language::Refusal::WrongByte(of, place) => Refusal { question: Question::Record, place: Place::InList(list(of), place) },
     }
 }
 
@@ -77,20 +78,19 @@ fn inputs_are_taken_apart() {
     });
 }
 
-fn outcome(outcome: language::Outcome) -> (u32, Option<Refusal>) {
+/// A step's answer, as the oracle gives it.
+fn outcome(outcome: language::Outcome) -> Result<u32, Refusal> {
     match outcome {
-        language::Outcome::Taken => (0, None),
-        language::Outcome::Undefined(reason) => (reason, None),
-        language::Outcome::Refused(no) => (no.0, Some(question(no))),
+        language::Outcome::Taken => Ok(0),
+        language::Outcome::Undefined(reason) => Ok(reason),
+        language::Outcome::Refused(no) => Err(question(no)),
     }
 }
 
-fn told(outcome: Outcome) -> (u32, Option<Refusal>) {
-    match outcome {
-        Outcome::Taken => (0, None),
-        Outcome::Undefined(reason) => (reason as u32, None),
-        Outcome::Refused(refused @ Refusal::Question { number, .. }) => (number, Some(refused)),
-        Outcome::Refused(Refusal::WrongByte { .. }) => unreachable!(),
+fn number(stepped: Stepped) -> u32 {
+    match stepped.outcome {
+        Outcome::Taken => 0,
+        Outcome::Undefined(reason) => reason.number(),
     }
 }
 
@@ -99,9 +99,9 @@ fn follow(file: &Loaded, from: language::Run, calls: &[u16], memory: &[i32]) {
     let (mut ours, mut theirs) = (memory.to_vec(), memory.to_vec());
     let (mut run, mut expected) = (Run { node: from.node, count: from.count }, from);
     for &arrow in calls {
-        let (next, answer) = run.step(&file.bytes, arrow, &mut ours);
-        assert_eq!(told(answer), outcome(language::step(file, &mut expected, arrow, &mut theirs)));
-        run = next;
+        let stepped = run.step(&file.bytes, arrow, &mut ours);
+        assert_eq!(stepped.map(number), outcome(language::step(file, &mut expected, arrow, &mut theirs)));
+        run = stepped.map_or(run, |s| s.run);
         assert_eq!((run.node, run.count, &ours), (expected.node, expected.count, &theirs));
     }
 }
@@ -136,21 +136,26 @@ fn sheets_are_solved_judged_and_marked() {
         let (mut ours, mut theirs) = (vec![170; room], vec![170; room]);
         let (answer, written) = language::solve(&made.file, &start, &mut theirs);
         let width = made.file.lesson().map_or(1, |l| l.width(language::List::Sheet));
-        let expected = answer.map(|()| written / width).map_err(|refused| match refusal(refused) {
-            Refusal::Question { number: 18, .. } => Unsolved::NoRoom { records: written / width },
-            other => Unsolved::Refused(other),
+        let expected = answer.map(|()| written / width).map_err(|refused| match refused {
+            language::Refusal::Number(No(18, _)) => Unsolved::NoRoom { records: written / width },
+            other => Unsolved::Refused(refusal(other)),
         });
         assert_eq!((pizwoter::solve(file, &start, &mut ours), ours), (expected, theirs));
         let sheet = needs::any_sheet(r, made, &whole);
         let judged = language::judge(&made.file, &start, &sheet);
-        let part = language::offending(&made.file, &judged, &start, &sheet);
-        assert_eq!(pizwoter::offending(file, &start, &sheet).map_or(&[][..], |(_, record)| record), part);
+        let offending = language::offending(&made.file, &judged, &start, &sheet);
         let expected = judged.map_err(refusal).map(|verdict| match verdict {
-            language::Verdict::StartMissing(record) => Verdict::StartMissing { record },
-            language::Verdict::ResultMissing(record, arrow) => Verdict::ResultMissing { record, arrow },
+            language::Verdict::StartMissing(record) => Verdict::StartMissing { record, offending },
+            language::Verdict::ResultMissing(record, arrow) => Verdict::ResultMissing { record, arrow, offending },
             language::Verdict::Accepted(of) => Verdict::Accepted(mark(of)),
         });
-        assert_eq!(pizwoter::judge(file, &start, &sheet), expected);
+        let verdict = pizwoter::judge(file, &start, &sheet);
+        assert_eq!(verdict, expected);
+        // The offending record is the very bytes of the list that it lies in.
+        if let Some((list, record)) = verdict.ok().and_then(|v| v.offending()) {
+            let within = if list == List::Start { &start } else { &sheet };
+            assert!(within.as_ptr_range().contains(&record.as_ptr()) && record == offending);
+        }
         assert_eq!(pizwoter::index_mark(file, &sheet), language::index_mark(&made.file, &sheet).map(mark).map_err(refusal));
     });
 }

@@ -2,13 +2,13 @@
 
 use oracle::language::No;
 use oracle::making::Random;
-use pizwoter::{figures, join, Figures, Fraction, Refusal, Totals};
+use pizwoter::{figures, join, Figures, Fraction, Place, Question, Refusal, Totals};
 
 const LISTS: u64 = 5_000;
 const JOINS: u64 = 50_000;
 
 /// What a class is answered that is empty, too long or has totals beyond the limits.
-const REFUSED: Refusal = Refusal::Question { number: 23, place: 0 };
+const REFUSED: Refusal = Refusal { question: Question::Class, place: Place::None };
 
 fn totals(count: u32, sum: i64, squares: i64) -> Totals {
     Totals { count, sum, squares }
@@ -20,7 +20,7 @@ fn told(totals: Totals, mean: (i64, i64), variance: (i64, i64)) -> Result<Figure
 }
 
 fn outside(place: usize) -> Result<Figures, Refusal> {
-    Err(Refusal::Question { number: 24, place })
+    Err(Refusal { question: Question::Mark, place: Place::Mark(place) })
 }
 
 #[test]
@@ -97,7 +97,11 @@ fn expected(answer: Result<oracle::figures::Figures, oracle::figures::Refused>) 
     let narrow = |f: oracle::figures::Fraction| (f.numerator.try_into().unwrap(), f.denominator.try_into().unwrap());
     match answer {
         Ok(f) => told(totals(f.totals.count, f.totals.sum, f.totals.squares), narrow(f.mean), narrow(f.variance)),
-        Err(oracle::figures::Refused { no: No(number, place), .. }) => Err(Refusal::Question { number, place }),
+        Err(oracle::figures::Refused { no: No(24, place), .. }) => outside(place),
+        Err(oracle::figures::Refused { no, .. }) => {
+            assert_eq!((no.0, no.1), (23, 0));
+            Err(REFUSED)
+        }
     }
 }
 

@@ -8,7 +8,7 @@
 mod notation;
 
 use notation::Notation;
-use pizwoter::{Graph, Mark};
+use pizwoter::{Graph, Mark, Unsolved};
 use std::io::{self, Read};
 use std::process::ExitCode;
 
@@ -25,7 +25,7 @@ fn main() -> ExitCode {
             print!("{text}");
             ExitCode::SUCCESS
         }
-        Err(reason) => fail(&reason),
+        Err(refused) => fail(&refused.to_string()),
     }
 }
 
@@ -34,15 +34,15 @@ fn fail(reason: &str) -> ExitCode {
     ExitCode::FAILURE
 }
 
-fn picture(input: &[u8]) -> Result<String, String> {
-    let parts = pizwoter::input_parts(input).map_err(|refusal| format!("{refusal:?}"))?;
-    let graph = pizwoter::graph(parts.program).map_err(|refusal| format!("{refusal:?}"))?;
+fn picture(input: &[u8]) -> Result<String, Unsolved> {
+    let parts = pizwoter::input_parts(input)?;
+    let graph = pizwoter::graph(parts.program)?;
     let notation = Notation::of(parts.program);
     let width = 2 + notation.names();
     let mut sheet = vec![0; width * pizwoter::MOST_RECORDS];
-    let records = pizwoter::solve(parts.program, parts.start, &mut sheet).map_err(|unsolved| format!("{unsolved:?}"))?;
+    let records = pizwoter::solve(parts.program, parts.start, &mut sheet)?;
     sheet.truncate(width * records);
-    let mark = pizwoter::index_mark(parts.program, &sheet).map_err(|refusal| format!("{refusal:?}"))?;
+    let mark = pizwoter::index_mark(parts.program, &sheet)?;
     Ok(drawn(&graph, &notation, &sheet, mark))
 }
 
@@ -101,6 +101,16 @@ mod tests {
         ] {
             assert!(text.contains(line), "{line}\n{text}");
         }
+    }
+
+    #[test]
+    fn what_is_refused_is_told_in_words() {
+        let told = |input: &[u8]| picture(input).unwrap_err().to_string();
+        assert_eq!(told(b"junk"), "a field's tag is not the one due (question 2, byte 0)");
+        let wrong = include_bytes!("../../../../../crates/sheet_inputs/data/refused-17-the-first-of-two.in");
+        assert_eq!(told(wrong), "a byte of a record is wrong (question 17, byte 2 of the start list)");
+        let long = include_bytes!("../../../../../crates/sheet_inputs/data/refused-18-4097-records.in");
+        assert_eq!(told(long), "there is no room for the solver's next record after 4096 (question 18)");
     }
 
     #[test]
