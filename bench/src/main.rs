@@ -8,14 +8,27 @@ mod timing;
 
 use lessons::{Lesson, Walk};
 use oracle::making::Random;
-use pizwoter::{Ending, Figures, Fraction, Mark, Outcome, Refusal, Run, Verdict};
+use pizwoter::{Ending, Figures, Fraction, Mark, Outcome, Run, Verdict};
+use std::process::ExitCode;
 use timing::{side_by_side, Timed};
 
-fn main() {
+const OPERATIONS: [&str; 8] = ["validate", "draw", "step", "split", "run", "judge", "solve", "figures"];
+
+fn main() -> ExitCode {
+    let words: Vec<String> = std::env::args().skip(1).collect();
+    let only = words.concat();
+    if words.len() > 1 || !OPERATIONS.iter().any(|name| name.contains(&only)) {
+        eprintln!("bench: no operation's name has '{}'; the operations are {}", words.join(" "), OPERATIONS.join(", "));
+        return ExitCode::from(2);
+    }
+    table(|name| name.contains(&only));
+    ExitCode::SUCCESS
+}
+
+/// The operations that are wanted.
+fn table(wanted: impl Fn(&str) -> bool) {
     println!("Machine: {}.\n", machine());
     println!("| operation | input | engine | plain Rust | ratio | |\n|---|---|---:|---:|---:|---|");
-    let only = std::env::args().nth(1).unwrap_or_default();
-    let wanted = |name: &str| name.contains(&only);
     for lesson in lessons::files() {
         if wanted("validate") {
             row("validate", lesson.title, validate(&lesson));
@@ -121,13 +134,13 @@ fn draw(lesson: &Lesson) -> Timed {
 fn step(lesson: &Lesson) -> Timed {
     let file = &lesson.file[..];
     let (mut ours, mut theirs) = (memory(file), memory(file));
-    let (next, outcome) = Run::FRESH.step(file, 0, &mut ours);
+    let stepped = Run::FRESH.step(file, 0, &mut ours).unwrap();
     match plain::step(file, 0, 0, 0, &mut theirs).unwrap() {
-        Ok((node, count)) => assert_eq!((outcome, next), (Outcome::Taken, Run { node, count })),
-        Err(reason) => assert!(matches!(outcome, Outcome::Undefined(r) if r as u32 == reason)),
+        Ok((node, count)) => assert_eq!((stepped.outcome, stepped.run), (Outcome::Taken, Run { node, count })),
+        Err(reason) => assert!(matches!(stepped.outcome, Outcome::Undefined(r) if r.number() == reason)),
     }
     assert_eq!(ours, theirs);
-    side_by_side(|| Run::FRESH.step(file, 0, &mut ours).0, || plain::step(file, 0, 0, 0, &mut theirs).is_ok())
+    side_by_side(|| Run::FRESH.step(file, 0, &mut ours), || plain::step(file, 0, 0, 0, &mut theirs).is_ok())
 }
 
 /// Places in no order, so that no branch of a splitter can be learnt.
@@ -200,19 +213,15 @@ fn marks(count: usize) -> Vec<i32> {
 }
 
 /// The engine's figures as the plain program's.
-fn told(figures: Result<Figures, Refusal>) -> plain::Figures {
+fn told(f: Figures) -> plain::Figures {
     let fraction = |f: Fraction| (f.numerator, f.denominator);
-    match figures {
-        Ok(f) => Ok(((f.totals.count, f.totals.sum, f.totals.squares), fraction(f.mean), fraction(f.variance))),
-        Err(Refusal::Question { number, place }) => Err((number, place)),
-        Err(refusal) => panic!("{refusal:?}"),
-    }
+    Ok(((f.totals.count, f.totals.sum, f.totals.squares), fraction(f.mean), fraction(f.variance)))
 }
 
 fn figures(count: usize) -> Timed {
     let marks = marks(count);
     let expected = plain::figures(&marks);
-    assert!(expected.is_ok() && told(pizwoter::figures(&marks)) == expected);
+    assert_eq!(told(pizwoter::figures(&marks).unwrap()), expected);
     side_by_side(|| pizwoter::figures(&marks), || plain::figures(&marks))
 }
 
@@ -222,6 +231,6 @@ fn join(count: usize) -> Timed {
     let [first, second] = [&marks[..count], &marks[count..]].map(|half| pizwoter::figures(half).unwrap().totals);
     let [a, b]: [plain::Totals; 2] = [first, second].map(|t| (t.count, t.sum, t.squares));
     let expected = plain::join(a, b);
-    assert!(expected.is_ok() && told(pizwoter::join(first, second)) == expected);
+    assert_eq!(told(pizwoter::join(first, second).unwrap()), expected);
     side_by_side(|| pizwoter::join(first, second), || plain::join(a, b))
 }
