@@ -59,8 +59,8 @@
  * numbers first.
  *
  * THREADS. Calls may be made from several threads at once, as long as none writes a buffer that another
- * uses. On the largest programs a call takes 130 KB of stack (measured, not proved): a thread that makes
- * calls should have 256 KB.
+ * uses. On the largest programs a call takes less than 130 KB of stack (measured, not proved): a thread that
+ * makes calls should have 256 KB.
  *
  * VERSIONS. A later version may add a call, a place at a row's end, or a parameter; it moves no place. A
  * program is linked with the library of the header that it was compiled with: pizwoter_version() is
