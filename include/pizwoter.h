@@ -6,6 +6,9 @@
  *
  *     cc lesson.c $(pkg-config --cflags --libs pizwoter)
  *
+ * That takes the shared library, for which the program looks in PREFIX/lib where LD_LIBRARY_PATH or the
+ * system names it. With -Wl,-Bstatic before the $(...) and -Wl,-Bdynamic after it, the archive is taken.
+ *
  * The library allocates nothing, keeps nothing between calls, and reads no clock and no file. Every call
  * takes any bytes and any numbers whatever: it ends, stays inside the buffers that it is handed, and what it
  * returns and what every buffer holds afterwards is fixed by what is said here. That is proved: each call's
@@ -56,7 +59,7 @@
  *
  * NUMBERS OF 16 BITS. Node, count, arrow and budget are uint16_t. C converts an argument that is wider
  * modulo 65,536 before the call, so that 65,536 arrives as 0 and -1 as 65,535: the caller tests wider
- * numbers first.
+ * numbers first. The same goes for the place and the counts of 32 bits that two calls take.
  *
  * THREADS. Calls may be made from several threads at once, as long as none writes a buffer that another
  * uses. On the largest programs a call takes less than 130 KB of stack (measured, not proved): a thread that
@@ -112,7 +115,8 @@ extern "C" {
 #define PIZWOTER_TOO_LONG 5           /* bytes after the last field; the place is the first of them */
 #define PIZWOTER_WRONG_SIZE 6         /* a name's size is above 64, or there are more than 512 cells */
 #define PIZWOTER_UNKNOWN_KIND 7
-#define PIZWOTER_WRONG_OPERAND 8      /* an unused operand is not zero; a name is missing or of the wrong sort */
+#define PIZWOTER_WRONG_OPERAND 8      /* an unused operand is not zero, or a name is not there or of the
+                                         wrong sort */
 #define PIZWOTER_WRONG_REFERENCE 9    /* a reference does not point to a lower or earlier entry of its sort */
 #define PIZWOTER_NOT_USED_ONCE 10     /* an entry is never used, or more than once; the first such */
 #define PIZWOTER_LAST_NOT_COMMAND 11  /* the last command entry is a guarded command */
@@ -125,7 +129,7 @@ extern "C" {
                                          list first; the place counts from the list's first byte, and of a
                                          wrong node it is the node's first byte */
 #define PIZWOTER_NO_ROOM_FOR_RECORD 18
-#define PIZWOTER_WRONG_CLASS 23       /* no mark or more than 4,096; in a join also totals past their limits */
+#define PIZWOTER_WRONG_CLASS 23       /* no mark or more than 4,096; in a join, totals past their limits */
 #define PIZWOTER_WRONG_MARK 24        /* a mark is outside the range; the place is its number, from 0 */
 
 /* The lists that question 17 tells. */
@@ -141,19 +145,20 @@ extern "C" {
 /* The number of the library's version. */
 uint32_t pizwoter_version(void);
 
-/* Questions 1 to 11 of a program file. Answer: 0, the file is fit. */
+/* Questions 1 to 11 of a program file.
+ * Answer: 0, the file is fit. */
 #define PIZWOTER_VALIDATE_ROW 3
 int32_t pizwoter_validate(const uint8_t *program, size_t program_length,
                           int64_t *reply, size_t reply_length);
 
 /* Questions 1 to 11 of an input of five fields: a program file, then a field of tag 5 with a start list of 0
- * to 512 records. 1 to 4 are asked of the fifth field too, and 5 after it. Answer: 0, the input is fit. The
- * row is that of pizwoter_validate. */
+ * to 512 records. 1 to 4 are asked of the fifth field too, and 5 after it.
+ * Answer: 0, the input is fit. The row is that of pizwoter_validate. */
 int32_t pizwoter_validate_input(const uint8_t *input, size_t input_length,
                                 int64_t *reply, size_t reply_length);
 
-/* Where the two parts of such an input lie: the program file is its first bytes. Answer: 0. Refused: 1 to
- * 11. */
+/* Where the two parts of such an input lie: the program file is its first bytes.
+ * Answer: 0. Refused: 1 to 11. */
 #define PIZWOTER_PARTS_ROW 6
 #define PIZWOTER_PARTS_PROGRAM_LENGTH 3
 #define PIZWOTER_PARTS_START 4        /* the offset in the input at which the start list begins */
@@ -186,14 +191,14 @@ int32_t pizwoter_draw(const uint8_t *program, size_t program_length, uint8_t *bu
 #define PIZWOTER_EXPONENT_NEGATIVE 33
 #define PIZWOTER_INDEX_BELOW_ZERO 34
 #define PIZWOTER_INDEX_PAST_SIZE 35   /* the index is the array's size or above */
-#define PIZWOTER_OUT_OF_RANGE 36      /* the exact result has not 32 bits */
+#define PIZWOTER_OUT_OF_RANGE 36      /* the exact result is not in the range of 32 bits */
 int32_t pizwoter_step(const uint8_t *program, size_t program_length,
                       uint16_t node, uint16_t count, uint16_t arrow, int32_t *memory, size_t memory_length,
                       int64_t *reply, size_t reply_length);
 
 /* A run from node 0 that takes the lowest-numbered defined arrow each time, at most `budget` of them.
- * `memory` is as the run leaves it. Answer: how the run ended, asked in the order of the numbers. Refused: 1
- * to 12. */
+ * `memory` is as the run leaves it.
+ * Answer: how the run ended, asked in the order of the numbers. Refused: 1 to 12. */
 #define PIZWOTER_RUN_ROW 5
 #define PIZWOTER_RUN_NODE 3           /* the node where it ended, and the number of arrows taken; */
 #define PIZWOTER_RUN_COUNT 4          /* both 0 where the call is refused */
@@ -234,8 +239,8 @@ int32_t pizwoter_judge(const uint8_t *program, size_t program_length,
                        const uint8_t *sheet, size_t sheet_length,
                        int64_t *reply, size_t reply_length);
 
-/* The index mark of a sheet by itself, accepted or not. Answer: PIZWOTER_CLEAN or PIZWOTER_UNCLEAN. Refused:
- * 1 to 11, 16, 17. */
+/* The index mark of a sheet by itself, accepted or not.
+ * Answer: PIZWOTER_CLEAN or PIZWOTER_UNCLEAN. Refused: 1 to 11, 16, 17. */
 #define PIZWOTER_MARK_ROW 5
 #define PIZWOTER_MARK_RECORD 3        /* of an unclean mark, as of pizwoter_judge */
 #define PIZWOTER_MARK_ARROW 4
@@ -244,8 +249,8 @@ int32_t pizwoter_index_mark(const uint8_t *program, size_t program_length,
                             int64_t *reply, size_t reply_length);
 
 /* The solver's sheet for a start list, at the front of `buffer`, whose other bytes stay. There is room for
- * the buffer's whole records, at most 4,096. Answer: 0. Refused: 1 to 11, 16, 17, and 18 where there was no
- * room for the next record. */
+ * the buffer's whole records, at most 4,096.
+ * Answer: 0. Refused: 1 to 11, 16, 17, and 18 where there was no room for the next record. */
 #define PIZWOTER_SOLVE_ROW 4
 #define PIZWOTER_SOLVE_RECORDS 3      /* how many records the buffer holds: after 18 the leading ones */
 int32_t pizwoter_solve(const uint8_t *program, size_t program_length,
@@ -253,8 +258,8 @@ int32_t pizwoter_solve(const uint8_t *program, size_t program_length,
                        uint8_t *buffer, size_t buffer_length,
                        int64_t *reply, size_t reply_length);
 
-/* A byte place in a sheet of the program, any number, as the record and the column that it lies in. Answer:
- * 0. Refused: 1 to 11. */
+/* A byte place in a sheet of the program, any number, as the record and the column that it lies in.
+ * Answer: 0. Refused: 1 to 11. */
 #define PIZWOTER_SPLIT_ROW 5
 #define PIZWOTER_SPLIT_RECORD 3
 #define PIZWOTER_SPLIT_COLUMN 4
@@ -264,8 +269,8 @@ int32_t pizwoter_split(const uint8_t *program, size_t program_length, uint32_t p
 /* The figures of a class: mean and variance of its marks, 1 to 4,096 of them, each from -10,000 to 10,000,
  * without rounding. The mean is the sum over the number of marks; the variance is the number times the sum
  * of squares, less the square of the sum, over the number squared. Both are fractions in lowest terms with a
- * positive denominator, zero as 0 over 1. Answer: 0. Refused: 23, 24; the numbers from place 3 on are then
- * 0, 0, 0, 0, 1, 0, 1. */
+ * positive denominator, zero as 0 over 1.
+ * Answer: 0. Refused: 23, 24; the numbers from place 3 on are then 0, 0, 0, 0, 1, 0, 1. */
 #define PIZWOTER_FIGURES_ROW 10
 #define PIZWOTER_FIGURES_COUNT 3
 #define PIZWOTER_FIGURES_SUM 4
@@ -281,8 +286,8 @@ int32_t pizwoter_figures(const int32_t *marks, size_t marks_length,
  * calls give them; those of no mark are 0, 0, 0. Where each class's are those of a list of marks in the
  * range, the row is the one that pizwoter_figures writes of the two lists as one. Question 23 is answered no
  * where both together have no mark or more than 4,096, or where either has a sum beyond 10,000 per mark
- * either way, a sum of squares below zero or beyond 100,000,000 per mark, or a variance below zero. Answer:
- * 0. Refused: 23. The row is that of pizwoter_figures. */
+ * either way, a sum of squares below zero or beyond 100,000,000 per mark, or a variance below zero.
+ * Answer: 0. Refused: 23. The row is that of pizwoter_figures. */
 int32_t pizwoter_join(uint32_t first_count, int64_t first_sum, int64_t first_squares,
                       uint32_t second_count, int64_t second_sum, int64_t second_squares,
                       int64_t *reply, size_t reply_length);

@@ -2,8 +2,8 @@
 
 /// Defines each number, and for the test a table of all.
 macro_rules! numbers {
-    ($($name:ident: $kind:ty = $value:expr;)*) => {
-        $(pub const $name: $kind = $value;)*
+    ($($(#[$said:meta])* $name:ident: $kind:ty = $value:expr;)*) => {
+        $($(#[$said])* pub const $name: $kind = $value;)*
 
         #[cfg(test)]
         pub const ALL: &[(&str, i64)] = &[$((stringify!($name), $name as i64)),*];
@@ -24,16 +24,25 @@ numbers! {
     REFUSED: i64 = -1;
     REPLY: usize = 10;
 
-    // Limits.
+    /// The largest program file that is fit.
     MOST_PROGRAM_BYTES: usize = 7244;
+    /// The largest input of five fields that is fit.
     MOST_INPUT_BYTES: usize = 23631;
+    /// The most names of a program.
     MOST_NAMES: usize = 32;
+    /// The most cells of a memory.
     MOST_CELLS: usize = 512;
+    /// The most nodes of a graph.
     MOST_NODES: usize = 129;
+    /// The most arrows of a graph.
     MOST_ARROWS: usize = 255;
+    /// The bytes of an arrow as `draw` writes it.
     ARROW_BYTES: usize = 7;
+    /// The most records of a start list or of a sheet.
     MOST_RECORDS: usize = 4096;
+    /// The most marks of a class, and of two classes joined.
     MOST_MARKS: usize = 4096;
+    /// The highest mark; the lowest is as far below zero.
     HIGHEST_MARK: i32 = 10000;
 
     // Questions.
@@ -63,9 +72,11 @@ numbers! {
     START_LIST: i64 = 1;
     SHEET: i64 = 2;
 
-    // Sign sets.
+    /// Of a set of signs, minus.
     MINUS: u8 = 1;
+    /// Of a set of signs, zero.
     ZERO: u8 = 2;
+    /// Of a set of signs, plus.
     PLUS: u8 = 4;
 
     // Each call's row: its length, its places, and its answers.
