@@ -230,7 +230,7 @@ each-fits n q h = all-nothing isRefused Fit refl only n q h
     only (Refused x) e = absurd (true≢false e)
 
 module _ {width : ℕ} where
-  flat-length : (rs : List (List ℕ)) → Each (λ r. length r ≡ width) rs → length (flatten rs) ≡ width * length rs
+  pub flat-length : (rs : List (List ℕ)) → Each (λ r. length r ≡ width) rs → length (flatten rs) ≡ width * length rs
   unfolding flatten
   flat-length [] none = sym (mul-zero width)
   flat-length (r ∷ rs) (more h hs) = rw (length-append r (flatten rs), h, flat-length rs hs, mul-suc width (length rs)) (omega arith)
@@ -249,7 +249,7 @@ module _ {width : ℕ} where
 
 -- a list of such records passes 16 and 17, and comes back marked
 module _ (ns : List ℕ) (g : Graph) (room : ℕ) (few : room ≤ 4096) (rs : List (List ℕ)) (all : FormedList ns (g .nodes) room rs) where
-  sized-each : Each (λ r. length r ≡ recordWidth ns) rs
+  pub sized-each : Each (λ r. length r ≡ recordWidth ns) rs
   sized-each = each-so (all .each)
     where
       each-so : {xs : List (List ℕ)} → Each (FormedRecord ns (g .nodes)) xs → Each (λ r. length r ≡ recordWidth ns) xs
