@@ -120,12 +120,17 @@ module _ (bytes : List ℕ) (k names : ℕ) where
   unfolding recordAt Alike
   start-reads few h rho p = record { sized = part-length bytes (names * k) names h; alike = λ x. part-padded bytes (names * k) names few x ∙ ap (λ (l : List ℕ). getD l x 0) (sym p) }
 
+  pub memory-taken : (ns : List ℕ) → length ns ≡ names → memoryOf ns (recordAt (2 + names) bytes k) ≡ take names (drop ((2 + names) * k + 2) bytes)
+  unfolding memoryOf recordAt
+  memory-taken ns e =
+      rw (e, part-taken 2 names (drop ((2 + names) * k) bytes), drop-drop, take-take names names (drop ((2 + names) * k + 2) bytes) (le-refl _))
+
   pub memory-reads : (ns : List ℕ) → length ns ≡ names → names ≤ 32 → (2 + names) * k + (2 + names) ≤ length bytes → (rho : List ℕ) → rho ≡ padded bytes ((2 + names) * k + 2) names
       → ReadInto (memoryOf ns (recordAt (2 + names) bytes k)) rho names
-  unfolding memoryOf recordAt Alike
+  unfolding Alike
   memory-reads ns e few h rho p =
       let at = (2 + names) * k + 2 in
-      rw (e, part-taken 2 names (drop ((2 + names) * k) bytes), drop-drop, take-take names names (drop at bytes) (le-refl _))
+      rw (memory-taken ns e)
       (record { sized = part-length bytes at names (omega arith); alike = λ x. part-padded bytes at names few x ∙ ap (λ (l : List ℕ). getD l x 0) (sym p) })
 
   pub node-reads : nodeOf (recordAt (2 + names) bytes k) ≡ wordAt bytes ((2 + names) * k)

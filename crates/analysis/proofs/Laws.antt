@@ -1,21 +1,28 @@
 -- The theorems on sheets for the crates above and for a reader, on one page. Their proofs are in the modules that they cite.
 use mathlib.Core.Path.{_≡_}
-use mathlib.Core.List.{List}
-use Prim.Native.Nat.{ℕ}
-use Rattle.program.specs.Graph.{done}
+use mathlib.Core.List.{List, flatten}
+use Prim.Native.Nat.{ℕ, _≤_}
+use Rattle.program.specs.File.{sizes}
+use Rattle.program.specs.Graph.{graph, done}
 use Rattle.program.specs.Parts.Guards.{guards, allFalse}
+use Rattle.program.specs.Questions.{validity}
 use Rattle.program.specs.Syntax.{Command}
+use Rattle.program.specs.declared.Validity.the-variants.{Fit}
 use Rattle.analysis.specs.Index.{booleanIndexes}
+use Rattle.analysis.specs.Records.{initialFormed}
 use Rattle.analysis.specs.Signs.{truthsIn}
-use Rattle.analysis.specs.Solver.{solvedNumbers}
+use Rattle.analysis.specs.Solver.{solution, solvedNumbers}
 use Rattle.analysis.specs.Soundness.{ThirdTermFor}
 use Rattle.analysis.specs.Splitter.{splitNumbers}
-use Rattle.analysis.specs.Verdict.{verdict, verdictNumbers, markingNumbers}
+use Rattle.analysis.specs.Verdict.{indexMark, marking, verdict, verdictNumbers, markingNumbers}
 use Rattle.analysis.specs.declared.Marking.{Marking}
+use Rattle.analysis.specs.declared.Marking.the-variants.{Marked}
 use Rattle.analysis.specs.declared.Solved.{Solved}
 use Rattle.analysis.specs.declared.Split.{Split}
 use Rattle.analysis.specs.declared.Verdict.{Verdict}
 use Rattle.analysis.proofs.Exits
+use Rattle.analysis.proofs.Formed
+use Rattle.analysis.proofs.Formed.{FormedList}
 use Rattle.analysis.proofs.Readback
 use Rattle.analysis.proofs.Readback.{QuestionsOnly}
 use Rattle.analysis.proofs.ThirdTerm
@@ -33,6 +40,17 @@ exit-answers = Exits.exit-answers
 
 pub exit-indexes : (ρ : List ℕ) (c : Command) → booleanIndexes ρ (done c) ≡ booleanIndexes ρ (allFalse (guards c))
 exit-indexes = Exits.exit-indexes
+
+-- ---- The solver's list
+
+-- the list for a well-formed file and start list has room records at most, each at a node of the graph and with signs that are right for their names
+module _ (s initial : List ℕ) (fit : validity s ≡ Fit) (formed : initialFormed (sizes s) initial ≡ Fit) (room : ℕ) where
+  pub solution-list : FormedList (sizes s) (graph s .nodes) room (solution (sizes s) (graph s) initial room .records)
+  solution-list = Formed.solution-list s initial fit formed room
+
+  -- so it passes 16 and 17, and its index mark comes back
+  pub solution-marked : room ≤ 4096 → (let rs = solution (sizes s) (graph s) initial room .records in marking s (flatten rs) ≡ Marked (indexMark (sizes s) (graph s) (flatten rs)))
+  solution-marked = Formed.solution-marked s initial fit formed room
 
 -- ---- Rows of numbers
 

@@ -25,5 +25,6 @@ pub mod Growing
 pub mod Descending
 pub mod Answering
 pub mod ThirdTerm
+pub mod Formed
 pub mod Laws
 pub mod Examples

@@ -1,126 +1,96 @@
-// What the sheet program prints (document 01, "The sheet program and the factorial lesson"): the solver's list for a script and its start list, or one refusal.
-// `analysis/specs/Sheet` has the rows that it prints.
-//
-// Printing has no contract (crate `printing`): that the rows are these is tested, by `sheet`, by `sheet_inputs` and by `oracle/run`.
+// What the sheet program prints (document 01, "The sheet program and the factorial lesson"): the solver's list for a script and its start list, or one
+// refusal. `specs/Text` has the bytes, and `render` promises them for any input. What is trusted beside it is that the C library reads and writes.
+mod lines;
+mod text;
+
+ghost use mathlib.Core.Path.{_≡_};
+ghost use lib.ListN.{length};
+ghost use Rattle.program.specs.Drawing.{over};
+ghost use Rattle.program.specs.Questions as Questions;
+ghost use Rattle.listing.specs.Parts.Writing as parts;
+ghost use Rattle.listing.specs.Text as spec;
 use analysis::Marking;
 use analysis::Solving;
 use analysis::judging;
 use analysis::solver;
-use program::Drawn;
-use program::Refusal;
+use libc::STDOUT_FILENO;
 use program::Validity;
 use program::drawing;
 use program::file;
 use program::validation;
 
-fn print_refusal(number: u8, offset: usize) {
-    printing::refused(number, offset);
-    printing::text(b"\n");
+// Bytes enough for any listing: 4,096 records have lines of at most 73 bytes (four digits, a space, three digits, 32 spaces with a digit each and the
+// line's end), and the counts and the index line have less than a hundred each.
+pub const TEXT: usize = 300000;
+
+// The line of counts for a list of so many records.
+fn put_counts_of(program: &[u8], count: u16, out: &mut [u8]) -> usize
+    requires { ⌜ (Questions.validity (now program) ≡ Validity.Fit) × parts.Room 0 (spec.lineText (parts.countsOf (now program) count)) (now out) ⌝ }
+    ensures { λ r. ⌜ parts.Put 0 (spec.lineText (parts.countsOf (now (program .entry)) count)) (now (out .entry)) (now (out .exit)) r ⌝ }
+{
+    let mut edges = [0u8; drawing::BYTES];
+    let d = drawing::draw(program, &mut edges);
+    lines::put_counts(d.nodes, d.edges, count, 0, out)
 }
 
-fn print_refused(x: Refusal) {
-    print_refusal(x.number, x.offset);
-}
-
-fn print_counts(d: Drawn, count: u16) {
-    printing::text(b"nodes ");
-    printing::word(d.nodes);
-    printing::text(b" arrows ");
-    printing::word(d.edges);
-    printing::text(b" records ");
-    printing::word(count);
-    printing::text(b"\n");
-}
-
-fn print_sign(set: u8) {
-    printing::text(b" ");
-    printing::byte(set);
-}
-
-// The signs of a record, which come after its two bytes of node.
-fn print_signs(row: &[u8]) {
-    let mut i: usize = 2;
-    while i < row.len() {
-        print_sign(row[i]);
-        i += 1;
-    }
-}
-
-fn print_record(k: u16, row: &[u8]) {
-    printing::word(k);
-    printing::text(b" ");
-    printing::word(file::word_at(row, 0));
-    print_signs(row);
-    printing::text(b"\n");
-}
-
-// A record is two bytes of node and one for each name.
-fn record_width(program: &[u8]) -> u32 {
-    2 + file::name_count(program) as u32
-}
-
-// The bytes of `count` records.
-fn bytes_of(width: u32, count: u16) -> usize {
-    width as usize * count as usize
-}
-
-// Record `k` of a list.
-fn record_at<'a>(list: &'a [u8], width: u32, k: u16) -> &'a [u8] {
-    validation::part(list, bytes_of(width, k), bytes_of(width, 1))
-}
-
-fn print_records(list: &[u8], width: u32, count: u16) {
-    let mut k: u16 = 0;
-    while k < count {
-        print_record(k, record_at(list, width, k));
-        k += 1;
-    }
-}
-
-// The index mark of the solver's list. Neither refusal comes up: the program is well formed, and so is each record, of which there are at most 4,096.
-fn print_index(program: &[u8], list: &[u8]) {
+// The index line of a list that is well formed, so that neither refusal comes up.
+fn put_index_of(program: &[u8], list: &[u8], at: usize, out: &mut [u8]) -> usize
+    requires { ⌜ parts.WellMarked (now program) (now list) × parts.Room at (spec.lineText (parts.indexOf (now program) (now list))) (now out) ⌝ }
+    ensures { λ r. ⌜ parts.Put at (spec.lineText (parts.indexOf (now (program .entry)) (now (list .entry)))) (now (out .entry)) (now (out .exit)) r ⌝ }
+{
     let marking = judging::index_mark(program, list);
     match marking {
-        Marking::Marked(mark) => printing::mark(mark),
-        Marking::Refused(x) => printing::refusal(x),
-        Marking::Malformed(w) => printing::refused(17, w.offset),
+        Marking::Marked(mark) => lines::put_index(mark, at, out),
+        Marking::Refused(_) => at,
+        Marking::Malformed(_) => at,
     }
-    printing::text(b"\n");
 }
 
-// The counts, the records and the index line, of a buffer whose first `count` records are the solver's list.
-fn print_listing(program: &[u8], buffer: &[u8], count: u16) {
-    let mut edges = [0u8; drawing::BYTES];
-    let width = record_width(program);
-    print_counts(drawing::draw(program, &mut edges), count);
-    print_records(buffer, width, count);
-    print_index(program, validation::part(buffer, 0, bytes_of(width, count)));
+// The counts, the records and the index line, of a buffer whose first `count` records are the list.
+fn put_listing(program: &[u8], buffer: &[u8], count: u16, out: &mut [u8]) -> usize
+    requires { ⌜ parts.Listed (now program) (now buffer) count (now out) ⌝ }
+    ensures { λ r. ⌜ parts.Put 0 (parts.listingText (now (program .entry)) (now (buffer .entry)) count) (now (out .entry)) (now (out .exit)) r ⌝ }
+{
+    let names = file::name_count(program);
+    let after_counts = put_counts_of(program, count, out);
+    let after_records = lines::put_records(buffer, names, count, after_counts, out);
+    let list = validation::part(buffer, 0, lines::bytes_of(names, count));
+    put_index_of(program, list, after_records, out)
 }
 
 // 17 and 18 are the only refusals of the solver that come up: 1 to 11 are asked before, and by question 3 of the fifth field the start list is whole
 // records, at most 512, so 16 is never refused. 18 has no place.
-fn print_fit(program: &[u8], initial: &[u8]) {
+fn render_fit(input: &[u8], out: &mut [u8]) -> usize
+    requires { ⌜ (Questions.inputValidity (now input) ≡ Validity.Fit) × parts.Room 0 (spec.printedText (now input)) (now out) ⌝ }
+    ensures { λ r. ⌜ parts.Put 0 (spec.printedText (now (input .entry))) (now (out .entry)) (now (out .exit)) r ⌝ }
+{
+    let program = validation::program_part(input);
     let mut buffer = [0u8; 65536];
-    let solved = solver::solve(program, initial, &mut buffer);
+    let solved = solver::solve(program, validation::initial_part(input), &mut buffer);
     let solving = solved.solving;
     match solving {
-        Solving::Finished => print_listing(program, &buffer, solved.count),
-        Solving::Full => print_refusal(18, 0),
-        Solving::Refused(x) => print_refused(x),
-        Solving::Malformed(w) => print_refusal(17, w.offset),
+        Solving::Finished => put_listing(program, &buffer, solved.count, out),
+        Solving::Full => lines::put_refusal(18, 0, 0, out),
+        Solving::Malformed(w) => lines::put_refusal(17, w.offset, 0, out),
+        Solving::Refused(_) => 0,
     }
 }
 
-// The listing of an input, or its refusal.
-pub fn print(input: &[u8]) {
+// The listing of an input, or its refusal, over the start of a buffer; returns how many bytes it has.
+pub fn render(input: &[u8], out: &mut [u8; TEXT]) -> usize
+    ensures { λ r. ⌜ (r ≡ length (spec.printedText (now (input .entry)))) × (now (out .exit) ≡ over (spec.printedText (now (input .entry))) (now (out .entry))) ⌝ }
+{
     let v = validation::validate_input(input);
     match v {
-        Validity::Fit => print_fit(
-            validation::program_part(input),
-            validation::initial_part(input),
-        ),
-        Validity::Refused(x) => print_refused(x),
+        Validity::Fit => render_fit(input, out),
+        Validity::Refused(x) => lines::put_refusal(x.number, x.offset, 0, out),
     }
+}
+
+pub fn print(input: &[u8]) {
+    let mut text = [0u8; TEXT];
+    let count = render(input, &mut text);
+    io::write_all(STDOUT_FILENO, &text[..count]);
 }
 
 // The largest fit input has 23,631 bytes: 3 + 2 * 32 of names, 3 + 7 * 512, 3 + 7 * 256 and 3 + 7 * 256 of entries, and a start list of 3 + 512 * 32. The
