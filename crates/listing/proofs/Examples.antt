@@ -1,4 +1,4 @@
--- The listing of the factorial lesson is its text, byte by byte, by computation.
+-- The examples hold, byte by byte, by computation.
 use lib.Dec.{T}
 use Rattle.signs.specs.Case.{allHold}
 use Rattle.listing.specs.Examples.{cases}

@@ -3,5 +3,7 @@ pub mod Placing
 pub mod Listings
 pub mod Lengths
 pub mod Printed
+pub mod Cutting
+pub mod Laws
 pub mod Open
 pub mod Examples

@@ -5,5 +5,5 @@ use Rattle.listing.specs.Examples
 use Rattle.analysis.proofs.Open as Below
 
 unfoldable pub definitions : Unit {0}
-unfolding Text.ascii Text.placesUpTo Text.decimal Text.labelled Text.markText Text.lineText Text.printedText Examples.factorialText Examples.cases flatMap Below.definitions
+unfolding Text.ascii Text.placesUpTo Text.decimal Text.labelled Text.markText Text.lineText Text.printedText Examples.factorialText Examples.storeText Examples.cases flatMap Below.definitions
 definitions = tt

@@ -121,6 +121,13 @@ pub over-long : (text s : List ℕ) → length text ≤ length (over text s)
 unfolding over
 over-long text s = omega (arith, length-append text (drop (length text) s))
 
+-- the same by another name
+pub room-as : {at : ℕ} {text same s : List ℕ} → text ≡ same → Room at same s → Room at text s
+room-as e room = rw e room
+
+pub put-as : {at p : ℕ} {text same s t : List ℕ} → text ≡ same → Put at text s t p → Put at same s t p
+put-as e v = rw e at v
+
 -- all of a text, byte by byte
 pub put-all : {at i : ℕ} {text out after : List ℕ} → i ≡ length text → after ≡ paste out at text i → Put at text out after (at + length text)
 unfolding over overAt

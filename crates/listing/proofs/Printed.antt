@@ -2,7 +2,7 @@
 use mathlib.Core.Path.{_≡_, refl, sym, ap, _∙_}
 use mathlib.Core.Bool.{Bool, true, false, not}
 use mathlib.Core.List.{List, [], append-nil, flatMap, flatten}
-use Prim.Native.Nat.{ℕ, _*_, _/_, _%_, _+_, _≤_, min}
+use Prim.Native.Nat.{ℕ, _*_, _/_, _%_, _+_, _≤_}
 use native.Mathlib.Omega.{arith}
 use borrow.Author.Tests.{le-leb, eq-eqb}
 use lib.ListN.{length, take}
@@ -20,7 +20,7 @@ use Rattle.program.proofs.Laws.{sizes-length, first-found, not-refused, turn-fi
 use Rattle.program.proofs.Never.{never}
 use Rattle.analysis.specs.Records.{initialWidth, recordCount, wholeRecords, initialWhole, memoryFormed, initialFormed, wrongByte}
 use Rattle.analysis.specs.Sheet.{countsLine, refusalLine, sheetOf, listing, printValidity, linesBy, printedLines}
-use Rattle.analysis.specs.Solver.{Found, solution, roomOf, finishedOr, solvedWith, bufferWith, initialValidity, solutionIn, solved, solvedBuffer}
+use Rattle.analysis.specs.Solver.{Found, roomOf, finishedOr, solvedWith, bufferWith, initialValidity, solutionIn, solved, solvedBuffer}
 use Rattle.analysis.specs.Verdict.{indexMark, marking}
 use Rattle.analysis.specs.declared.Mark.{Mark}
 use Rattle.analysis.specs.declared.Marking.{Marking}

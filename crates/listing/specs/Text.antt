@@ -11,21 +11,21 @@ use Rattle.analysis.specs.Sheet.{Line, countsLine, recordLine, indexLine, refus
 use Rattle.analysis.specs.declared.Mark.{Mark}
 use Rattle.analysis.specs.declared.Mark.the-variants.{Clean, Unclean}
 
--- a quoted text's bytes
+-- the bytes of a text that the document quotes
 unfoldable pub ascii : String → List ℕ
 ascii Quoted.[] = []
 ascii (Quoted._∷_ c s) = code c ∷ ascii s
 
--- how many decimal digits a number has, up to `more` beside the last: one more than a tenth of it has, until that is less than one
+-- how many digits a number has, but no more than one and `more`: one, and as many as a tenth of it has where it is ten or more
 unfoldable pub placesUpTo : ℕ → ℕ → ℕ
 placesUpTo zero n = 1
 placesUpTo (suc more) n = cond (ltb n 10) 1 (suc (placesUpTo more (n / 10)))
 
--- a number's decimal digits, as the kit's `io::decimal` has them: 20 are enough for every number of 64 bits
+-- a number, the "N" of "refused N at PLACE": its decimal digits, as the kit's `io::decimal` has them. Each number of 64 bits has at most 20
 unfoldable pub decimal : ℕ → List ℕ
 decimal n = digits 10 (placesUpTo 19 n) n
 
--- a number after a text
+-- a word and its number, as in "nodes 5"
 unfoldable pub labelled : List ℕ → ℕ → List ℕ
 labelled label n = label ++ decimal n
 
@@ -42,6 +42,6 @@ lineText (recordLine k node signs) = decimal k ++ labelled (ascii " ") node ++ f
 lineText (indexLine mark) = markText mark ++ ascii "\n"
 lineText (refusalLine x) = labelled (ascii "refused ") (x .number) ++ labelled (ascii " at ") (x .offset) ++ ascii "\n"
 
--- the text for an input
+-- what "the program" prints for an input that it "reads … from standard input": its lines, one after the other
 unfoldable pub printedText : List ℕ → List ℕ
 printedText input = flatMap lineText (printedLines input)

@@ -94,10 +94,8 @@ pub fn print(input: &[u8]) {
 }
 
 // The largest fit input has 23,631 bytes: 3 + 2 * 32 of names, 3 + 7 * 512, 3 + 7 * 256 and 3 + 7 * 256 of entries, and a start list of 3 + 512 * 32. The
-// array is longer, and an input that is longer still is answered by the bytes that it begins with. They have its answer: question 3 bounds each length,
-// so whatever questions 1 to 4 ask lies in the first 23,631 bytes, which are all there, and each is answered alike, with the same place. Where the five
-// fields pass, 5 is refused at the first byte after them, of the input and of what the array holds. The later questions are asked only after 5, so never
-// of an input that was cut. A read that fails counts as the input's end.
+// array is longer, and an input that is longer still is answered by the bytes that it begins with: they have its text (`cut-printed` of `proofs/Laws`). A
+// read that fails counts as the input's end.
 pub fn print_read(fd: i32) {
     let mut input = [0u8; 32768];
     let n = io::read_full(fd, &mut input);

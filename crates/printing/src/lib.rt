@@ -1,4 +1,4 @@
-// What the programs print, on standard output: text, numbers, and the engine's answers in document 01's words.
+// What the test programs print, on standard output: text, numbers, and the engine's answers in document 01's words. The sheet program's text is `listing`'s.
 //
 // A function that prints has no contract: the C library's `write` promises how much it took, and nothing of what was written.
 ghost use mathlib.Core.Path.{_≡_};
@@ -65,15 +65,11 @@ pub fn integer(z: i32) {
     long_integer(z as i64);
 }
 
-pub fn refused(question: u8, offset: usize) {
-    text(b"refused ");
-    byte(question);
-    text(b" at ");
-    place(offset);
-}
-
 pub fn refusal(x: Refusal) {
-    refused(x.number, x.offset);
+    text(b"refused ");
+    byte(x.number);
+    text(b" at ");
+    place(x.offset);
 }
 
 // Document 01's number of a reason.
@@ -119,7 +115,7 @@ fn unclean(record: u16, edge: u16) {
     spot(record, edge);
 }
 
-// The index line, without its end.
+// An index mark.
 pub fn mark(x: Mark) {
     match x {
         Mark::Clean => text(b"index clean"),

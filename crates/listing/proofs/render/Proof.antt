@@ -1,10 +1,10 @@
 -- `render`: the room is enough for any text.
 use borrow.Author.Needs.{needs}
 use mathlib.Core.Path.{_≡_, sym, ap, _∙_}
+use Prim.Native.Nat.{_≤_}
 use native.Mathlib.Omega.{arith}
 use lib.ListN.{length}
 use Rattle.analysis.specs.Sheet.{refusalLine}
-use Rattle.listing.specs.Parts.Writing.{Room, Put}
 use Rattle.listing.specs.Text.{lineText, printedText}
 use Rattle.listing.proofs.Placing.{put-over}
 use Rattle.listing.proofs.Printed.{input-refused, text-short}
@@ -15,7 +15,7 @@ render-fit-requires : tie.Need-render-fit-requires
 render-fit-requires c κs =
     let v = c .before .before .before in
     let s = c .before .before .before .before .before in
-    let long : length (s .args .out .now) ≡ 300000 = search needs in
+    let long : 300000 ≤ length (s .args .out .now) = search needs in
     (sym (v .validate-input .ensures .0) ∙ c .before .enum-told .given .1, record { fits = omega (arith, text-short (s .args .input .now)) })
 
 -- the text of a refusal of 1 to 11
@@ -25,7 +25,7 @@ refused c = input-refused _ _ (sym (c .before .before .validate-input .ensures .
 put-refusal-requires : tie.Need-put-refusal-requires
 put-refusal-requires c κs =
     let s = c .before .before .before .before .before .before in
-    let long : length (s .args .out .now) ≡ 300000 = search needs in
+    let long : 300000 ≤ length (s .args .out .now) = search needs in
     record { fits = omega (arith, text-short (s .args .input .now), ap length (refused (c .before .before))) }
 
 returns : tie.Need-returns

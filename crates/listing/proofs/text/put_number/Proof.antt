@@ -1,7 +1,6 @@
 -- `text::put_number`: the kit's digits, put.
 use borrow.Author.Needs.{needs}
 use mathlib.Core.Path.{_≡_, _∙_}
-use native.Mathlib.Omega.{arith}
 use lib.ListN.{take}
 use Rattle.listing.specs.Text.{decimal}
 use Rattle.listing.proofs.Decimals.{decimal-told}
