@@ -36,8 +36,8 @@
  * array, in name order. The rest of the file, its expressions and commands, is the editor's business.
  *
  * THE RETURN VALUE is 0 (PIZWOTER_ANSWERED) where the call is answered; the number of the question that is
- * answered no, 1 to 18, 23 or 24, where it is refused; and -1 (PIZWOTER_SHORT_REPLY) where the reply is too
- * short for the call's row: then nothing is written, in no buffer whatever.
+ * answered no, 1 to 18, 20, 23 or 24, where it is refused; and -1 (PIZWOTER_SHORT_REPLY) where the reply is
+ * too short for the call's row: then nothing is written, in no buffer whatever.
  *
  * THE REPLY. Every call but pizwoter_version writes one row of numbers at the front of `reply`, answered or
  * refused. A call's row has one length, PIZWOTER_..._ROW, and each place of it one meaning; the numbers of
@@ -48,10 +48,11 @@
  *
  * REFUSALS. Questions are asked in this order, and the first no ends the asking: of each field of the file
  * in turn 1, 2, 3 and 4; then 5; then 6 of each name in turn; then of each entry of the tables in turn 7, 8
- * and 9; then 10, then 11. After these pizwoter_step asks 12, 14 and 15, pizwoter_run 12, pizwoter_draw 13,
- * pizwoter_judge and pizwoter_index_mark 16 and 17, pizwoter_solve 16, 17 and 18, each in that order. The
- * calls for class figures ask 23 and then, of a list, 24, and nothing else. A refusal changes no buffer but
- * the reply, with one exception: after 18 the buffer holds the records that found room.
+ * and 9; then 10, then 11, then 20. After these pizwoter_step asks 12, 14 and 15, pizwoter_run 12,
+ * pizwoter_draw 13, pizwoter_judge and pizwoter_index_mark 16 and 17, pizwoter_solve 16, 17 and 18, each in
+ * that order. The calls for class figures ask 23 and then, of a list, 24, and nothing else. A refusal
+ * changes no buffer but the reply, with one exception: after 18 the buffer holds the records that found
+ * room.
  *
  * SLICES. A slice is a pointer and a number of elements. The pointer must not be NULL, also where the number
  * is 0, and must be aligned for its element. A slice that is written (a pointer without const) must not
@@ -65,8 +66,8 @@
  * uses. On the largest programs a call takes less than 130 KB of stack (measured, not proved): a thread that
  * makes calls should have 256 KB.
  *
- * VERSIONS. A later version may add a call, a place at a row's end, or a parameter; it moves no place. A
- * program is linked with the library of the header that it was compiled with: pizwoter_version() is
+ * VERSIONS. A later version may add a call, a question, a place at a row's end, or a parameter; it moves no
+ * place. A program is linked with the library of the header that it was compiled with: pizwoter_version() is
  * PIZWOTER_VERSION.
  */
 #ifndef PIZWOTER_H
@@ -79,7 +80,7 @@
 extern "C" {
 #endif
 
-#define PIZWOTER_VERSION 1
+#define PIZWOTER_VERSION 2
 
 /* Return values beside the numbers of the questions. */
 #define PIZWOTER_ANSWERED 0
@@ -106,8 +107,8 @@ extern "C" {
 #define PIZWOTER_MOST_MARKS 4096         /* of a class, and of two classes joined */
 #define PIZWOTER_HIGHEST_MARK 10000      /* the lowest is -10,000 */
 
-/* Questions. The place of 1 to 11 is the byte of the file where the head or the entry starts, unless it is
- * said otherwise; 12 to 16, 18 and 23 have none. */
+/* Questions. The place of 1 to 11 and 20 is the byte of the file where the head or the entry starts, unless
+ * it is said otherwise; 12 to 16, 18 and 23 have none. */
 #define PIZWOTER_NO_HEAD 1            /* fewer than three bytes are left for a field's head */
 #define PIZWOTER_WRONG_TAG 2          /* the tag is not the one due */
 #define PIZWOTER_WRONG_LENGTH 3       /* the length is not whole entries, as many as allowed */
@@ -129,6 +130,7 @@ extern "C" {
                                          list first; the place counts from the list's first byte, and of a
                                          wrong node it is the node's first byte */
 #define PIZWOTER_NO_ROOM_FOR_RECORD 18
+#define PIZWOTER_LOOSE_JUMP 20        /* a break or continue is outside every do; the lowest such entry */
 #define PIZWOTER_WRONG_CLASS 23       /* no mark or more than 4,096; in a join, totals past their limits */
 #define PIZWOTER_WRONG_MARK 24        /* a mark is outside the range; the place is its number, from 0 */
 
@@ -145,20 +147,20 @@ extern "C" {
 /* The number of the library's version. */
 uint32_t pizwoter_version(void);
 
-/* Questions 1 to 11 of a program file.
+/* Questions 1 to 11 and 20 of a program file.
  * Answer: 0, the file is fit. */
 #define PIZWOTER_VALIDATE_ROW 3
 int32_t pizwoter_validate(const uint8_t *program, size_t program_length,
                           int64_t *reply, size_t reply_length);
 
-/* Questions 1 to 11 of an input of five fields: a program file, then a field of tag 5 with a start list of 0
- * to 512 records. 1 to 4 are asked of the fifth field too, and 5 after it.
+/* Questions 1 to 11 and 20 of an input of five fields: a program file, then a field of tag 5 with a start
+ * list of 0 to 512 records. 1 to 4 are asked of the fifth field too, and 5 after it.
  * Answer: 0, the input is fit. The row is that of pizwoter_validate. */
 int32_t pizwoter_validate_input(const uint8_t *input, size_t input_length,
                                 int64_t *reply, size_t reply_length);
 
 /* Where the two parts of such an input lie: the program file is its first bytes.
- * Answer: 0. Refused: 1 to 11. */
+ * Answer: 0. Refused: 1 to 11, 20. */
 #define PIZWOTER_PARTS_ROW 6
 #define PIZWOTER_PARTS_PROGRAM_LENGTH 3
 #define PIZWOTER_PARTS_START 4        /* the offset in the input at which the start list begins */
@@ -169,11 +171,12 @@ int32_t pizwoter_input_parts(const uint8_t *input, size_t input_length,
 /* The program graph: its arrows, PIZWOTER_ARROW_BYTES each, at the front of `buffer`, whose other bytes
  * stay. Node 0 is the start, node 1 the end. A buffer of PIZWOTER_MOST_ARROWS * PIZWOTER_ARROW_BYTES holds
  * any graph.
- * Answer: 0. Refused: 1 to 11, 13. */
+ * Answer: 0. Refused: 1 to 11, 20, 13. */
 #define PIZWOTER_DRAW_ROW 5
 #define PIZWOTER_DRAW_NODES 3         /* how many nodes there are */
 #define PIZWOTER_DRAW_ARROWS 4        /* how many arrows */
-#define PIZWOTER_ACTION_COMMAND 1     /* action kinds: the command of that command entry */
+#define PIZWOTER_ACTION_COMMAND 1     /* action kinds: the command of that command entry, a skip, assignment,
+                                         store, break or continue; the last two act as skip */
 #define PIZWOTER_ACTION_BOOLEAN 2     /* the condition of that boolean entry */
 #define PIZWOTER_ACTION_EXIT 3        /* the exit of the do whose operand is that command entry */
 int32_t pizwoter_draw(const uint8_t *program, size_t program_length, uint8_t *buffer, size_t buffer_length,
@@ -181,7 +184,7 @@ int32_t pizwoter_draw(const uint8_t *program, size_t program_length, uint8_t *bu
 
 /* One step of a run that is at `node` with `count` arrows taken, along the arrow of that number; a fresh run
  * is at node 0 with 0. A step that is taken changes at most one cell of `memory`, any other none.
- * Answer: 0, the step is taken; or the reason for which it is undefined. Refused: 1 to 12, 14, 15. */
+ * Answer: 0, the step is taken; or the reason for which it is undefined. Refused: 1 to 11, 20, 12, 14, 15. */
 #define PIZWOTER_STEP_ROW 5
 #define PIZWOTER_STEP_NODE 3          /* the run afterwards: as handed in where the step is undefined or */
 #define PIZWOTER_STEP_COUNT 4         /* refused; the count stays at 65,535 once it is there */
@@ -198,7 +201,7 @@ int32_t pizwoter_step(const uint8_t *program, size_t program_length,
 
 /* A run from node 0 that takes the lowest-numbered defined arrow each time, at most `budget` of them.
  * `memory` is as the run leaves it.
- * Answer: how the run ended, asked in the order of the numbers. Refused: 1 to 12. */
+ * Answer: how the run ended, asked in the order of the numbers. Refused: 1 to 11, 20, 12. */
 #define PIZWOTER_RUN_ROW 5
 #define PIZWOTER_RUN_NODE 3           /* the node where it ended, and the number of arrows taken; */
 #define PIZWOTER_RUN_COUNT 4          /* both 0 where the call is refused */
@@ -212,7 +215,7 @@ int32_t pizwoter_run(const uint8_t *program, size_t program_length,
 /* The verdict on a sheet. A record of the start list has one byte for each name: a variable's sign (1, 2 or
  * 4), an array's set of signs (1 to 7). A record of a sheet has a node before that, two bytes, high byte
  * first. A memory's record has its variables' signs and exactly the signs of each array's elements.
- * Answer: accepted, or 41 or 42. Refused: 1 to 11, 16, 17.
+ * Answer: accepted, or 41 or 42. Refused: 1 to 11, 20, 16, 17.
  *
  * What "accepted" means, and it is proved. Take any memory whose record is in the start list. Whatever steps
  * are called on it from a fresh run, and however many, refused and undefined ones among them: the sheet has
@@ -240,7 +243,7 @@ int32_t pizwoter_judge(const uint8_t *program, size_t program_length,
                        int64_t *reply, size_t reply_length);
 
 /* The index mark of a sheet by itself, accepted or not.
- * Answer: PIZWOTER_CLEAN or PIZWOTER_UNCLEAN. Refused: 1 to 11, 16, 17. */
+ * Answer: PIZWOTER_CLEAN or PIZWOTER_UNCLEAN. Refused: 1 to 11, 20, 16, 17. */
 #define PIZWOTER_MARK_ROW 5
 #define PIZWOTER_MARK_RECORD 3        /* of an unclean mark, as of pizwoter_judge */
 #define PIZWOTER_MARK_ARROW 4
@@ -250,7 +253,7 @@ int32_t pizwoter_index_mark(const uint8_t *program, size_t program_length,
 
 /* The solver's sheet for a start list, at the front of `buffer`, whose other bytes stay. There is room for
  * the buffer's whole records, at most 4,096.
- * Answer: 0. Refused: 1 to 11, 16, 17, and 18 where there was no room for the next record. */
+ * Answer: 0. Refused: 1 to 11, 20, 16, 17, and 18 where there was no room for the next record. */
 #define PIZWOTER_SOLVE_ROW 4
 #define PIZWOTER_SOLVE_RECORDS 3      /* how many records the buffer holds: after 18 the leading ones */
 int32_t pizwoter_solve(const uint8_t *program, size_t program_length,
@@ -259,7 +262,7 @@ int32_t pizwoter_solve(const uint8_t *program, size_t program_length,
                        int64_t *reply, size_t reply_length);
 
 /* A byte place in a sheet of the program, any number, as the record and the column that it lies in.
- * Answer: 0. Refused: 1 to 11. */
+ * Answer: 0. Refused: 1 to 11, 20. */
 #define PIZWOTER_SPLIT_ROW 5
 #define PIZWOTER_SPLIT_RECORD 3
 #define PIZWOTER_SPLIT_COLUMN 4

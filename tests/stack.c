@@ -103,12 +103,12 @@ static void conjunctions(struct program *p, unsigned kind, int left) {
     add(p, COMMANDS, 4, guarded, 0, 0);
 }
 
-/* Ifs in one another: 127. */
-static void ifs(struct program *p) {
-    unsigned last = add(p, COMMANDS, 0, 0, 0, 0);
+/* Ifs in one another about a skip, or dos about a break: 127. */
+static void nested(struct program *p, unsigned loop) {
+    unsigned last = add(p, COMMANDS, loop ? 8 : 0, 0, 0, 0);
     for (unsigned k = 0; k < 127; k++) {
         unsigned guarded = add(p, COMMANDS, 6, add(p, CONDITIONS, 0, 0, 0, 0), last, 0);
-        last = add(p, COMMANDS, 4, guarded, 0, 0);
+        last = add(p, COMMANDS, loop ? 5 : 4, guarded, 0, 0);
     }
 }
 
@@ -131,13 +131,13 @@ static void build(struct program *p, int which) {
     case 6: case 7: guards(p, 0, 85, which == 6); break;
     case 8: case 9: guards(p, 1, 1 + 2 * (which == 8), 1); break;
     case 10: case 11: case 12: case 13: conjunctions(p, 4 + (unsigned)which % 2, which < 12); break;
-    case 14: ifs(p); break;
-    default: sequence(p, which == 15);
+    case 14: case 15: nested(p, which == 15); break;
+    default: sequence(p, which == 16);
     }
     finish(p);
 }
 
-#define PROGRAMS 17
+#define PROGRAMS 18
 
 static struct program program;
 static uint8_t start[] = {PIZWOTER_ZERO, PIZWOTER_ZERO};

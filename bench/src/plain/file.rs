@@ -1,4 +1,4 @@
-//! The file: questions 1 to 11, and the decoded program.
+//! The file: questions 1 to 11 and 20, and the decoded program.
 
 /// A question's number and place.
 pub type Refusal = (u32, usize);
@@ -46,6 +46,8 @@ pub enum Command {
     Do(u16),
     Guarded(u16, u16),
     Choice(u16, u16),
+    Break,
+    Continue,
 }
 
 pub struct Name {
@@ -128,8 +130,13 @@ fn roles(table: usize, kind: u8) -> Option<[Role; 3]> {
         (3, 4..=5) => [Guarded, Zero, Zero],
         (3, 6) => [To(2), Command, Zero],
         (3, 7) => [Guarded, Guarded, Zero],
+        (3, 8..=9) => [Zero, Zero, Zero],
         _ => return None,
     })
+}
+
+fn is_guarded(kind: u8) -> bool {
+    kind == 6 || kind == 7
 }
 
 struct Checker<'a> {
@@ -170,7 +177,7 @@ impl Checker<'_> {
     fn points(&self, table: usize, n: usize, role: Role, x: u16) -> bool {
         let x = usize::from(x);
         let bound = |to: usize| if to == table { n } else { self.spans[to].1 };
-        let guarded = |x: usize| self.file[self.spans[3].0 + 7 * x] >= 6;
+        let guarded = |x: usize| is_guarded(self.file[self.spans[3].0 + 7 * x]);
         match role {
             To(to) => x < bound(to),
             Command => x < n && !guarded(x),
@@ -214,10 +221,33 @@ impl Checker<'_> {
         }
         let (start, count) = self.spans[3];
         let last = start + 7 * (count - 1);
-        if self.file[last] >= 6 {
+        if is_guarded(self.file[last]) {
             return Err((11, last));
         }
         Ok(())
+    }
+
+    /// Question 20. References go to lower entries: from the last down, an entry is known to be inside a do before what it refers to is asked about.
+    fn jumps(&self) -> Result<(), Refusal> {
+        let (start, count) = self.spans[3];
+        let commands = self.file[start..start + 7 * count].chunks_exact(7);
+        if commands.clone().all(|e| e[0] < 8) {
+            return Ok(());
+        }
+        let mut inside = [false; 256];
+        let mut lowest = None;
+        for (n, e) in commands.enumerate().rev() {
+            let (p, q) = (usize::from(word(e, 1)), usize::from(word(e, 3)));
+            match e[0] {
+                3 | 7 => (inside[p], inside[q]) = (inside[n], inside[n]),
+                4 => inside[p] = inside[n],
+                5 => inside[p] = true,
+                6 => inside[q] = inside[n],
+                8 | 9 if !inside[n] => lowest = Some(start + 7 * n),
+                _ => {}
+            }
+        }
+        lowest.map_or(Ok(()), |at| Err((20, at)))
     }
 }
 
@@ -229,10 +259,11 @@ fn checked(file: &[u8]) -> Result<Spans, Refusal> {
         checker.table(table)?;
     }
     checker.uses()?;
+    checker.jumps()?;
     Ok(spans)
 }
 
-/// Questions 1 to 11.
+/// Questions 1 to 11 and 20.
 #[inline(never)]
 pub fn validate(file: &[u8]) -> Result<(), Refusal> {
     checked(file).map(|_| ())
@@ -289,7 +320,9 @@ fn command(e: Entry) -> Command {
         4 => Command::If(e.p),
         5 => Command::Do(e.p),
         6 => Command::Guarded(e.p, e.q),
-        _ => Command::Choice(e.p, e.q),
+        7 => Command::Choice(e.p, e.q),
+        8 => Command::Break,
+        _ => Command::Continue,
     }
 }
 

@@ -21,10 +21,18 @@ pub struct Graph {
     pub arrows: Vec<Arrow>,
 }
 
+/// The first and the last node of a do.
+#[derive(Clone, Copy)]
+struct Loop {
+    first: u16,
+    last: u16,
+}
+
 impl Graph {
     pub fn of(program: &Program) -> Graph {
         let mut graph = Graph { nodes: 2, arrows: Vec::with_capacity(program.commands.len()) };
-        graph.command(program, program.commands.len() as u16 - 1, 0, 1);
+        // No jump is outside every do, so that the loop there is never asked for.
+        graph.command(program, program.commands.len() as u16 - 1, 0, 1, Loop { first: 0, last: 1 });
         graph
     }
 
@@ -37,32 +45,35 @@ impl Graph {
         self.arrows.push(Arrow { from, to, action });
     }
 
-    fn command(&mut self, program: &Program, n: u16, from: u16, to: u16) {
+    /// A command's arrows, in the innermost do around it.
+    fn command(&mut self, program: &Program, n: u16, from: u16, to: u16, around: Loop) {
         match program.commands[usize::from(n)] {
             Command::Sequence(p, q) => {
                 let middle = self.fresh();
-                self.command(program, p, from, middle);
-                self.command(program, q, middle, to);
+                self.command(program, p, from, middle, around);
+                self.command(program, q, middle, to, around);
             }
-            Command::If(g) => self.guarded(program, g, from, to),
+            Command::If(g) => self.guarded(program, g, from, to, around),
             Command::Do(g) => {
-                self.guarded(program, g, from, from);
+                self.guarded(program, g, from, from, Loop { first: from, last: to });
                 self.arrow(from, to, Action::Exit(g));
             }
+            Command::Break => self.arrow(from, around.last, Action::Command(n)),
+            Command::Continue => self.arrow(from, around.first, Action::Command(n)),
             _ => self.arrow(from, to, Action::Command(n)),
         }
     }
 
-    fn guarded(&mut self, program: &Program, n: u16, from: u16, to: u16) {
+    fn guarded(&mut self, program: &Program, n: u16, from: u16, to: u16, around: Loop) {
         match program.commands[usize::from(n)] {
             Command::Choice(p, q) => {
-                self.guarded(program, p, from, to);
-                self.guarded(program, q, from, to);
+                self.guarded(program, p, from, to, around);
+                self.guarded(program, q, from, to, around);
             }
             Command::Guarded(b, c) => {
                 let middle = self.fresh();
                 self.arrow(from, middle, Action::Condition(b));
-                self.command(program, c, middle, to);
+                self.command(program, c, middle, to, around);
             }
             _ => unreachable!(),
         }

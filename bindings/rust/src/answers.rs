@@ -50,6 +50,8 @@ pub enum Question {
     Record = WRONG_RECORD,
     /// 18: is there room for the solver's next record? See [`Unsolved::NoRoom`].
     RoomForRecord = NO_ROOM_FOR_RECORD,
+    /// 20: is every break and continue inside a do? Asked after 11.
+    JumpInDo = LOOSE_JUMP,
     /// 23: has the class marks, at most 4,096, and are the totals of two classes to be joined within their limits?
     Class = WRONG_CLASS,
     /// 24: is every mark from -10,000 to 10,000?
@@ -58,7 +60,7 @@ pub enum Question {
 
 impl Question {
     /// In the order of their numbers.
-    pub const ALL: [Question; 20] = [
+    pub const ALL: [Question; 21] = [
         Question::Head,
         Question::Tag,
         Question::Length,
@@ -77,6 +79,7 @@ impl Question {
         Question::WholeRecords,
         Question::Record,
         Question::RoomForRecord,
+        Question::JumpInDo,
         Question::Class,
         Question::Mark,
     ];
@@ -97,7 +100,7 @@ impl Question {
 pub enum Place {
     /// Questions 12 to 16, 18 and 23 have no place.
     None,
-    /// Questions 1 to 11: a byte of the program file, or of the input.
+    /// Questions 1 to 11 and 20: a byte of the program file, or of the input.
     Byte(usize),
     /// Question 17: a byte of a list, counted from the list's first.
     InList(List, usize),
@@ -141,7 +144,7 @@ pub struct Drawn {
 /// What an arrow does.
 #[derive(Clone, Copy, Debug, PartialEq, Eq, Hash)]
 pub enum Action {
-    /// The command of that entry: skip, an assignment or a store.
+    /// The command of that entry: skip, an assignment, a store, or a break or continue, which act as skip.
     Command(u16),
     /// The condition of that boolean entry.
     Condition(u16),

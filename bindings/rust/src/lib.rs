@@ -73,7 +73,7 @@ fn refusal(status: i32, row: &[i64]) -> Refusal {
     let question = Question::numbered(status as u32).unwrap_or_else(|| unreachable!("a call returned {status}"));
     let (place, list) = (row[PLACE] as usize, if row[LIST] == START_LIST { List::Start } else { List::Sheet });
     let place = match status {
-        NO_HEAD..=LAST_NOT_COMMAND => Place::Byte(place),
+        NO_HEAD..=LAST_NOT_COMMAND | LOOSE_JUMP => Place::Byte(place),
         WRONG_RECORD => Place::InList(list, place),
         WRONG_MARK => Place::Mark(place),
         _ => Place::None,
@@ -86,12 +86,12 @@ pub fn version() -> u32 {
     desk::version()
 }
 
-/// Questions 1 to 11 of a program file.
+/// Questions 1 to 11 and 20 of a program file.
 pub fn validate(program: &[u8]) -> Result<(), Refusal> {
     told::<VALIDATE_ROW>(|reply| desk::validate(program, reply)).map(|_| ())
 }
 
-/// Questions 1 to 11 of an input of five fields: a program file, and a field of tag 5 with a start list.
+/// Questions 1 to 11 and 20 of an input of five fields: a program file, and a field of tag 5 with a start list.
 pub fn validate_input(input: &[u8]) -> Result<(), Refusal> {
     told::<VALIDATE_ROW>(|reply| desk::validate_input(input, reply)).map(|_| ())
 }

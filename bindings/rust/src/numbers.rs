@@ -11,7 +11,7 @@ macro_rules! numbers {
 }
 
 numbers! {
-    VERSION: u32 = 1;
+    VERSION: u32 = 2;
 
     // Return values beside the questions' numbers.
     ANSWERED: i32 = 0;
@@ -64,6 +64,7 @@ numbers! {
     NOT_WHOLE_RECORDS: i32 = 16;
     WRONG_RECORD: i32 = 17;
     NO_ROOM_FOR_RECORD: i32 = 18;
+    LOOSE_JUMP: i32 = 20;
     WRONG_CLASS: i32 = 23;
     WRONG_MARK: i32 = 24;
 

@@ -6,6 +6,8 @@ use crate::{desk, Totals};
 /// y := 1; do x > 0 -> y := x * y; x := x - 1 od
 const LESSON: &[u8] = include_bytes!("../tests/factorial.script");
 const INPUT: &[u8] = include_bytes!("../../../crates/sheet/stdin");
+/// A break by itself, with a start list of one record of two names.
+const LOOSE: &[u8] = include_bytes!("../../../crates/sheet_inputs/data/refused-20-break.in");
 /// The solver's sheet for the start list 4 2.
 const SHEET_OF_LESSON: [u8; 32] = [0, 0, 4, 2, 0, 2, 4, 4, 0, 3, 4, 4, 0, 4, 4, 4, 0, 2, 1, 4, 0, 2, 2, 4, 0, 1, 1, 4, 0, 1, 2, 4];
 
@@ -59,6 +61,23 @@ fn files() {
     check("split", |_, r| desk::split(LESSON, 14, r), ANSWERED, &[0, 0, 0, 3, 2]);
     let commands = LESSON.len() as i64 - 3 - 7 * 7;
     check("split", |_, r| desk::split(cut, 14, r), CONTENT_CUT, &refused(SPLIT_ROW, commands, 0, &[]));
+}
+
+/// Question 20, which comes before those of memory, room, node and records.
+#[test]
+fn a_loose_jump() {
+    let program = &LOOSE[..LOOSE.len() - 5];
+    let row = |room: usize, behind: &[i64]| refused(room, program.len() as i64 - 7, 0, behind);
+    check("validate", |_, r| desk::validate(program, r), LOOSE_JUMP, &row(VALIDATE_ROW, &[]));
+    check("validate_input", |_, r| desk::validate_input(LOOSE, r), LOOSE_JUMP, &row(VALIDATE_ROW, &[]));
+    check("input_parts", |_, r| desk::input_parts(LOOSE, r), LOOSE_JUMP, &row(PARTS_ROW, &[]));
+    check("draw", |l, r| desk::draw(program, &mut l.buffer[..6], r), LOOSE_JUMP, &row(DRAW_ROW, &[]));
+    check("step", |l, r| desk::step(program, 9, 8, 7, &mut l.memory[..1], r), LOOSE_JUMP, &row(STEP_ROW, &[9, 8]));
+    check("run", |l, r| desk::run(program, 11, &mut l.memory[..1], r), LOOSE_JUMP, &row(RUN_ROW, &[]));
+    check("judge", |_, r| desk::judge(program, &[4], &[9], r), LOOSE_JUMP, &row(JUDGE_ROW, &[]));
+    check("index_mark", |_, r| desk::index_mark(program, &[0, 0, 4, 9], r), LOOSE_JUMP, &row(MARK_ROW, &[]));
+    check("solve", |l, r| desk::solve(program, &[4, 0], &mut l.buffer[..3], r), LOOSE_JUMP, &row(SOLVE_ROW, &[]));
+    check("split", |_, r| desk::split(program, 14, r), LOOSE_JUMP, &row(SPLIT_ROW, &[]));
 }
 
 #[test]

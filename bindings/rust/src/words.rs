@@ -35,6 +35,7 @@ impl Display for Question {
             Question::WholeRecords => "the start list or the sheet is not whole records, at most 4,096",
             Question::Record => "a byte of a record is wrong",
             Question::RoomForRecord => "there is no room for the solver's next record",
+            Question::JumpInDo => "a break or continue is outside every do",
             Question::Class => "there is no mark or there are more than 4,096, or totals are beyond their limits",
             Question::Mark => "a mark is not from -10,000 to 10,000",
         })
@@ -139,8 +140,9 @@ mod tests {
     #[test]
     fn answers_have_words() {
         let refused = |question, place| Refusal { question, place };
-        let words: [(&dyn Display, &str); 13] = [
+        let words: [(&dyn Display, &str); 14] = [
             (&refused(Question::Tag, Place::Byte(8)), "a field's tag is not the one due (question 2, byte 8)"),
+            (&refused(Question::JumpInDo, Place::Byte(14)), "a break or continue is outside every do (question 20, byte 14)"),
             (&refused(Question::Memory, Place::None), "the memory has not as many cells as the program (question 12)"),
             (&refused(Question::Record, Place::InList(List::Sheet, 5)), "a byte of a record is wrong (question 17, byte 5 of the sheet)"),
             (&refused(Question::Mark, Place::Mark(1)), "a mark is not from -10,000 to 10,000 (question 24, mark 1)"),
@@ -175,7 +177,7 @@ mod tests {
     fn questions_have_words_and_numbers() {
         let words: std::collections::HashSet<String> = Question::ALL.iter().map(Question::to_string).collect();
         assert_eq!(words.len(), Question::ALL.len());
-        assert_eq!(Question::ALL.map(Question::number).to_vec(), [(1..=18).collect::<Vec<_>>(), vec![23, 24]].concat());
-        assert_eq!([0, 19, 22, 25, u32::MAX].map(Question::numbered), [None; 5]);
+        assert_eq!(Question::ALL.map(Question::number).to_vec(), [(1..=18).collect::<Vec<_>>(), vec![20, 23, 24]].concat());
+        assert_eq!([0, 19, 21, 22, 25, u32::MAX].map(Question::numbered), [None; 6]);
     }
 }

@@ -1,4 +1,4 @@
-//! Every function of the crate on random files, fit and damaged, against the oracle, which is written from document 01 alone.
+//! Every function of the crate on random files, fit and damaged, against the oracle, which is written from document 01 and order 7 of document 02 alone.
 
 use oracle::language::{self, Loaded, No};
 use oracle::making::Random;
@@ -9,8 +9,9 @@ use pizwoter::{Drawn, Ended, Ending, Input, List, Mark, Outcome, Place, Question
 const FILES: u64 = 20_000;
 
 fn question(No(number, place): No) -> Refusal {
-    assert!(number <= 11 || place == 0);
-    Refusal { question: Question::numbered(number).unwrap(), place: if number <= 11 { Place::Byte(place) } else { Place::None } }
+    let of_the_file = number <= 11 || number == 20;
+    assert!(of_the_file || place == 0);
+    Refusal { question: Question::numbered(number).unwrap(), place: if of_the_file { Place::Byte(place) } else { Place::None } }
 }
 
 fn list(of: language::List) -> List {

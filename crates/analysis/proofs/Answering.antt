@@ -98,7 +98,7 @@ module _ {f : Found} {before : List ℕ} where
   unfolding solvedWith bufferWith
   answered-refused {asked} {formed} x {r} e p = subst (λ (v : Validity). Answered v formed f before before r) (sym e) (record { reply = p; buffer = refl })
 
--- question 16 as code asks it, after questions 1 to 11
+-- question 16 as code asks it, after the file's questions
 pub whole-asked : {ns code : List ℕ} → Coded ns code → (initial : List ℕ) {names : ℕ} {b : Bool} {v : Validity} → names ≡ getD code nameCountPlace 0 → b ≡ wholeRecords names initial → v ≡ ask b 16 0
     → initialWhole ns initial ≡ v
 unfolding initialWhole initialWidth

@@ -36,7 +36,7 @@ listing s rs =
     ∷ tabulate (length rs) (λ k. recordLine k (nodeOf (getD rs k [])) (memoryOf (sizes s) (getD rs k []))))
     ++ (indexLine (indexMark (sizes s) (graph s) (flatten rs)) ∷ [])
 
--- whether a listing is printed: after 1 to 11, 17, whose "place counts from the start list's first byte", and 18 (16 cannot be refused here: the
+-- whether a listing is printed: after the file's questions, 17, whose "place counts from the start list's first byte", and 18 (16 cannot be refused here: the
 -- fifth field is whole records, at most 512)
 unfoldable pub printValidity : List ℕ → Found → Validity
 printValidity input f =

@@ -80,7 +80,7 @@ bufferWith Fit Fit f buffer = over (flatten (f .records)) buffer
 bufferWith Fit (Refused x) f buffer = buffer
 bufferWith (Refused x) formed f buffer = buffer
 
--- of a program file: questions 1 to 11 and 16, 17 of the start list, and the list for a buffer
+-- of a program file: the file's questions and 16, 17 of the start list, and the list for a buffer
 unfoldable pub initialValidity : List ℕ → List ℕ → Validity
 initialValidity s initial = thenAsk (validity s) (initialWhole (sizes s) initial)
 

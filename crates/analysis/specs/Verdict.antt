@@ -90,11 +90,11 @@ verdictOver ns g initial solution =
     (unlessMalformed Solution (solutionFormed ns g solution)
     (verdictBy (missingInitial ns initial solution) (missingResult ns g solution) (indexMark ns g solution))))
 
--- the verdict for a program file, of which questions 1 to 11 are asked first
+-- the verdict for a program file, of which the file's questions are asked first
 unfoldable pub verdict : List ℕ → List ℕ → List ℕ → Verdict
 verdict s initial solution = verdictUnlessRefused (validity s) (verdictOver (sizes s) (graph s) initial solution)
 
--- the index mark of a list of records by itself, of which 16 and 17 are asked after questions 1 to 11 of the program file
+-- the index mark of a list of records by itself, of which 16 and 17 are asked after the questions of the program file
 unfoldable pub solutionValidity : List ℕ → List ℕ → Validity
 solutionValidity s solution = thenAsk (validity s) (askPlain (wholeRecords (recordWidth (sizes s)) solution) 16)
 

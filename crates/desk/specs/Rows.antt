@@ -24,7 +24,7 @@ infix 40 _!_
 abbrev pub _!_ : List ℕ → ℕ → ℕ
 xs ! k = getD xs k 0
 
--- ---- questions 1 to 11, of a program file and of the sheet program's input: "0", or the question's number and its place
+-- ---- the questions of a program file and of the sheet program's input: "0", or the question's number and its place
 
 abbrev pub validationRoom : ℕ
 validationRoom = 3
@@ -173,4 +173,4 @@ joined a b = figuresTold (joinRow a b)
 -- ---- the number of the version, as the pkg-config file has it
 
 unfoldable pub version : ℕ
-version = 1
+version = 2

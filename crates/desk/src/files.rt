@@ -30,7 +30,7 @@ pub(crate) fn of_validity(v: Validity) -> Head
     }
 }
 
-// Questions 1 to 11 of a program file.
+// The questions of a program file.
 #[no_mangle]
 pub extern "C" fn pizwoter_validate(program: &[u8], reply: &mut [i64]) -> i32
     ensures { λ r. ⌜ spec.Tells row.validationRoom (row.validated (now (program .entry))) (now (reply .entry)) r (now (reply .exit)) ⌝ }
@@ -42,7 +42,7 @@ pub extern "C" fn pizwoter_validate(program: &[u8], reply: &mut [i64]) -> i32
     reply::put_head(of_validity(v), reply)
 }
 
-// Questions 1 to 11 of the sheet program's input, five fields.
+// The questions of the sheet program's input, five fields.
 #[no_mangle]
 pub extern "C" fn pizwoter_validate_input(input: &[u8], reply: &mut [i64]) -> i32
     ensures { λ r. ⌜ spec.Tells row.validationRoom (row.inputValidated (now (input .entry))) (now (reply .entry)) r (now (reply .exit)) ⌝ }

@@ -65,7 +65,7 @@ module _ (input : List ℕ) where
   unfolding printedText printedLines linesBy
   listing-printed e = rw e
 
-  -- a refusal of 1 to 11
+  -- a refusal by the file's questions
   first-refused : (x : Refusal) → inputValidity input ≡ Refused x → printValidity input (sheetOf input) ≡ Refused x
   unfolding printValidity inTurn thenAsk
   first-refused x e = rw e
@@ -73,7 +73,7 @@ module _ (input : List ℕ) where
   pub input-refused : (x : Refusal) → inputValidity input ≡ Refused x → printedText input ≡ lineText (refusalLine x)
   input-refused x e = refused-printed x (first-refused x e)
 
-  -- after 1 to 11: 17 and 18
+  -- after those: 17 and 18
   later : inputValidity input ≡ Fit → {formed : Validity} {full : Bool} → initialFormed (sizes (programPart input)) (initialPart input) ≡ formed → sheetOf input .full ≡ full
       → printValidity input (sheetOf input) ≡ thenAsk formed (thenAsk (askPlain (not full) 18) Fit)
   unfolding printValidity inTurn thenAsk
@@ -81,7 +81,7 @@ module _ (input : List ℕ) where
 
 -- ---- The solver's reply
 
--- where 1 to 11 and 16 were answered yes, it has come to its end, or to 18, or to 17
+-- where the file's questions and 16 were answered yes, it has come to its end, or to 18, or to 17
 finished : (formed : Validity) (f : Found) → solvedWith Fit formed f .solving ≡ Finished → (formed ≡ Fit) × (f .full ≡ false)
 unfolding solvedWith finishedOr
 finished Fit f e = (refl, by (f .full) e)
@@ -147,7 +147,7 @@ sheet-list : (input : List ℕ) → inputValidity input ≡ Fit → initialForme
 unfolding sheetOf
 sheet-list input fit formed = solution-list (programPart input) (initialPart input) (program-fit input fit) formed _
 
--- the reply to an input that passes 1 to 11, over a buffer of 65,536 bytes
+-- the reply to an input that passes its own questions, over a buffer of 65,536 bytes
 module _ (input : List ℕ) (fit : inputValidity input ≡ Fit) where
   start-whole : initialValidity (programPart input) (initialPart input) ≡ Fit
   unfolding initialValidity thenAsk initialWhole wholeRecords initialWidth recordCount ask

@@ -58,7 +58,7 @@ fn put_listing(program: &[u8], buffer: &[u8], count: u16, out: &mut [u8]) -> usi
     put_index_of(program, list, after_records, out)
 }
 
-// 17 and 18 are the only refusals of the solver that come up: 1 to 11 are asked before, and by question 3 of the fifth field the start list is whole
+// 17 and 18 are the only refusals of the solver that come up: the file's questions are asked before, and by question 3 of the fifth field the start list is whole
 // records, at most 512, so 16 is never refused. 18 has no place.
 fn render_fit(input: &[u8], out: &mut [u8]) -> usize
     requires { ⌜ (Questions.inputValidity (now input) ≡ Validity.Fit) × parts.Room 0 (spec.printedText (now input)) (now out) ⌝ }

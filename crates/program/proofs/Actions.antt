@@ -6,7 +6,7 @@ use Prim.Native.Nat.{ℕ, _+_, _<_}
 use lib.Dec.{T}
 use lib.ListN.{getD}
 use Rattle.program.specs.File.{sizes, entryCount, entry}
-use Rattle.program.specs.Graph.{perform, leave, Edge, edge, guardAction, part, graph, edges, edgeCount, actionKind, actionEntry}
+use Rattle.program.specs.Graph.{perform, leave, Edge, Around, within, edge, guardAction, part, graph, edges, edgeCount, actionKind, actionEntry}
 use Rattle.program.specs.Questions.{validity}
 use Rattle.program.specs.Parts.Sorted.{actionNamed, actionPoints, actionTable, actionOf}
 use Rattle.program.specs.Syntax.{Command}
@@ -15,7 +15,7 @@ use Rattle.program.specs.declared.Table.the-variants.{Boolean as Boolean
 use Rattle.program.specs.declared.Validity.the-variants.{Fit}
 use Rattle.program.proofs.Expressions.{boolean-sorted}
 use Rattle.program.proofs.Lists.{Each, none, more, each-append, each-at}
-use Rattle.program.proofs.Made.{Made, makeSkip, makeAssign, makeStore, makeSequence, makeConditional, makeIteration, makeGuarded, makeChoice}
+use Rattle.program.proofs.Made.{Made, makeSkip, makeAssign, makeStore, makeSequence, makeConditional, makeIteration, makeGuarded, makeChoice, makeJump}
 use Rattle.program.proofs.Sorting.{made-at, made-entry, made-guarded, made-named, made-points, done-named, script-made}
 use Rattle.program.proofs.Tests.{both, passed}
 use Rattle.program.proofs.Trees.{boolean-entry}
@@ -59,21 +59,22 @@ module _ (s : List ℕ) (fit : validity s ≡ Fit) where
         exists = rw (made-entry m) (made-at m .exists);
       }
 
-  part-faithful : {g : Bool} {k : ℕ} {c : Command} → Made s g k c → (a b n : ℕ) → Each (Faithful s) (part c a b n .edges)
+  part-faithful : {g : Bool} {k : ℕ} {c : Command} → Made s g k c → (o : Around) (a b n : ℕ) → Each (Faithful s) (part o c a b n .edges)
   unfolding part
-  part-faithful (makeSkip e) a b n = more (performed (makeSkip e)) none
-  part-faithful (makeAssign e x v) a b n = more (performed (makeAssign e x v)) none
-  part-faithful (makeStore e x i v) a b n = more (performed (makeStore e x i v)) none
-  part-faithful (makeSequence e l m c d) a b n = each-append (part-faithful c a n (n + 1)) (part-faithful d n b _)
-  part-faithful (makeConditional e l c) a b n = part-faithful c a b n
-  part-faithful (makeIteration e l c) a b n = each-append (part-faithful c a a n) (more (left c) none)
-  part-faithful (makeGuarded e h l c) a b n = more (tested _ h) (part-faithful c n b (n + 1))
-  part-faithful (makeChoice e l m c d) a b n = each-append (part-faithful c a b n) (part-faithful d a b _)
+  part-faithful (makeSkip e) o a b n = more (performed (makeSkip e)) none
+  part-faithful (makeAssign e x v) o a b n = more (performed (makeAssign e x v)) none
+  part-faithful (makeStore e x i v) o a b n = more (performed (makeStore e x i v)) none
+  part-faithful (makeSequence e l m c d) o a b n = each-append (part-faithful c o a n (n + 1)) (part-faithful d o n b _)
+  part-faithful (makeConditional e l c) o a b n = part-faithful c o a b n
+  part-faithful (makeIteration e l c) o a b n = each-append (part-faithful c (within a b) a a n) (more (left c) none)
+  part-faithful (makeGuarded e h l c) o a b n = more (tested _ h) (part-faithful c o n b (n + 1))
+  part-faithful (makeChoice e l m c d) o a b n = each-append (part-faithful c o a b n) (part-faithful d o a b _)
+  part-faithful (makeJump e) o a b n = more (performed (makeJump e)) none
 
   -- of all edges, and at an index
   pub edges-faithful : Each (Faithful s) (edges s)
   unfolding edges graph
-  edges-faithful = part-faithful (script-made s fit) 0 1 2
+  edges-faithful = part-faithful (script-made s fit) (within 0 1) 0 1 2
 
   pub edge-faithful : (k : ℕ) (d : Edge) → k < edgeCount s → Faithful s (getD (edges s) k d)
   unfolding edgeCount

@@ -1,5 +1,5 @@
 -- Two files with the same layout, sizes and entries: questions 6 to 11 have the same answer.
-use mathlib.Core.Path.{_≡_, refl, ap}
+use mathlib.Core.Path.{_≡_, refl, ap, _∙_}
 use mathlib.Core.Bool.{Bool, true, false, _&&_}
 use mathlib.Core.List.{List}
 use Prim.Native.Nat.{ℕ, zero, suc, _+_, _*_, _-_, _≤_, _<_}
@@ -8,8 +8,10 @@ use native.Mathlib.Omega.{arith}
 use lib.Dec.{ltb}
 use borrow.Author.Tests.{ltb-true}
 use Rattle.program.specs.File.{layoutOf, spanOf, nameCount, sizeAt, sizes, entryCount, tableStart, entryOffset, entry}
+use Rattle.program.specs.Jumps.{loose}
 use Rattle.program.specs.Kind.{Role, Unused, Half, Variable, Array, To, Roles, Shape, Unknown, Known, shape, tableOf}
-use Rattle.program.specs.Questions.{nameValidity, named, sameTable, limit, ofSort, points, eachOperand, shapeValidity, entryValidity, tableValidity, entryUses, tableUses, uses, useValidity, usedValidity, lastCommand, lastValidity, usesValidity, contentValidity}
+use Rattle.program.specs.Questions.{nameValidity, named, sameTable, limit, ofSort, points, eachOperand, shapeValidity, entryValidity, tableValidity, entryUses, tableUses, uses, useValidity, usedValidity, lastValidity, usesValidity, jumpValidity, jumpsValidity, contentValidity}
+use Rattle.program.specs.Tree.{commandAt, lastCommand, script}
 use Rattle.program.specs.declared.Entry.{Entry}
 use Rattle.program.specs.declared.Layout.{Layout}
 use Rattle.program.specs.declared.Sort.{Sort}
@@ -18,6 +20,7 @@ use Rattle.program.specs.declared.Table.{Table}
 use Rattle.program.specs.declared.Table.the-variants.{Arithmetic, Boolean, Commands}
 use Rattle.program.proofs.Asking.{each-same}
 use Rattle.program.proofs.Lists.{tabulate-same}
+use Rattle.program.proofs.Loose.{same-loose}
 
 -- the second of two tests counts where the first passes
 and-same : (a : Bool) {b c : Bool} → (a ≡ true → b ≡ c) → (a && b) ≡ (a && c)
@@ -141,7 +144,19 @@ module _ (p s : List ℕ) (agree : Agree p s) where
       let last = entryCount s Commands - 1 in
       rw (same-count Commands, agree .same-entry Commands last (omega arith), same-offset Commands last)
 
-  -- questions 6 to 11
+  -- question 20
+  same-script : 1 ≤ entryCount s Commands → (n : ℕ) → loose n (script p) ≡ loose n (script s)
+  unfolding script lastCommand
+  same-script h n =
+      let last = entryCount s Commands - 1 in
+      ap (λ (k : ℕ). loose n (commandAt (entry p) (k - 1))) (same-count Commands)
+      ∙ same-loose (entry p) (entry s) (entryCount s Commands) (agree .same-entry Commands) last (omega arith) n
+
+  same-jumps : 1 ≤ entryCount s Commands → jumpsValidity p ≡ jumpsValidity s
+  unfolding jumpsValidity jumpValidity
+  same-jumps h = rw (same-count Commands) (each-same _ _ _ (λ n l. rw (same-offset Commands n, same-script h n)))
+
+  -- questions 6 to 11 and 20
   pub same-content : 1 ≤ entryCount s Commands → contentValidity p ≡ contentValidity s
   unfolding contentValidity usesValidity
   same-content h =
@@ -155,4 +170,5 @@ module _ (p s : List ℕ) (agree : Agree p s) where
         same-used Boolean,
         same-used Commands,
         same-last h,
+        same-jumps h,
       )

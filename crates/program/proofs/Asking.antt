@@ -1,7 +1,7 @@
 -- Laws of asking: what a fit answer says of each question, and what the first refusal says of all.
 use mathlib.Core.Path.{_≡_, refl, sym, _∙_, ap}
 use mathlib.Core.Bool.{Bool, true, false, false≢true}
-use mathlib.Core.List.{List, [], _∷_}
+use mathlib.Core.List.{List, [], _∷_, _++_}
 use Prim.Native.Nat.{ℕ, zero, suc, _<_}
 use lib.ListN.{getD}
 use native.Mathlib.Omega.{arith}
@@ -9,7 +9,7 @@ use Rattle.program.specs.Asking.{ask, thenAsk, isRefused, inTurn, askEac
 use Rattle.program.specs.declared.Refusal.{Refusal}
 use Rattle.program.specs.declared.Validity.{Validity}
 use Rattle.program.specs.declared.Validity.the-variants.{Fit, Refused}
-use Rattle.program.proofs.FirstSuch.{first-same, first-nothing, first-at, first-more}
+use Rattle.program.proofs.FirstSuch.{first-same, first-nothing, first-at, first-more, all-nothing}
 
 -- a refusal is not fit
 pub refused-unfit {ℓ} : {A : Type ℓ} (x : Refusal) → Refused x ≡ Fit → A
@@ -41,6 +41,13 @@ unfolding inTurn
 turn-fit [] k e = refl
 turn-fit (x ∷ xs) zero e = then-first x (inTurn xs) e
 turn-fit (x ∷ xs) (suc k) e = turn-fit xs k (then-second x (inTurn xs) e)
+
+-- one question more, after some in turn
+pub turn-last : (xs : List Validity) (w : Validity) → inTurn (xs ++ (w ∷ [])) ≡ thenAsk (inTurn xs) w
+unfolding inTurn thenAsk
+turn-last [] w = then-fit w
+turn-last (Fit ∷ xs) w = turn-last xs w
+turn-last (Refused x ∷ xs) w = refl
 
 -- how code asks: an answer v to the first questions is returned where it is a refusal, and the next asked where it is not
 pub stops : (a b v : Validity) (r : Bool) → v ≡ a → r ≡ isRefused v → r ≡ true → v ≡ thenAsk a b
@@ -81,6 +88,11 @@ fit-only v i = not-refused v (isRefused v) refl i
 pub each-fit : (n : ℕ) (q : ℕ → Validity) → askEach n q ≡ Fit → (k : ℕ) → k < n → q k ≡ Fit
 unfolding askEach isRefused
 each-fit = first-nothing isRefused Fit refl fit-only
+
+-- and the other way round
+pub each-yes : (n : ℕ) (q : ℕ → Validity) → ((k : ℕ) → k < n → q k ≡ Fit) → askEach n q ≡ Fit
+unfolding askEach isRefused
+each-yes = all-nothing isRefused Fit refl fit-only
 
 -- how code asks in a loop: the answer v at k is returned where it is a refusal
 pub each-stops : (n : ℕ) (q : ℕ → Validity) (k : ℕ) (v : Validity) (r : Bool) → k < n → askEach k q ≡ Fit → v ≡ q k → r ≡ isRefused v → r ≡ true → v ≡ askEach n q

@@ -7,50 +7,51 @@ use native.Mathlib.Nat.{zero-mul, one-mul, add-mul}
 use native.Mathlib.Omega.{arith}
 use lib.ListN.{length, length-append}
 use Rattle.program.specs.File.{entryCount, entry}
-use Rattle.program.specs.Graph.{leave, edge, part, graph, edges, edgeCount, nodeCount}
+use Rattle.program.specs.Graph.{leave, edge, Around, within, part, graph, edges, edgeCount, nodeCount}
 use Rattle.program.specs.Kind.{Role, Unused, Half, Variable, Array, To, Shape, Unknown, Known, kinds, shape, tableOf, commandKind}
-use Rattle.program.specs.Questions.{sameTable, limit, refersTo, shapeUses, entryUses, tableUses, uses, lastCommand, validity}
+use Rattle.program.specs.Questions.{sameTable, limit, refersTo, shapeUses, entryUses, tableUses, uses, validity}
 use Rattle.program.specs.Parts.Sorted.{commandSize}
 use Rattle.program.specs.Syntax.{Command}
-use Rattle.program.specs.Tree.{commandNode, commandTrees, commandAt, script, commandMade}
+use Rattle.program.specs.Tree.{commandNode, commandTrees, commandAt, lastCommand, script, commandMade}
 use Rattle.program.specs.declared.Entry.{Entry}
 use Rattle.program.specs.declared.Sort.the-variants.{Expression, Condition, Command as Commanding, Guarded}
 use Rattle.program.specs.declared.Table.{Table}
 use Rattle.program.specs.declared.Table.the-variants.{Arithmetic, Boolean as Booleans, Commands}
 use Rattle.program.specs.declared.Validity.the-variants.{Fit}
 use Rattle.program.proofs.Fit.{counts, one-last, used-once}
-use Rattle.program.proofs.Induction.{by-kind}
-use Rattle.program.proofs.Made.{Made, makeSkip, makeAssign, makeStore, makeSequence, makeConditional, makeIteration, makeGuarded, makeChoice}
+use Rattle.program.proofs.Induction.{by-kind, by-command}
+use Rattle.program.proofs.Made.{Made, makeSkip, makeAssign, makeStore, makeSequence, makeConditional, makeIteration, makeGuarded, makeChoice, makeJump}
 use Rattle.program.proofs.Operands.{Operand, Operands, operands-fit}
 use Rattle.program.proofs.Sorting.{script-made}
 use Rattle.program.proofs.Sums.{total, total-same, total-zero, total-one-more, total-add, total-mul, exchange, once}
 use Rattle.program.proofs.Trees.{command-below}
 
 -- what a command's edges and fresh nodes are bounded by, where a guarded command has nothing to spare
-record Bounded (spare : ℕ) (c : Command) (a b n : ℕ) : Type 0 where
-  edges-bounded : length (part c a b n .edges) + 2 * n ≤ 2 * part c a b n .fresh + spare
-  nodes-bounded : 2 * part c a b n .fresh + spare ≤ 2 * n + commandSize c
+record Bounded (spare : ℕ) (o : Around) (c : Command) (a b n : ℕ) : Type 0 where
+  edges-bounded : length (part o c a b n .edges) + 2 * n ≤ 2 * part o c a b n .fresh + spare
+  nodes-bounded : 2 * part o c a b n .fresh + spare ≤ 2 * n + commandSize c
 
-bounded : {s : List ℕ} {g : Bool} {k : ℕ} {c : Command} → Made s g k c → (a b n : ℕ) → Bounded (cond g 0 1) c a b n
+bounded : {s : List ℕ} {g : Bool} {k : ℕ} {c : Command} → Made s g k c → (o : Around) (a b n : ℕ) → Bounded (cond g 0 1) o c a b n
 unfolding part commandSize
-bounded (makeSkip e) a b n = omega arith
-bounded (makeAssign e x v) a b n = omega arith
-bounded (makeStore e x i v) a b n = omega arith
-bounded (makeSequence {c = x} {d = y} e l m c d) a b n =
-    let first = bounded c a n (n + 1) in
-    let second = bounded d n b (part x a n (n + 1) .fresh) in
-    let joined = length-append (part x a n (n + 1) .edges) (part y n b (part x a n (n + 1) .fresh) .edges) in
+bounded (makeSkip e) o a b n = omega arith
+bounded (makeAssign e x v) o a b n = omega arith
+bounded (makeStore e x i v) o a b n = omega arith
+bounded (makeSequence {c = x} {d = y} e l m c d) o a b n =
+    let first = bounded c o a n (n + 1) in
+    let second = bounded d o n b (part o x a n (n + 1) .fresh) in
+    let joined = length-append (part o x a n (n + 1) .edges) (part o y n b (part o x a n (n + 1) .fresh) .edges) in
     omega arith
-bounded (makeConditional e l c) a b n = let body = bounded c a b n in omega arith
-bounded (makeIteration {c = x} e l c) a b n =
-    let body = bounded c a a n in
-    omega (arith, length-append (part x a a n .edges) (edge a (leave x) b ∷ []))
-bounded (makeGuarded e h l c) a b n = let body = bounded c n b (n + 1) in omega arith
-bounded (makeChoice {c = x} {d = y} e l m c d) a b n =
-    let first = bounded c a b n in
-    let second = bounded d a b (part x a b n .fresh) in
-    let joined = length-append (part x a b n .edges) (part y a b (part x a b n .fresh) .edges) in
+bounded (makeConditional e l c) o a b n = let body = bounded c o a b n in omega arith
+bounded (makeIteration {c = x} e l c) o a b n =
+    let body = bounded c (within a b) a a n in
+    omega (arith, length-append (part (within a b) x a a n .edges) (edge a (leave x) b ∷ []))
+bounded (makeGuarded e h l c) o a b n = let body = bounded c o n b (n + 1) in omega arith
+bounded (makeChoice {c = x} {d = y} e l m c d) o a b n =
+    let first = bounded c o a b n in
+    let second = bounded d o a b (part o x a b n .fresh) in
+    let joined = length-append (part o x a b n .edges) (part o y a b (part o x a b n .fresh) .edges) in
     omega arith
+bounded (makeJump e) o a b n = omega arith
 
 -- an entry of the first two tables refers to no command
 no-arith-use : (r k : ℕ) (e : Entry) → shapeUses Commands r (shape Arithmetic k) e ≡ 0
@@ -114,7 +115,7 @@ module _ (s : List ℕ) where
       → commandSize (commandNode (entry s) (commandTrees (entry s) n) n (record { kind = k; p = p; q = q; r = r })) ≡ 1 + weights (shape Commands k) (record { kind = k; p = p; q = q; r = r })
   unfolding shape kinds limit sameTable tableOf commandKind commandMade commandSize size weight weights
   node-size n =
-      by-kind _
+      by-command _
       (λ p q r h. refl)
       (λ p q r h. refl)
       (λ p q r h. refl)
@@ -123,6 +124,8 @@ module _ (s : List ℕ) where
       (λ p q r h. rw (command-below (entry s) n p (h .0 .lower)) (omega arith))
       (λ p q r h. rw (command-below (entry s) n q (h .1 .lower)) (omega arith))
       (λ p q r h. rw (command-below (entry s) n p (h .0 .lower), command-below (entry s) n q (h .1 .lower)) (omega arith))
+      (λ p q r h. refl)
+      (λ p q r h. refl)
       (λ k p q r h. absurd h)
 
   module _ (fit : validity s ≡ Fit) where
@@ -161,8 +164,8 @@ module _ (s : List ℕ) where
     unfolding script size total
     script-size = omega (arith, all-sizes, ap (total size) (one-last s fit))
 
-    script-bounded : Bounded 1 (script s) 0 1 2
-    script-bounded = bounded (script-made s fit) 0 1 2
+    script-bounded : Bounded 1 (within 0 1) (script s) 0 1 2
+    script-bounded = bounded (script-made s fit) (within 0 1) 0 1 2
 
     -- "There are at most 129 nodes and 255 arrows."
     pub few-nodes : nodeCount s ≤ 129

@@ -1,4 +1,4 @@
--- Document 01's worked examples on files and graphs hold of the definitions, by computation.
+-- The worked examples on files and graphs hold of the definitions, by computation.
 use lib.Dec.{T}
 use Rattle.signs.specs.Case.{allHold}
 use Rattle.program.specs.Examples.{cases}

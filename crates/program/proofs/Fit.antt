@@ -1,6 +1,6 @@
 -- What the questions say of a program that passes them all.
 use mathlib.Core.Path.{_≡_, refl, ap}
-use mathlib.Core.Bool.{true}
+use mathlib.Core.Bool.{true, false}
 use mathlib.Core.List.{List}
 use Prim.Native.Nat.{ℕ, suc, _+_, _*_, _-_, _/_, _%_, _≤_, _<_}
 use native.Mathlib.Decide.{decLt}
@@ -8,11 +8,13 @@ use native.Mathlib.Omega.{arith}
 use lib.Dec.{leb, eqb}
 use lib.ListN.{length, getD, take, List·getD-eq-default}
 use lib.Seq.{take-all}
-use borrow.Author.Tests.{leb-true, eqb-true}
+use borrow.Author.Tests.{leb-true, eqb-true, not-true}
 use Rattle.program.specs.Parts.Layouts.{LaidOut}
 use Rattle.program.specs.File.{wordAt, namesField, tableField, programFields, headFound, headAt, placeAfter, fieldStart, fieldHead, headSpan, layoutOf, spanOf, nameCount, sizeAt, sizes, entryCount, tableStart, entry, cellCount}
+use Rattle.program.specs.Jumps.{loose}
 use Rattle.program.specs.Kind.{isCommand}
-use Rattle.program.specs.Questions.{wholeEntries, headValidity, headsValidity, nameValidity, entryValidity, tableValidity, uses, useValidity, toBeUsed, usedValidity, lastCommand, lastValidity, usesValidity, contentValidity, validity}
+use Rattle.program.specs.Questions.{wholeEntries, headValidity, headsValidity, nameValidity, entryValidity, tableValidity, uses, useValidity, toBeUsed, usedValidity, lastValidity, usesValidity, jumpValidity, jumpsValidity, contentValidity, validity}
+use Rattle.program.specs.Tree.{lastCommand, script}
 use Rattle.program.specs.declared.Field.{Field}
 use Rattle.program.specs.declared.Layout.{Layout}
 use Rattle.program.specs.declared.Span.{Span}
@@ -60,7 +62,7 @@ module _ (s : List ℕ) (e : headsValidity s 0 programFields ≡ Fit) where
   table-allowed Commands = head-fit s (fieldStart s 3) _ (field-fit s e 3 (omega arith))
 
   -- all bytes of a table's entries are there
-  entries-whole : (t : Table) → spanOf (layoutOf s) t .start + 7 * spanOf (layoutOf s) t .count ≤ length s
+  pub entries-whole : (t : Table) → spanOf (layoutOf s) t .start + 7 * spanOf (layoutOf s) t .count ≤ length s
   unfolding programFields layoutOf fieldHead spanOf headSpan headFound tableField
   entries-whole Arithmetic = let w = whole s (fieldStart s 1) _ (field-fit s e 1 (omega arith)) in rw (w .found) (omega (arith, w .known .inside))
   entries-whole Boolean = let w = whole s (fieldStart s 2) _ (field-fit s e 2 (omega arith)) in rw (w .found) (omega (arith, w .known .inside))
@@ -150,6 +152,11 @@ module _ (s : List ℕ) (fit : validity s ≡ Fit) where
   pub used-once : (n : ℕ) → n < lastCommand s → uses s Commands n ≡ 1
   unfolding useValidity usesValidity usedValidity toBeUsed lastCommand
   used-once n h = eqb-true (uses s Commands n) 1 (ask-fit _ 10 _ (each-fit _ _ (turn-fit _ 2 uses-fit) n h))
+
+  -- question 20, of each command
+  pub tight-fit : (n : ℕ) → n < entryCount s Commands → loose n (script s) ≡ false
+  unfolding contentValidity jumpsValidity jumpValidity
+  tight-fit n h = not-true _ (ask-fit _ 20 _ (each-fit _ _ (turn-fit _ 5 content-fit) n h))
 
   -- question 11
   pub last-fit : isCommand (entry s Commands (lastCommand s) .kind) ≡ true

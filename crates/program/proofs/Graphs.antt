@@ -8,12 +8,12 @@ use lib.Seq.{getD-append-add, getD-set-same, getD-set-other}
 use borrow.Author.Tests.{lt-ltb}
 use Rattle.program.specs.Parts.DrawingParts.{overAt}
 use Rattle.program.specs.File.{layoutOf, spanOf, entryCount, entryOffset, entryAt, entry}
-use Rattle.program.specs.Graph.{Edge, edgeAt, graph, edges, edgeCount, nodeCount}
+use Rattle.program.specs.Graph.{Edge, within, edgeAt, graph, edges, edgeCount, nodeCount}
 use Rattle.program.specs.Parts.GraphingParts.{edgeWords, Strip, strip, freshOf, nextOf, partAt, Drew, Room}
 use Rattle.program.specs.Parts.Prepared.{edgePlace, nodeCountPlace, edgeCountPlace, numbersAt, entriesIn, edgeIn}
 use Rattle.program.specs.Parts.Preparing.{Copied, EdgeWords, GraphIn}
-use Rattle.program.specs.Questions.{lastCommand, validity}
-use Rattle.program.specs.Tree.{script}
+use Rattle.program.specs.Questions.{validity}
+use Rattle.program.specs.Tree.{lastCommand, script}
 use Rattle.program.specs.declared.Layout.{Layout}
 use Rattle.program.specs.declared.Span.{Span}
 use Rattle.program.specs.declared.Table.the-variants.{Commands}
@@ -74,10 +74,10 @@ module _ (s : List ℕ) (fit : validity s ≡ Fit) (l : Layout) (laid : l ≡ la
     same-command n h = rw (lt-ltb n 256 (omega (arith, commands-within .few))) (copied-command n h)
 
     -- the program is the last of them, as a part of all
-    program-strip : strip (partAt (entriesIn [] out) (l .commands .count) (l .commands .count - 1)) 0 1 2 ≡ whole
+    program-strip : strip (within 0 1) (partAt (entriesIn [] out) (l .commands .count) (l .commands .count - 1)) 0 1 2 ≡ whole
     unfolding strip nodeCount edges graph script lastCommand spanOf
     program-strip =
-        same-strip (entriesIn [] out) (entry s) (l .commands .count) same-command (l .commands .count - 1) 0 1 2
+        same-strip (entriesIn [] out) (entry s) (l .commands .count) same-command (l .commands .count - 1) (within 0 1) 0 1 2
         ∙ rw (laid-count s l laid Commands, command-below (entry s) (entryCount s Commands) (entryCount s Commands - 1) (omega (arith, counts s fit .some-command)))
 
     whole-length : length (flatMap edgeWords (edges s)) ≡ 4 * edgeCount s
@@ -85,13 +85,13 @@ module _ (s : List ℕ) (fit : validity s ≡ Fit) (l : Layout) (laid : l ≡ la
     whole-length = words-length (edges s)
 
     -- 255 edges have room, and 129 nodes numbers
-    pub program-room : Room (strip (partAt (entriesIn [] out) (l .commands .count) (l .commands .count - 1)) 0 1 2) 0
+    pub program-room : Room (strip (within 0 1) (partAt (entriesIn [] out) (l .commands .count) (l .commands .count - 1)) 0 1 2) 0
     program-room =
         rw program-strip
         record { words-fit = omega (arith, whole-length, few-edges s fit); nodes-fit = omega (arith, few-nodes s fit) }
 
     -- where the edges are drawn and counted
-    module _ {drawn : List ℕ} {r : ℕ} (drew : Drew (strip (partAt (entriesIn [] out) (l .commands .count) (l .commands .count - 1)) 0 1 2) 0 out drawn r) where
+    module _ {drawn : List ℕ} {r : ℕ} (drew : Drew (strip (within 0 1) (partAt (entriesIn [] out) (l .commands .count) (l .commands .count - 1)) 0 1 2) 0 out drawn r) where
       d : Drew whole 0 out drawn r
       d = rw program-strip at drew
 

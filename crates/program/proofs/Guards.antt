@@ -4,7 +4,7 @@ use mathlib.Core.List.{List, [], _∷_, _++_, foldl}
 use Prim.Native.Nat.{ℕ}
 use Rattle.program.specs.Graph.{done}
 use Rattle.program.specs.Parts.Guards.{guards, allFalse}
-use Rattle.program.specs.Syntax.{Boolean, truth, conjunction, negation, Command, skip, assign, store, sequence, conditional, iteration, guarded, choice}
+use Rattle.program.specs.Syntax.{Boolean, truth, conjunction, negation, Command, skip, assign, store, sequence, conditional, iteration, guarded, choice, jump}
 
 -- a meaning of booleans: what it makes of ∧, of true, and of ¬, whose entry it does not look at
 pub record Joins {A : Type 0} (h : Boolean → A) (join : A → A → A) (unit : A) : Type 0 where
@@ -54,6 +54,7 @@ module _ {A : Type 0} {h : Boolean → A} {join : A → A → A} {unit : A} (j :
   done-folded (sequence k c d) = j .yes k
   done-folded (conditional k c) = j .yes k
   done-folded (iteration k c) = j .yes k
+  done-folded (jump k x) = j .yes k
 
   pub left-to-right : (c : Command) → h (done c) ≡ h (allFalse (guards c))
   left-to-right c = done-folded c ∙ sym (all-false (guards c))

@@ -11,7 +11,8 @@ use Rattle.program.specs.Parts.DrawingParts.{edgeNumbers}
 use Rattle.program.specs.Drawing.{over, drawnNumbers, edgeRead}
 use Rattle.program.specs.File.{nameCount, sizeAt, sizes, entryCount, entry, cellsOf, cellCount, firstCell}
 use Rattle.program.specs.FirstSuch.{firstOf, firstSuch}
-use Rattle.program.specs.Graph.{Graph, Action, Edge, done, edges, edgeCount, nodeCount, graphBytes}
+use Rattle.program.specs.Graph.{Graph, Action, Edge, Around, within, part, done, graph, edges, edgeCount, nodeCount, graphBytes}
+use Rattle.program.specs.Jumps.{loose}
 use Rattle.program.specs.Kind.{isGuarded}
 use Rattle.program.specs.Parts.Guards.{guards, allFalse}
 use Rattle.program.specs.Meaning.{meaning}
@@ -48,6 +49,7 @@ use Rattle.program.proofs.Forms.{ArithParts, BooleanParts, CommandParts
 use Rattle.program.proofs.Guards
 use Rattle.program.proofs.Guards.{Joins}
 use Rattle.program.proofs.Inputs
+use Rattle.program.proofs.Loose
 use Rattle.program.proofs.Made.{made}
 use Rattle.program.proofs.Nodes
 use Rattle.program.proofs.Nodes.{Inside}
@@ -111,7 +113,7 @@ module _ (es : Entries) where
   pub boolean-unknown : (n : ℕ) → 7 ≤ es Boolean n .kind → booleanAt es n ≡ truth n
   boolean-unknown = Trees.boolean-unknown es
 
-  pub command-unknown : (n : ℕ) → 8 ≤ es Commands n .kind → commandAt es n ≡ skip n
+  pub command-unknown : (n : ℕ) → 10 ≤ es Commands n .kind → commandAt es n ≡ skip n
   command-unknown = Trees.command-unknown es
 
   -- a reference to an entry below leads to the tree at that entry, and any other to a leaf
@@ -213,7 +215,7 @@ same-row = Readback.same-row
 abbrev pub refusalRead : List ℕ → Refusal
 refusalRead = Readback.refusalRead
 
--- a reply is fixed by its row alone: of questions 1 to 11, and of a graph drawn
+-- a reply is fixed by its row alone: of a file's questions, and of a graph drawn
 pub validity-row : (v w : Validity) → validityNumbers v ≡ validityNumbers w → v ≡ w
 validity-row = Readback.validity-row
 
@@ -343,7 +345,7 @@ two-nodes = Nodes.two-nodes
 pub edge-inside : (s : List ℕ) (k : ℕ) (d : Edge) → k < edgeCount s → Inside (nodeCount s) (getD (edges s) k d)
 edge-inside = Nodes.edge-inside
 
--- ---- Of a well-formed file: "A script is well formed if it passes questions 1 to 11"
+-- ---- Of a well-formed file: "A script is well formed if it passes questions 1 to 11", and order 7: "'well formed' takes in 20"
 
 module _ (s : List ℕ) (fit : validity s ≡ Fit) where
   -- the fields have as many entries as are allowed, so there is a name at least
@@ -401,6 +403,14 @@ module _ (s : List ℕ) (fit : validity s ≡ Fit) where
   pub script-command : isGuardedTree (script s) ≡ false
   script-command = Sorting.script-command s fit
 
+  -- (order 7) no entry is a jump outside every do, so the graph is that of the script inside any loop whatever
+  pub no-loose : (n : ℕ) → loose n (script s) ≡ false
+  no-loose = Loose.no-loose s fit
+
+  pub any-around : (o : Around) → graph s ≡ record { edges = part o (script s) 0 1 2 .edges; nodes = part o (script s) 0 1 2 .fresh }
+  unfolding graph
+  any-around o = rw (Loose.same-around (script s) no-loose (within 0 1) o 0 1 2)
+
   -- an edge's action is that of its kind and entry, its names and references are as above, an exit's names those of its condition, and its entry
   -- exists
   pub edge-faithful : (k : ℕ) (d : Edge) → k < edgeCount s → Faithful s (getD (edges s) k d)
@@ -410,7 +420,7 @@ module _ (s : List ℕ) (fit : validity s ≡ Fit) where
   pub drawn-edge-read : (k : ℕ) (d : Edge) → k < edgeCount s → (buffer : List ℕ) → edgeRead (over (graphBytes s) buffer) k ≡ edgeNumbers (getD (edges s) k d)
   drawn-edge-read = EdgeReading.drawn-edge-read s fit
 
--- ---- The sheet program's input, where it passes questions 1 to 11
+-- ---- The sheet program's input, where it passes its questions
 
 module _ (s : List ℕ) (fit : inputValidity s ≡ Fit) where
   -- the program part is well formed, and has the input's names

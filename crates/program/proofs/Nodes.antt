@@ -5,9 +5,11 @@ use Prim.Native.Nat.{ℕ, _+_, _≤_, _<_}
 use native.Mathlib.Nat.{le-refl}
 use native.Mathlib.Omega.{arith}
 use lib.ListN.{getD}
-use Rattle.program.specs.Graph.{Action, Edge, edge, part, graph, edges, edgeCount, nodeCount}
-use Rattle.program.specs.Syntax.{Command, skip, assign, store, sequence, conditional, iteration, guarded, choice}
+use Rattle.program.specs.Graph.{Action, Edge, edge, Around, within, landing, part, graph, edges, edgeCount, nodeCount}
+use Rattle.program.specs.Syntax.{Command, skip, assign, store, sequence, conditional, iteration, guarded, choice, jump}
 use Rattle.program.specs.Tree.{script}
+use Rattle.program.specs.declared.Jump.{Jump}
+use Rattle.program.specs.declared.Jump.the-variants.{Break, Continue}
 use Rattle.program.proofs.Lists.{Each, none, more, each-append, each-at}
 
 -- what holds of an edge in a graph of so many nodes
@@ -19,56 +21,65 @@ pub record Inside (nodes : ℕ) (e : Edge) : Type 0 where
 inside : {nodes a b : ℕ} {x : Action} → a < nodes → b < nodes → a ≢ 1 → Inside nodes (edge a x b)
 inside ha hb na = record { source-inside = ha; target-inside = hb; source-not-end = na }
 
--- nodes are made, never unmade
-pub fresh-grows : (c : Command) (a b n : ℕ) → n ≤ part c a b n .fresh
-unfolding part
-fresh-grows (skip k) a b n = omega arith
-fresh-grows (assign k x e) a b n = omega arith
-fresh-grows (store k x i e) a b n = omega arith
-fresh-grows (sequence k c d) a b n = omega (arith, fresh-grows c a n (n + 1), fresh-grows d n b (part c a n (n + 1) .fresh))
-fresh-grows (conditional k c) a b n = fresh-grows c a b n
-fresh-grows (iteration k c) a b n = fresh-grows c a a n
-fresh-grows (guarded k g c) a b n = omega (arith, fresh-grows c n b (n + 1))
-fresh-grows (choice k c d) a b n = omega (arith, fresh-grows c a b n, fresh-grows d a b (part c a b n .fresh))
+-- a jump goes to a node of the graph, where the loop around it has its nodes there
+landing-inside : (nodes : ℕ) (o : Around) (j : Jump) → o .first < nodes → o .last < nodes → landing o j < nodes
+unfolding landing
+landing-inside m o Break hf hl = hl
+landing-inside m o Continue hf hl = hf
 
--- a command's edges between two nodes of the graph stay inside it, for as many nodes as it makes
-part-inside : (nodes : ℕ) (c : Command) (a b n : ℕ) → a < nodes → a ≢ 1 → b < nodes → 2 ≤ n → part c a b n .fresh ≤ nodes → Each (Inside nodes) (part c a b n .edges)
+-- nodes are made, never unmade
+pub fresh-grows : (o : Around) (c : Command) (a b n : ℕ) → n ≤ part o c a b n .fresh
 unfolding part
-part-inside m (skip k) a b n ha na hb hn hf = more (inside ha hb na) none
-part-inside m (assign k x e) a b n ha na hb hn hf = more (inside ha hb na) none
-part-inside m (store k x i e) a b n ha na hb hn hf = more (inside ha hb na) none
-part-inside m (sequence k c d) a b n ha na hb hn hf =
-    let grows = fresh-grows c a n (n + 1) in
-    let grows-more = fresh-grows d n b (part c a n (n + 1) .fresh) in
+fresh-grows o (skip k) a b n = omega arith
+fresh-grows o (assign k x e) a b n = omega arith
+fresh-grows o (store k x i e) a b n = omega arith
+fresh-grows o (sequence k c d) a b n = omega (arith, fresh-grows o c a n (n + 1), fresh-grows o d n b (part o c a n (n + 1) .fresh))
+fresh-grows o (conditional k c) a b n = fresh-grows o c a b n
+fresh-grows o (iteration k c) a b n = fresh-grows (within a b) c a a n
+fresh-grows o (guarded k g c) a b n = omega (arith, fresh-grows o c n b (n + 1))
+fresh-grows o (choice k c d) a b n = omega (arith, fresh-grows o c a b n, fresh-grows o d a b (part o c a b n .fresh))
+fresh-grows o (jump k j) a b n = omega arith
+
+-- a command's edges between two nodes of the graph, in a loop between two of them, stay inside it, for as many nodes as it makes
+part-inside : (nodes : ℕ) (o : Around) → o .first < nodes → o .last < nodes → (c : Command) (a b n : ℕ) → a < nodes → a ≢ 1 → b < nodes → 2 ≤ n
+    → part o c a b n .fresh ≤ nodes → Each (Inside nodes) (part o c a b n .edges)
+unfolding part
+part-inside m o of ol (skip k) a b n ha na hb hn hf = more (inside ha hb na) none
+part-inside m o of ol (assign k x e) a b n ha na hb hn hf = more (inside ha hb na) none
+part-inside m o of ol (store k x i e) a b n ha na hb hn hf = more (inside ha hb na) none
+part-inside m o of ol (sequence k c d) a b n ha na hb hn hf =
+    let grows = fresh-grows o c a n (n + 1) in
+    let grows-more = fresh-grows o d n b (part o c a n (n + 1) .fresh) in
     each-append
-    (part-inside m c a n (n + 1) ha na (omega arith) (omega arith) (omega arith))
-    (part-inside m d n b _ (omega arith) (omega arith) hb (omega arith) hf)
-part-inside m (conditional k c) a b n ha na hb hn hf = part-inside m c a b n ha na hb hn hf
-part-inside m (iteration k c) a b n ha na hb hn hf =
-    each-append (part-inside m c a a n ha na ha hn hf) (more (inside ha hb na) none)
-part-inside m (guarded k g c) a b n ha na hb hn hf =
-    let grows = fresh-grows c n b (n + 1) in
+    (part-inside m o of ol c a n (n + 1) ha na (omega arith) (omega arith) (omega arith))
+    (part-inside m o of ol d n b _ (omega arith) (omega arith) hb (omega arith) hf)
+part-inside m o of ol (conditional k c) a b n ha na hb hn hf = part-inside m o of ol c a b n ha na hb hn hf
+part-inside m o of ol (iteration k c) a b n ha na hb hn hf =
+    each-append (part-inside m (within a b) ha hb c a a n ha na ha hn hf) (more (inside ha hb na) none)
+part-inside m o of ol (guarded k g c) a b n ha na hb hn hf =
+    let grows = fresh-grows o c n b (n + 1) in
     let hn' : n < m = omega arith in
-    more (inside ha hn' na) (part-inside m c n b (n + 1) hn' (omega arith) hb (omega arith) hf)
-part-inside m (choice k c d) a b n ha na hb hn hf =
-    let grows = fresh-grows c a b n in
-    let grows-more = fresh-grows d a b (part c a b n .fresh) in
+    more (inside ha hn' na) (part-inside m o of ol c n b (n + 1) hn' (omega arith) hb (omega arith) hf)
+part-inside m o of ol (choice k c d) a b n ha na hb hn hf =
+    let grows = fresh-grows o c a b n in
+    let grows-more = fresh-grows o d a b (part o c a b n .fresh) in
     each-append
-    (part-inside m c a b n ha na hb hn (omega arith))
-    (part-inside m d a b _ ha na hb (omega arith) hf)
+    (part-inside m o of ol c a b n ha na hb hn (omega arith))
+    (part-inside m o of ol d a b _ ha na hb (omega arith) hf)
+part-inside m o of ol (jump k j) a b n ha na hb hn hf = more (inside ha (landing-inside m o j of ol) na) none
 
 module _ (s : List ℕ) where
   -- the start and the end are nodes
   pub two-nodes : 2 ≤ nodeCount s
   unfolding nodeCount graph
-  two-nodes = fresh-grows _ 0 1 2
+  two-nodes = fresh-grows (within 0 1) _ 0 1 2
 
   -- "no edge leaves the end node": of all edges, and at an index
   pub edges-inside : Each (Inside (nodeCount s)) (edges s)
   unfolding nodeCount edges graph
   edges-inside =
       let two = two-nodes in
-      part-inside (nodeCount s) (script s) 0 1 2 (omega arith) (omega arith) (omega arith) (omega arith) (le-refl (nodeCount s))
+      part-inside (nodeCount s) (within 0 1) (omega arith) (omega arith) (script s) 0 1 2 (omega arith) (omega arith) (omega arith) (omega arith) (le-refl (nodeCount s))
 
   pub edge-inside : (k : ℕ) (d : Edge) → k < edgeCount s → Inside (nodeCount s) (getD (edges s) k d)
   unfolding edgeCount

@@ -11,7 +11,8 @@ use lib.ListN.{length}
 use borrow.Author.Tests.{leb-true, eqb-true}
 use Rattle.program.specs.Asking.{ask, thenAsk, isRefused, inTurn, askEach}
 use Rattle.program.specs.File.{wordAt, namesField, tableField, programFields, initialField, headFound, headAt, fieldStart, placeAfter, afterHead, fieldHead, nameCount, nameOffset, entryCount, entryOffset}
-use Rattle.program.specs.Questions.{wholeEntries, headValidity, headsValidity, endValidity, nameValidity, shapeValidity, entryValidity, tableValidity, useValidity, toBeUsed, usedValidity, lastCommand, lastValidity, usesValidity, contentValidity, validity, inputValidity}
+use Rattle.program.specs.Questions.{wholeEntries, headValidity, headsValidity, endValidity, nameValidity, shapeValidity, entryValidity, tableValidity, useValidity, toBeUsed, usedValidity, lastValidity, usesValidity, jumpValidity, jumpsValidity, contentValidity, validity, inputValidity}
+use Rattle.program.specs.Tree.{lastCommand}
 use Rattle.program.specs.Kind.{Shape, Unknown, Known}
 use Rattle.program.specs.declared.Field.{Field}
 use Rattle.program.specs.declared.Head.the-variants.{Short, Found}
@@ -144,13 +145,17 @@ module _ (s : List ℕ) (heads : headsValidity s 0 programFields ≡ Fit) where
         (λ _. placed-then _ _ (placed-each _ _ (use-placed Commands))
         (λ _. placed-then _ _ (placed-ask _ 11 _ tt (entry-near Commands _ (omega arith))) (λ _. placed-fit))))
 
+    jump-placed : (n : ℕ) → n < entryCount s Commands → Placed most (jumpValidity s n)
+    unfolding jumpValidity
+    jump-placed n h = placed-ask _ 20 _ tt (entry-near Commands n (omega arith))
+
     content-placed : Placed most (contentValidity s)
-    unfolding contentValidity tableValidity inTurn
+    unfolding contentValidity tableValidity jumpsValidity inTurn
     content-placed =
         placed-then _ _ (placed-each _ _ name-placed)
         (λ _. placed-then _ _ (placed-each _ _ (entry-placed Arithmetic))
         (λ _. placed-then _ _ (placed-each _ _ (entry-placed Boolean))
-        (λ _. placed-then _ _ (placed-each _ _ (entry-placed Commands)) (λ _. placed-then _ _ uses-placed (λ _. placed-fit)))))
+        (λ _. placed-then _ _ (placed-each _ _ (entry-placed Commands)) (λ _. placed-then _ _ uses-placed (λ _. placed-then _ _ (placed-each _ _ jump-placed) (λ _. placed-fit))))))
 
 -- the questions of a program file: no place is past 7,244
 pub validity-placed : (s : List ℕ) → Placed 7244 (validity s)

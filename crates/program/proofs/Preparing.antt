@@ -16,10 +16,10 @@ use Rattle.program.specs.Parts.Prepared.{entriesIn, numbersAt, sourceIn,
 use Rattle.program.specs.Parts.Preparing.{CodeIn, GraphIn}
 use Rattle.program.specs.Questions.{validity}
 use Rattle.program.specs.Parts.Sorted.{commandNamed, actionNamed, meaningNamed, actionOf}
-use Rattle.program.specs.Syntax.{Command, skip, assign, store, sequence, conditional, iteration, guarded, choice}
+use Rattle.program.specs.Syntax.{Command, skip, assign, store, sequence, conditional, iteration, guarded, choice, jump}
 use Rattle.program.specs.Tree.{Entries, commandAt, commandMade}
 use Rattle.program.specs.declared.CommandNode.{CommandNode}
-use Rattle.program.specs.declared.CommandNode.the-variants.{Skip, Assign, Store, Sequence, Conditional, Iteration, Guarded, Choice}
+use Rattle.program.specs.declared.CommandNode.the-variants.{Skip, Assign, Store, Sequence, Conditional, Iteration, Guarded, Choice, Jump}
 use Rattle.program.specs.declared.Validity.{Validity}
 use Rattle.program.specs.declared.Validity.the-variants.{Fit}
 use Rattle.program.proofs.Actions.{edge-faithful}
@@ -42,6 +42,7 @@ performing-named ns (conditional k c) t = tt
 performing-named ns (iteration k c) t = tt
 performing-named ns (guarded k b c) t = tt
 performing-named ns (choice k c d) t = tt
+performing-named ns (jump k j) t = tt
 
 pub meaning-named : (ns : List ℕ) (x : Action) → T (actionNamed ns x) → T (meaningNamed ns (meaning x))
 unfolding actionNamed meaningNamed meaning
@@ -60,6 +61,7 @@ performed-means es n (Conditional p) = refl
 performed-means es n (Iteration p) = refl
 performed-means es n (Guarded g p) = refl
 performed-means es n (Choice p q) = refl
+performed-means es n (Jump j) = refl
 
 module _ (code words : List ℕ) where
   command-means : (n : ℕ) → decodedMeaning (entriesIn code words) (performed (commandForm (entriesIn code words) 256 n)) ≡ performing (commandAt (entriesIn code words) n)

@@ -7,18 +7,17 @@ use native.Mathlib.Nat.{le-refl}
 use native.Mathlib.Omega.{arith}
 use lib.ListN.{getD, length-append}
 use borrow.Author.Tests.{lt-ltb, le-ltb}
-use Rattle.program.specs.Graph.{guardAction, part, actionKind, actionEntry}
+use Rattle.program.specs.Graph.{Around, within, landing, guardAction, part, actionKind, actionEntry}
 use Rattle.program.specs.Parts.GraphingParts.{edgeWords, Strip, strip, edgeStrip, freshOf, nextOf, Drew, Room, partAt}
 use Rattle.program.specs.Parts.Node.{commandForm, commandTree}
 use Rattle.program.specs.Parts.Prepared.{edgePlace, numbersAt, entriesIn}
 use Rattle.program.specs.Syntax.{Command, commandEntry}
 use Rattle.program.specs.Tree.{Entries, commandMade}
 use Rattle.program.specs.declared.CommandNode.{CommandNode}
-use Rattle.program.specs.declared.CommandNode.the-variants.{Skip, Assign, Store, Sequence, Conditional, Iteration, Guarded, Choice}
+use Rattle.program.specs.declared.CommandNode.the-variants.{Skip, Assign, Store, Sequence, Conditional, Iteration, Guarded, Choice, Jump}
 use Rattle.program.specs.declared.Table.{Table}
 use Rattle.program.specs.declared.Table.the-variants.{Arithmetic, Boolean, Commands}
-use Rattle.program.proofs.Forms.{command-told}
-use Rattle.program.proofs.Induction.{from-below}
+use Rattle.program.proofs.Forms.{command-told, by-parts}
 use Rattle.program.proofs.Lists.{concat-append}
 use Rattle.program.proofs.Nodes.{fresh-grows}
 use Rattle.program.proofs.Overlaid.{over-then, over-before}
@@ -83,7 +82,7 @@ drew-entries x {k} {a} {b} few d =
     same-entries [] a b
     (λ i h. ap (λ (l : List ℕ). getD l i 0) (d .written) ∙ over-before (edgePlace + 4 * k) (x .words) a i (omega arith) (omega (arith, d .size)))
 
-strip-grows : (c : Command) (a b n : ℕ) → n ≤ strip c a b n .fresh
+strip-grows : (o : Around) (c : Command) (a b n : ℕ) → n ≤ strip o c a b n .fresh
 unfolding strip
 strip-grows = fresh-grows
 
@@ -97,6 +96,7 @@ taking (Conditional p) f = f
 taking (Iteration p) f = f
 taking (Guarded g p) f = f + 1
 taking (Choice p q) f = f
+taking (Jump j) f = f
 
 -- such a pen has such a fresh node, and its edge
 pub record Taken (c : CommandNode) (pen : ℕ) : Type 0 where
@@ -113,53 +113,58 @@ taken (Conditional p) pen h = record { fresh = refl; next = refl }
 taken (Iteration p) pen h = record { fresh = refl; next = refl }
 taken (Guarded g p) pen h = record { fresh = omega arith; next = omega arith }
 taken (Choice p q) pen h = record { fresh = refl; next = refl }
+taken (Jump j) pen h = record { fresh = refl; next = refl }
 
--- the first part of a command at entry k whose fresh node is n, and the rest, each from the fresh node f on
-unfoldable pub firstAs : Entries → ℕ → CommandNode → ℕ → ℕ → ℕ → ℕ → Strip
-firstAs es k Skip a b n f = edgeStrip a b 1 k f
-firstAs es k (Assign x e) a b n f = edgeStrip a b 1 k f
-firstAs es k (Store x i e) a b n f = edgeStrip a b 1 k f
-firstAs es k (Sequence p q) a b n f = strip (partAt es k p) a n f
-firstAs es k (Conditional p) a b n f = strip (partAt es k p) a b f
-firstAs es k (Iteration p) a b n f = strip (partAt es k p) a a f
-firstAs es k (Guarded g p) a b n f = edgeStrip a n 2 g f
-firstAs es k (Choice p q) a b n f = strip (partAt es k p) a b f
+-- the first part of a command at entry k whose fresh node is n, inside o, and the rest, each from the fresh node f on
+unfoldable pub firstAs : Entries → Around → ℕ → CommandNode → ℕ → ℕ → ℕ → ℕ → Strip
+firstAs es o k Skip a b n f = edgeStrip a b 1 k f
+firstAs es o k (Assign x e) a b n f = edgeStrip a b 1 k f
+firstAs es o k (Store x i e) a b n f = edgeStrip a b 1 k f
+firstAs es o k (Sequence p q) a b n f = strip o (partAt es k p) a n f
+firstAs es o k (Conditional p) a b n f = strip o (partAt es k p) a b f
+firstAs es o k (Iteration p) a b n f = strip (within a b) (partAt es k p) a a f
+firstAs es o k (Guarded g p) a b n f = edgeStrip a n 2 g f
+firstAs es o k (Choice p q) a b n f = strip o (partAt es k p) a b f
+firstAs es o k (Jump j) a b n f = edgeStrip a (landing o j) 1 k f
 
-unfoldable pub restAs : Entries → ℕ → CommandNode → ℕ → ℕ → ℕ → ℕ → Strip
-restAs es k Skip a b n f = record { words = []; fresh = f }
-restAs es k (Assign x e) a b n f = record { words = []; fresh = f }
-restAs es k (Store x i e) a b n f = record { words = []; fresh = f }
-restAs es k (Sequence p q) a b n f = strip (partAt es k q) n b f
-restAs es k (Conditional p) a b n f = record { words = []; fresh = f }
-restAs es k (Iteration p) a b n f = edgeStrip a b 3 p f
-restAs es k (Guarded g p) a b n f = strip (partAt es k p) n b f
-restAs es k (Choice p q) a b n f = strip (partAt es k q) a b f
+unfoldable pub restAs : Entries → Around → ℕ → CommandNode → ℕ → ℕ → ℕ → ℕ → Strip
+restAs es o k Skip a b n f = record { words = []; fresh = f }
+restAs es o k (Assign x e) a b n f = record { words = []; fresh = f }
+restAs es o k (Store x i e) a b n f = record { words = []; fresh = f }
+restAs es o k (Sequence p q) a b n f = strip o (partAt es k q) n b f
+restAs es o k (Conditional p) a b n f = record { words = []; fresh = f }
+restAs es o k (Iteration p) a b n f = edgeStrip a b 3 p f
+restAs es o k (Guarded g p) a b n f = strip o (partAt es k p) n b f
+restAs es o k (Choice p q) a b n f = strip o (partAt es k q) a b f
+restAs es o k (Jump j) a b n f = record { words = []; fresh = f }
 
-pub first-grows : (es : Entries) (k : ℕ) (c : CommandNode) (a b n f : ℕ) → f ≤ firstAs es k c a b n f .fresh
+pub first-grows : (es : Entries) (o : Around) (k : ℕ) (c : CommandNode) (a b n f : ℕ) → f ≤ firstAs es o k c a b n f .fresh
 unfolding firstAs edgeStrip
-first-grows es k Skip a b n f = le-refl f
-first-grows es k (Assign x e) a b n f = le-refl f
-first-grows es k (Store x i e) a b n f = le-refl f
-first-grows es k (Sequence p q) a b n f = strip-grows _ a n f
-first-grows es k (Conditional p) a b n f = strip-grows _ a b f
-first-grows es k (Iteration p) a b n f = strip-grows _ a a f
-first-grows es k (Guarded g p) a b n f = le-refl f
-first-grows es k (Choice p q) a b n f = strip-grows _ a b f
+first-grows es o k Skip a b n f = le-refl f
+first-grows es o k (Assign x e) a b n f = le-refl f
+first-grows es o k (Store x i e) a b n f = le-refl f
+first-grows es o k (Sequence p q) a b n f = strip-grows o _ a n f
+first-grows es o k (Conditional p) a b n f = strip-grows o _ a b f
+first-grows es o k (Iteration p) a b n f = strip-grows (within a b) _ a a f
+first-grows es o k (Guarded g p) a b n f = le-refl f
+first-grows es o k (Choice p q) a b n f = strip-grows o _ a b f
+first-grows es o k (Jump j) a b n f = le-refl f
 
-pub rest-grows : (es : Entries) (k : ℕ) (c : CommandNode) (a b n f : ℕ) → f ≤ restAs es k c a b n f .fresh
+pub rest-grows : (es : Entries) (o : Around) (k : ℕ) (c : CommandNode) (a b n f : ℕ) → f ≤ restAs es o k c a b n f .fresh
 unfolding restAs edgeStrip
-rest-grows es k Skip a b n f = le-refl f
-rest-grows es k (Assign x e) a b n f = le-refl f
-rest-grows es k (Store x i e) a b n f = le-refl f
-rest-grows es k (Sequence p q) a b n f = strip-grows _ n b f
-rest-grows es k (Conditional p) a b n f = le-refl f
-rest-grows es k (Iteration p) a b n f = le-refl f
-rest-grows es k (Guarded g p) a b n f = strip-grows _ n b f
-rest-grows es k (Choice p q) a b n f = strip-grows _ a b f
+rest-grows es o k Skip a b n f = le-refl f
+rest-grows es o k (Assign x e) a b n f = le-refl f
+rest-grows es o k (Store x i e) a b n f = le-refl f
+rest-grows es o k (Sequence p q) a b n f = strip-grows o _ n b f
+rest-grows es o k (Conditional p) a b n f = le-refl f
+rest-grows es o k (Iteration p) a b n f = le-refl f
+rest-grows es o k (Guarded g p) a b n f = strip-grows o _ n b f
+rest-grows es o k (Choice p q) a b n f = strip-grows o _ a b f
+rest-grows es o k (Jump j) a b n f = le-refl f
 
 -- the numbers of a command at entry k
-unfoldable pub drawnAs : Entries → ℕ → CommandNode → ℕ → ℕ → ℕ → Strip
-drawnAs es k c a b n = followed (firstAs es k c a b n (taking c n)) (restAs es k c a b n)
+unfoldable pub drawnAs : Entries → Around → ℕ → CommandNode → ℕ → ℕ → ℕ → Strip
+drawnAs es o k c a b n = followed (firstAs es o k c a b n (taking c n)) (restAs es o k c a b n)
 
 module _ (es : Entries) where
   -- a part's entry
@@ -171,53 +176,42 @@ module _ (es : Entries) where
         | no h ↦ ap commandEntry (command-below es n p (omega arith)) ∙ command-entry es p
       ]
 
-  tree-strip : (n : ℕ) (k : CommandNode) (a b f : ℕ) → strip (commandTree es n k) a b f ≡ drawnAs es n k a b f
+  tree-strip : (o : Around) (n : ℕ) (k : CommandNode) (a b f : ℕ) → strip o (commandTree es n k) a b f ≡ drawnAs es o n k a b f
   unfolding commandMade drawnAs taking firstAs restAs followed strip edgeStrip part guardAction flatMap edgeWords actionKind actionEntry commandEntry
-  tree-strip n Skip a b f = refl
-  tree-strip n (Assign x e) a b f = refl
-  tree-strip n (Store x i e) a b f = refl
-  tree-strip n (Sequence p q) a b f = rw concat-append
-  tree-strip n (Conditional p) a b f = rw append-nil
-  tree-strip n (Iteration p) a b f = rw (concat-append, part-entry)
-  tree-strip n (Guarded g p) a b f = rw boolean-entry
-  tree-strip n (Choice p q) a b f = rw concat-append
+  tree-strip o n Skip a b f = refl
+  tree-strip o n (Assign x e) a b f = refl
+  tree-strip o n (Store x i e) a b f = refl
+  tree-strip o n (Sequence p q) a b f = rw concat-append
+  tree-strip o n (Conditional p) a b f = rw append-nil
+  tree-strip o n (Iteration p) a b f = rw (concat-append, part-entry)
+  tree-strip o n (Guarded g p) a b f = rw boolean-entry
+  tree-strip o n (Choice p q) a b f = rw concat-append
+  tree-strip o n (Jump j) a b f = refl
 
   -- the numbers of entry n as a part of entry bound, by what it is
-  pub strip-part : (bound n : ℕ) {x k : CommandNode} → x ≡ commandForm es bound n → x ≡ k → (a b f : ℕ) → strip (partAt es bound n) a b f ≡ drawnAs es n k a b f
-  strip-part bound n {k = k} same told a b f = rw (command-told es bound n same told) (tree-strip n k a b f)
+  pub strip-part : (o : Around) (bound n : ℕ) {x k : CommandNode} → x ≡ commandForm es bound n → x ≡ k → (a b f : ℕ) → strip o (partAt es bound n) a b f ≡ drawnAs es o n k a b f
+  strip-part o bound n {k = k} same told a b f = rw (command-told es bound n same told) (tree-strip o n k a b f)
 
 -- two readings with the same commands below an entry: its parts have the same numbers
 module _ (es fs : Entries) where
-  abbrev Same : ℕ → Type 0
-  Same bound = (n a b f : ℕ) → strip (partAt es bound n) a b f ≡ strip (partAt fs bound n) a b f
+  abbrev SameStrip : Command → Command → Type 0
+  SameStrip c d = (o : Around) (a b f : ℕ) → strip o c a b f ≡ strip o d a b f
 
-  drawn-same : (n : ℕ) → Same n → (k : CommandNode) (a b f : ℕ) → drawnAs es n k a b f ≡ drawnAs fs n k a b f
+  drawn-same : (n : ℕ) → ((m : ℕ) → SameStrip (partAt es n m) (partAt fs n m)) → (k : CommandNode) (o : Around) (a b f : ℕ) → drawnAs es o n k a b f ≡ drawnAs fs o n k a b f
   unfolding drawnAs taking firstAs restAs followed
-  drawn-same n same Skip a b f = refl
-  drawn-same n same (Assign x e) a b f = refl
-  drawn-same n same (Store x i e) a b f = refl
-  drawn-same n same (Sequence p q) a b f = rw (same p, same q)
-  drawn-same n same (Conditional p) a b f = rw (same p)
-  drawn-same n same (Iteration p) a b f = rw (same p)
-  drawn-same n same (Guarded g p) a b f = rw (same p)
-  drawn-same n same (Choice p q) a b f = rw (same p, same q)
+  drawn-same n same Skip o a b f = refl
+  drawn-same n same (Assign x e) o a b f = refl
+  drawn-same n same (Store x i e) o a b f = refl
+  drawn-same n same (Sequence p q) o a b f = rw (same p, same q)
+  drawn-same n same (Conditional p) o a b f = rw (same p)
+  drawn-same n same (Iteration p) o a b f = rw (same p)
+  drawn-same n same (Guarded g p) o a b f = rw (same p)
+  drawn-same n same (Choice p q) o a b f = rw (same p, same q)
+  drawn-same n same (Jump j) o a b f = refl
 
-  abbrev Agreed : ℕ → Type 0
-  Agreed bound = (k : ℕ) → k < bound → es Commands k ≡ fs Commands k
-
-  same-form : (bound n : ℕ) → n < bound → Agreed bound → commandForm fs bound n ≡ commandForm es bound n
-  unfolding commandForm
-  same-form bound n h agreed = rw (agreed n h)
-
-  pub same-strip : (bound : ℕ) → Agreed bound → Same bound
-  same-strip = from-below (λ (bound : ℕ). Agreed bound → Same bound) step
-    where
-      step : (bound : ℕ) → ((m : ℕ) → m < bound → Agreed m → Same m) → Agreed bound → Same bound
-      step bound below agreed n a b f =
-          elim (decLe bound n) [
-            | yes h ↦ rw (command-past es bound n h, command-past fs bound n h)
-            | no h ↦
-                strip-part es bound n refl refl a b f
-                ∙ drawn-same n (below n (omega arith) (λ k l. agreed k (omega arith))) (commandForm es bound n) a b f
-                ∙ sym (strip-part fs bound n refl (same-form bound n (omega arith) agreed) a b f)
-          ]
+  pub same-strip : (bound : ℕ) → ((k : ℕ) → k < bound → es Commands k ≡ fs Commands k) → (n : ℕ) → SameStrip (partAt es bound n) (partAt fs bound n)
+  same-strip bound agreed =
+      by-parts es fs SameStrip bound
+      (λ n o a b f. refl)
+      (λ n h same o a b f. tree-strip es o n _ a b f ∙ drawn-same n same _ o a b f ∙ sym (tree-strip fs o n _ a b f))
+      agreed bound (le-refl bound)

@@ -11,7 +11,7 @@ use Rattle.program.specs.Syntax.{Boolean, Command, Arith}
 use Rattle.program.specs.Tree.{Entries, arithTrees, arithAt, booleanNode, booleanTrees, booleanAt, commandNode, commandTrees, commandAt, booleanMade, commandMade, arithMade, arithNode}
 use Rattle.program.specs.declared.Table.the-variants.{Arithmetic, Boolean as Booleans, Commands}
 use Rattle.program.specs.declared.Validity.the-variants.{Fit}
-use Rattle.program.proofs.Induction.{by-kind}
+use Rattle.program.proofs.Induction.{by-kind, by-command}
 use Rattle.program.proofs.Operands.{Operands, operands-fit}
 
 -- a reading that has a file's entries; the fourth number of an arithmetic entry makes no difference
@@ -69,7 +69,7 @@ module _ (s : List ℕ) (fit : validity s ≡ Fit) (es : Entries) (same : SameEn
       → commandNode es below n (record { kind = k; p = p; q = q; r = r }) ≡ commandNode (entry s) below n (record { kind = k; p = p; q = q; r = r })
   unfolding shape kinds commandKind commandMade limit sameTable tableOf
   command-node below n =
-      by-kind _
+      by-command _
       (λ p q r h. refl)
       (λ p q r h. rw (arith-same q (h .1 .lower)))
       (λ p q r h. rw (arith-same q (h .1 .lower), arith-same r (h .2 .lower)))
@@ -77,6 +77,8 @@ module _ (s : List ℕ) (fit : validity s ≡ Fit) (es : Entries) (same : SameEn
       (λ p q r h. refl)
       (λ p q r h. refl)
       (λ p q r h. rw (boolean-same p (h .0 .lower)))
+      (λ p q r h. refl)
+      (λ p q r h. refl)
       (λ p q r h. refl)
       (λ k p q r h. refl)
 

@@ -6,6 +6,7 @@ use lib.ListN.{List·getD-eq-default}
 use Rattle.program.specs.Kind.{Unused, To, Unknown, with, kinds, shape}
 use Rattle.program.specs.declared.Sort.the-variants.{Expression, Condition, Guarded}
 use Rattle.program.specs.declared.Table.the-variants.{Arithmetic, Boolean, Commands}
+use Rattle.program.proofs.Induction.{from-eight}
 
 pub operators : (k : ℕ) → 3 ≤ k → k ≤ 7 → with (To Expression) (To Expression) Unused ≡ shape Arithmetic k
 unfolding shape kinds
@@ -44,6 +45,15 @@ pub constructs : (k : ℕ) → 4 ≤ k → k ≤ 5 → with (To Guarded) Unused 
 unfolding shape kinds
 constructs k h l = four-or-five (λ (n : ℕ). with (To Guarded) Unused Unused ≡ shape Commands n) refl refl k h l
 
+pub jumps : (k : ℕ) → 8 ≤ k → k ≤ 9 → with Unused Unused Unused ≡ shape Commands k
+unfolding shape kinds
+jumps k h l = from-eight (λ (n : ℕ). n ≤ 9 → with Unused Unused Unused ≡ shape Commands n) by k h l
+  where
+    by : (k : ℕ) → suc (suc (suc (suc (suc (suc (suc (suc k))))))) ≤ 9 → with Unused Unused Unused ≡ shape Commands (suc (suc (suc (suc (suc (suc (suc (suc k))))))))
+    by zero l = refl
+    by (suc zero) l = refl
+    by (suc (suc k)) l = absurd (omega arith)
+
 pub unknown-arithmetic : (k : ℕ) → 8 ≤ k → Unknown ≡ shape Arithmetic k
 unfolding shape kinds
 unknown-arithmetic k h = sym (List·getD-eq-default (kinds Arithmetic) Unknown h)
@@ -52,6 +62,6 @@ pub unknown-boolean : (k : ℕ) → 7 ≤ k → Unknown ≡ shape Boolean k
 unfolding shape kinds
 unknown-boolean k h = sym (List·getD-eq-default (kinds Boolean) Unknown h)
 
-pub unknown-command : (k : ℕ) → 8 ≤ k → Unknown ≡ shape Commands k
+pub unknown-command : (k : ℕ) → 10 ≤ k → Unknown ≡ shape Commands k
 unfolding shape kinds
 unknown-command k h = sym (List·getD-eq-default (kinds Commands) Unknown h)

@@ -10,15 +10,15 @@ use borrow.Author.Tests.{lt-ltb}
 use Rattle.program.specs.File.{sizes, entryCount, entry}
 use Rattle.program.specs.Graph.{done}
 use Rattle.program.specs.Kind.{isGuarded}
-use Rattle.program.specs.Questions.{lastCommand, validity}
+use Rattle.program.specs.Questions.{validity}
 use Rattle.program.specs.Parts.Sorted.{commandNamed, booleanNamed, isGuardedTree, commandPoints}
-use Rattle.program.specs.Syntax.{Command, skip, assign, store, sequence, conditional, iteration, guarded, choice, commandEntry}
-use Rattle.program.specs.Tree.{commandAt, script}
+use Rattle.program.specs.Syntax.{Command, skip, assign, store, sequence, conditional, iteration, guarded, choice, jump, commandEntry}
+use Rattle.program.specs.Tree.{commandAt, lastCommand, script}
 use Rattle.program.specs.declared.Table.the-variants.{Commands}
 use Rattle.program.specs.declared.Validity.the-variants.{Fit}
 use Rattle.program.proofs.Expressions.{boolean-sorted}
 use Rattle.program.proofs.Fit.{one-last, last-fit}
-use Rattle.program.proofs.Made.{AtEntry, Made, makeSkip, makeAssign, makeStore, makeSequence, makeConditional, makeIteration, makeGuarded, makeChoice, not-guarded, made}
+use Rattle.program.proofs.Made.{AtEntry, Made, makeSkip, makeAssign, makeStore, makeSequence, makeConditional, makeIteration, makeGuarded, makeChoice, makeJump, not-guarded, made}
 use Rattle.program.proofs.Tests.{two, both}
 use Rattle.program.proofs.Trees.{command-entry}
 
@@ -32,6 +32,7 @@ made-at (makeConditional e l c) = e
 made-at (makeIteration e l c) = e
 made-at (makeGuarded e b l c) = e
 made-at (makeChoice e l m c d) = e
+made-at (makeJump e) = e
 
 pub made-entry : {s : List ℕ} {g : Bool} {n : ℕ} {c : Command} → Made s g n c → commandEntry c ≡ n
 made-entry {s} {n = n} m = ap commandEntry (made-at m .tree) ∙ command-entry (entry s) n
@@ -46,6 +47,7 @@ made-guarded (makeConditional e l c) = refl
 made-guarded (makeIteration e l c) = refl
 made-guarded (makeGuarded e b l c) = refl
 made-guarded (makeChoice e l m c d) = refl
+made-guarded (makeJump e) = refl
 
 -- a part of the tree at entry n
 lower : {s : List ℕ} {g : Bool} {n p : ℕ} {c : Command} → Made s g p c → p < n → ltb (commandEntry c) n ≡ true
@@ -62,6 +64,7 @@ done-named ns (store n x i a) h = refl
 done-named ns (sequence n c d) h = refl
 done-named ns (conditional n c) h = refl
 done-named ns (iteration n c) h = refl
+done-named ns (jump n j) h = refl
 
 -- its names are there and of the right sort, and its references point as they must
 module _ (s : List ℕ) (fit : validity s ≡ Fit) where
@@ -75,6 +78,7 @@ module _ (s : List ℕ) (fit : validity s ≡ Fit) where
   made-named (makeIteration e l c) = made-named c
   made-named (makeGuarded e b l c) = both (boolean-sorted s fit _ b .named) (made-named c)
   made-named (makeChoice e l m c d) = both (made-named c) (made-named d)
+  made-named (makeJump e) = refl
 
   pub made-points : {g : Bool} {n : ℕ} {c : Command} → Made s g n c → commandPoints c ≡ true
   unfolding commandPoints
@@ -91,6 +95,7 @@ module _ (s : List ℕ) (fit : validity s ≡ Fit) where
       both (boolean-sorted s fit _ b .points) (both (both (lower c l) (ap not (made-guarded c))) (made-points c))
   made-points (makeChoice e l m c d) =
       both (both (both (lower c l) (made-guarded c)) (made-points c)) (both (both (lower d m) (made-guarded d)) (made-points d))
+  made-points (makeJump e) = refl
 
   pub command-guarded : (n : ℕ) → n < entryCount s Commands → isGuardedTree (commandAt (entry s) n) ≡ isGuarded (entry s Commands n .kind)
   command-guarded n h = made-guarded (made s fit n h)

@@ -8,12 +8,12 @@ use Rattle.program.specs.declared.ArithNode.the-variants.{Number, Variab
 use Rattle.program.specs.declared.BooleanNode.{BooleanNode}
 use Rattle.program.specs.declared.BooleanNode.the-variants.{True, Comparison, Both, AndThen, Not}
 use Rattle.program.specs.declared.CommandNode.{CommandNode}
-use Rattle.program.specs.declared.CommandNode.the-variants.{Skip, Assign, Store, Sequence, Conditional, Iteration, Guarded, Choice}
+use Rattle.program.specs.declared.CommandNode.the-variants.{Skip, Assign, Store, Sequence, Conditional, Iteration, Guarded, Choice, Jump}
 use Rattle.program.specs.declared.Table.the-variants.{Arithmetic, Boolean as Booleans, Commands}
 use Rattle.program.specs.Parts.Sorted.{arithEntry}
 use Rattle.program.specs.Syntax.{number, truth, skip, booleanEntry, commandEntry}
 use Rattle.program.specs.Tree.{Entries, arithBelow, booleanBelow, commandBelow, arithNode, arithTrees, arithAt, booleanNode, booleanTrees, booleanAt, commandNode, commandTrees, commandAt, arithMade, booleanMade, commandMade}
-use Rattle.program.proofs.Induction.{from-seven, from-eight}
+use Rattle.program.proofs.Induction.{from-seven, from-eight, from-ten}
 use Rattle.program.proofs.Lists.{grown-at, grown-past}
 
 module _ (es : Entries) where
@@ -69,11 +69,11 @@ module _ (es : Entries) where
       let e = es Booleans n in
       from-seven (λ (k : ℕ). booleanNode es (booleanTrees es n) n (record { kind = k; p = e .p; q = e .q; r = e .r }) ≡ truth n) (λ k. refl) (e .kind) h
 
-  pub command-unknown : (n : ℕ) → 8 ≤ es Commands n .kind → commandAt es n ≡ skip n
+  pub command-unknown : (n : ℕ) → 10 ≤ es Commands n .kind → commandAt es n ≡ skip n
   unfolding commandAt commandKind commandMade
   command-unknown n h =
       let e = es Commands n in
-      from-eight (λ (k : ℕ). commandNode es (commandTrees es n) n (record { kind = k; p = e .p; q = e .q; r = e .r }) ≡ skip n) (λ k. refl) (e .kind) h
+      from-ten (λ (k : ℕ). commandNode es (commandTrees es n) n (record { kind = k; p = e .p; q = e .q; r = e .r }) ≡ skip n) (λ k. refl) (e .kind) h
 
   -- the tree at entry n has the number n
   pub arith-entry : (n : ℕ) → arithEntry (arithAt es n) ≡ n
@@ -110,3 +110,4 @@ module _ (es : Entries) where
       by (Iteration p) = refl
       by (Guarded g p) = refl
       by (Choice p q) = refl
+      by (Jump j) = refl

@@ -12,7 +12,7 @@ use Rattle.program.specs.declared.EdgeBytes.{EdgeBytes}
 use Rattle.program.specs.declared.Validity.{Validity}
 use Rattle.program.specs.declared.Validity.the-variants.{Fit, Refused}
 
--- "Does the arrow buffer hold all arrows? 13", after questions 1 to 11
+-- "Does the arrow buffer hold all arrows? 13", after the file's questions
 unfoldable pub drawValidity : List ℕ → List ℕ → Validity
 drawValidity s buffer = thenAsk (validity s) (askPlain (leb (7 * edgeCount s) (length buffer)) 13)
 

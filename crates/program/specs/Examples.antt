@@ -1,4 +1,4 @@
--- The worked examples of document 01 on files and graphs. `proofs/Examples` shows that each holds.
+-- The worked examples of document 01 on files and graphs, and those of document 02's order 7. `proofs/Examples` shows that each holds.
 use Prim.Native.Nat.{ℕ}
 use mathlib.Core.List.{List, [], _∷_, _++_, flatMap}
 use lib.ListN.{length, replicate}
@@ -127,5 +127,95 @@ inputs =
     ∷ (row (validityNumbers (inputValidity (factorial ++ field 5 (4 ∷ 2 ∷ []) ++ (0 ∷ [])))) gives row (5 ∷ 140 ∷ []))
     ∷ []
 
+-- the program of the book's Example 2.25 over i, x, y and A of 10, its sides exchanged where a comparison asks for it, with a jump of a kind where it has break:
+-- i := 0; x := 0; y := 0; do 10 > i → if A[i] ≥ 0 → x := x + A[i]; i := i + 1 [] 0 > A[i] → i := i + 1; break fi; y := y + 1 od
+unfoldable pub adding : ℕ → List ℕ
+adding kind =
+    fileOf
+    (0 ∷ 0 ∷ 0 ∷ 10 ∷ [])
+    -- arithmetic, by the commands and conditions that it stands in
+    (entryOf 0 0 0 0 ∷ entryOf 0 0 0 0 ∷ entryOf 0 0 0 0
+    ∷ entryOf 0 0 10 0 ∷ entryOf 1 0 0 0
+    ∷ entryOf 1 0 0 0 ∷ entryOf 2 3 5 0 ∷ entryOf 0 0 0 0
+    ∷ entryOf 1 1 0 0 ∷ entryOf 1 0 0 0 ∷ entryOf 2 3 9 0 ∷ entryOf 3 8 10 0
+    ∷ entryOf 1 0 0 0 ∷ entryOf 0 0 1 0 ∷ entryOf 3 12 13 0
+    ∷ entryOf 0 0 0 0 ∷ entryOf 1 0 0 0 ∷ entryOf 2 3 16 0
+    ∷ entryOf 1 0 0 0 ∷ entryOf 0 0 1 0 ∷ entryOf 3 18 19 0
+    ∷ entryOf 1 2 0 0 ∷ entryOf 0 0 1 0 ∷ entryOf 3 21 22 0
+    ∷ [])
+    -- 10 > i; A[i] ≥ 0; 0 > A[i]
+    (entryOf 2 3 4 0 ∷ entryOf 3 6 7 0 ∷ entryOf 2 15 17 0 ∷ [])
+    -- i := 0, x := 0, y := 0
+    (entryOf 1 0 0 0 ∷ entryOf 1 1 1 0 ∷ entryOf 1 2 2 0
+    -- x := x + A[i], i := i + 1, their sequence, guarded
+    ∷ entryOf 1 1 11 0 ∷ entryOf 1 0 14 0 ∷ entryOf 3 3 4 0 ∷ entryOf 6 1 5 0
+    -- i := i + 1, the jump, their sequence, guarded
+    ∷ entryOf 1 0 20 0 ∷ entryOf kind 0 0 0 ∷ entryOf 3 7 8 0 ∷ entryOf 6 2 9 0
+    -- choice, if, y := y + 1, their sequence, guarded, do
+    ∷ entryOf 7 6 10 0 ∷ entryOf 4 11 0 0 ∷ entryOf 1 2 23 0 ∷ entryOf 3 12 13 0 ∷ entryOf 6 0 14 0 ∷ entryOf 5 15 0 0
+    -- the whole
+    ∷ entryOf 3 2 16 0 ∷ entryOf 3 1 17 0 ∷ entryOf 3 0 18 0
+    ∷ [])
+
+-- a program over one variable with so many conditions, all true, and these commands
+unfoldable pub trueWith : ℕ → List (List ℕ) → List ℕ
+trueWith count commands = fileOf (0 ∷ []) [] (replicate count (entryOf 0 0 0 0)) commands
+
+-- do true → jump od
+unfoldable pub jumpOnly : ℕ → List ℕ
+jumpOnly kind = trueWith 1 (entryOf kind 0 0 0 ∷ entryOf 6 0 0 0 ∷ entryOf 5 1 0 0 ∷ [])
+
+-- do true → do true → jump od od, the outer condition second
+unfoldable pub jumpInTwo : ℕ → List ℕ
+jumpInTwo kind = trueWith 2 (entryOf kind 0 0 0 ∷ entryOf 6 0 0 0 ∷ entryOf 5 1 0 0 ∷ entryOf 6 1 2 0 ∷ entryOf 5 3 0 0 ∷ [])
+
+-- an arrow's seven bytes: from, to, action kind, entry
+unfoldable pub arrow : ℕ → ℕ → ℕ → ℕ → List ℕ
+arrow from to kind entry = wordBytes from ++ wordBytes to ++ (kind ∷ []) ++ wordBytes entry
+
+-- the arrows of Example 2.25, where the jump goes to a node
+unfoldable pub addingArrows : ℕ → List ℕ
+addingArrows target =
+    arrow 0 2 1 0 ++ arrow 2 3 1 1 ++ arrow 3 4 1 2
+    ++ arrow 4 5 2 0
+    ++ arrow 5 7 2 1 ++ arrow 7 8 1 3 ++ arrow 8 6 1 4
+    ++ arrow 5 9 2 2 ++ arrow 9 10 1 7 ++ arrow 10 target 1 8
+    ++ arrow 6 4 1 13
+    ++ arrow 4 1 3 15
+
+-- (order 7) "break to the loop's last node and continue to its first, of the innermost do around it": the book's example has 11 nodes and 12 arrows; a jump as a
+-- whole body; in two loops, the inner one from node 2 to node 0
+unfoldable pub loops : List Case
+loops =
+    (row (drawnNumbers (drawn (adding 8) (replicate 84 9))) gives row (0 ∷ 11 ∷ 12 ∷ []))
+    ∷ (row (drawnBuffer (adding 8) (replicate 84 9)) gives row (addingArrows 1))
+    ∷ (row (drawnBuffer (adding 9) (replicate 84 9)) gives row (addingArrows 4))
+    ∷ (row (drawnBuffer (jumpOnly 8) (replicate 21 9)) gives row (arrow 0 2 2 0 ++ arrow 2 1 1 0 ++ arrow 0 1 3 1))
+    ∷ (row (drawnBuffer (jumpOnly 9) (replicate 21 9)) gives row (arrow 0 2 2 0 ++ arrow 2 0 1 0 ++ arrow 0 1 3 1))
+    ∷ (row (drawnBuffer (jumpInTwo 8) (replicate 35 9))
+    gives row (arrow 0 2 2 1 ++ arrow 2 3 2 0 ++ arrow 3 0 1 0 ++ arrow 2 0 3 1 ++ arrow 0 1 3 3))
+    ∷ (row (drawnBuffer (jumpInTwo 9) (replicate 35 9))
+    gives row (arrow 0 2 2 1 ++ arrow 2 3 2 0 ++ arrow 3 2 1 0 ++ arrow 2 0 3 1 ++ arrow 0 1 3 3))
+    ∷ []
+
+-- (order 7) "20, such a command outside every do, with the byte where the lowest such entry starts as its place, asked after 11"
+unfoldable pub looseJumps : List Case
+looseJumps =
+    -- break; continue, with continue at the lower entry
+    (row (validityNumbers (validity (trueWith 0 (entryOf 9 0 0 0 ∷ entryOf 8 0 0 0 ∷ entryOf 3 1 0 0 ∷ [])))) gives row (20 ∷ 14 ∷ []))
+    -- do true → break od; break: the second one
+    ∷ (row (validityNumbers (validity (trueWith 1 (entryOf 8 0 0 0 ∷ entryOf 6 0 0 0 ∷ entryOf 5 1 0 0 ∷ entryOf 8 0 0 0 ∷ entryOf 3 2 3 0 ∷ []))))
+    gives row (20 ∷ 42 ∷ []))
+    -- beside an entry that is not used, and beside a guarded command as the last: 10 and 11 are asked before
+    ∷ (row (validityNumbers (validity (trueWith 0 (entryOf 0 0 0 0 ∷ entryOf 8 0 0 0 ∷ [])))) gives row (10 ∷ 14 ∷ []))
+    ∷ (row (validityNumbers (validity (trueWith 1 (entryOf 8 0 0 0 ∷ entryOf 6 0 0 0 ∷ [])))) gives row (11 ∷ 28 ∷ []))
+    -- "no operands", and no kind after continue
+    ∷ (row (validityNumbers (validity (trueWith 0 (entryOf 8 1 0 0 ∷ [])))) gives row (8 ∷ 14 ∷ []))
+    ∷ (row (validityNumbers (validity (trueWith 0 (entryOf 10 0 0 0 ∷ [])))) gives row (7 ∷ 14 ∷ []))
+    -- in the sheet program's input, after 5
+    ∷ (row (validityNumbers (inputValidity (trueWith 0 (entryOf 8 0 0 0 ∷ []) ++ field 5 []))) gives row (20 ∷ 14 ∷ []))
+    ∷ (row (validityNumbers (inputValidity (trueWith 0 (entryOf 8 0 0 0 ∷ []) ++ field 5 [] ++ (0 ∷ [])))) gives row (5 ∷ 24 ∷ []))
+    ∷ []
+
 unfoldable pub cases : List Case
-cases = graphs ++ exits ++ limits ++ inputs
+cases = graphs ++ exits ++ limits ++ inputs ++ loops ++ looseJumps

@@ -1,11 +1,13 @@
--- The program graph (document 01, "The graph"; book, Definitions 2.7, 2.8 and 2.19).
+-- The program graph (document 01, "The graph"; document 02, order 7; book, Definitions 2.7, 2.8, 2.19, 2.26 and 2.27).
 use Prim.Native.Nat.{ℕ, _+_, _/_, _%_}
 use mathlib.Core.List.{List, [], _∷_, _++_, flatMap}
 use lib.ListN.{length, getD}
-use Rattle.program.specs.Syntax.{Boolean, truth, conjunction, negation, booleanEntry, Command, skip, assign, store, sequence, conditional, iteration, guarded, choice, commandEntry}
+use Rattle.program.specs.Syntax.{Boolean, truth, conjunction, negation, booleanEntry, Command, skip, assign, store, sequence, conditional, iteration, guarded, choice, jump, commandEntry}
 use Rattle.program.specs.Tree.{script}
+use Rattle.program.specs.declared.Jump.{Jump}
+use Rattle.program.specs.declared.Jump.the-variants.{Break, Continue}
 
--- an action performs skip, an assignment or a store, tests a boolean, or leaves the do whose operand is a guarded command
+-- an action performs skip, an assignment, a store or a jump, tests a boolean, or leaves the do whose operand is a guarded command
 pub data Action : Type 0 where
   perform : Command → Action
   test : Boolean → Action
@@ -34,26 +36,41 @@ pub record Graph : Type 0 where
 unfoldable pub guardAction : Boolean → Action
 guardAction b = test b
 
--- the edges of a command from node a to node b, where n is the next fresh node: "fresh nodes count from 2 as they are made"
-unfoldable pub part : Command → ℕ → ℕ → ℕ → Part
-part (skip k) a b n = record { edges = edge a (perform (skip k)) b ∷ []; fresh = n }
-part (assign k x e) a b n = record { edges = edge a (perform (assign k x e)) b ∷ []; fresh = n }
-part (store k x i e) a b n = record { edges = edge a (perform (store k x i e)) b ∷ []; fresh = n }
-part (sequence k c d) a b n =
-    let first = part c a n (n + 1) in
-    let second = part d n b (first .fresh) in
+-- what stands around a command: the first and the last node of "the innermost do around it"
+pub record Around : Type 0 where
+  pub first : ℕ
+  pub last : ℕ
+
+abbrev pub within : ℕ → ℕ → Around
+within a b = record { first = a; last = b }
+
+-- "break to the loop's last node and continue to its first"
+unfoldable pub landing : Around → Jump → ℕ
+landing o Break = o .last
+landing o Continue = o .first
+
+-- the edges of a command from node a to node b, inside o, where n is the next fresh node: "fresh nodes count from 2 as they are made". "Inside a do each" of
+-- break and continue "gives one arrow that acts as skip"
+unfoldable pub part : Around → Command → ℕ → ℕ → ℕ → Part
+part o (skip k) a b n = record { edges = edge a (perform (skip k)) b ∷ []; fresh = n }
+part o (assign k x e) a b n = record { edges = edge a (perform (assign k x e)) b ∷ []; fresh = n }
+part o (store k x i e) a b n = record { edges = edge a (perform (store k x i e)) b ∷ []; fresh = n }
+part o (sequence k c d) a b n =
+    let first = part o c a n (n + 1) in
+    let second = part o d n b (first .fresh) in
     record { edges = first .edges ++ second .edges; fresh = second .fresh }
-part (conditional k c) a b n = part c a b n
-part (iteration k c) a b n =
-    let body = part c a a n in
+part o (conditional k c) a b n = part o c a b n
+part o (iteration k c) a b n =
+    let body = part (within a b) c a a n in
     record { edges = body .edges ++ (edge a (leave c) b ∷ []); fresh = body .fresh }
-part (guarded k g c) a b n =
-    let body = part c n b (n + 1) in
+part o (guarded k g c) a b n =
+    let body = part o c n b (n + 1) in
     record { edges = edge a (guardAction g) n ∷ body .edges; fresh = body .fresh }
-part (choice k c d) a b n =
-    let first = part c a b n in
-    let second = part d a b (first .fresh) in
+part o (choice k c d) a b n =
+    let first = part o c a b n in
+    let second = part o d a b (first .fresh) in
     record { edges = first .edges ++ second .edges; fresh = second .fresh }
+part o (jump k j) a b n = record { edges = edge a (perform (jump k j)) (landing o j) ∷ []; fresh = n }
 
 -- edge number e of a graph; past the last, a skip at node 0
 unfoldable pub edgeAt : Graph → ℕ → Edge
@@ -69,10 +86,12 @@ done (store k x i e) = truth k
 done (sequence k c d) = truth k
 done (conditional k c) = truth k
 done (iteration k c) = truth k
+done (jump k j) = truth k
 
--- "Node 0 is the start, node 1 the end": the graph of a program file. Its nodes are those below the next fresh one
+-- "Node 0 is the start, node 1 the end": the graph of a program file. Its nodes are those below the next fresh one. Outside every do a jump would go to the
+-- end or to the start; question 20 refuses it
 unfoldable pub graph : List ℕ → Graph
-graph s = let whole = part (script s) 0 1 2 in record { edges = whole .edges; nodes = whole .fresh }
+graph s = let whole = part (within 0 1) (script s) 0 1 2 in record { edges = whole .edges; nodes = whole .fresh }
 
 unfoldable pub edges : List ℕ → List Edge
 edges s = graph s .edges

@@ -1,6 +1,6 @@
 -- "Every entry is told apart by its kind byte" (document 01, "The script file"): what its operands are, and what the entry is.
 use Prim.Native.Nat.{ℕ, _+_, _*_}
-use mathlib.Core.Bool.{Bool, _&&_}
+use mathlib.Core.Bool.{Bool, _&&_, _||_}
 use mathlib.Core.List.{List, [], _∷_}
 use lib.Dec.{leb}
 use lib.IntN.{pos}
@@ -13,8 +13,9 @@ use Rattle.program.specs.declared.ArithNode.the-variants.{Number, Variab
 use Rattle.program.specs.declared.BooleanNode.{BooleanNode}
 use Rattle.program.specs.declared.BooleanNode.the-variants.{True, Comparison, Both, AndThen, Not}
 use Rattle.program.specs.declared.CommandNode.{CommandNode}
-use Rattle.program.specs.declared.CommandNode.the-variants.{Skip, Assign, Store, Sequence, Conditional, Iteration, Guarded as GuardedNode, Choice}
+use Rattle.program.specs.declared.CommandNode.the-variants.{Skip, Assign, Store, Sequence, Conditional, Iteration, Guarded as GuardedNode, Choice, Jump as JumpNode}
 use Rattle.program.specs.declared.Entry.{Entry}
+use Rattle.program.specs.declared.Jump.the-variants.{Break, Continue}
 use Rattle.program.specs.declared.Sort.{Sort}
 use Rattle.program.specs.declared.Sort.the-variants.{Expression, Condition, Command, Guarded}
 use Rattle.program.specs.declared.Table.{Table}
@@ -87,6 +88,9 @@ kinds Commands =
     ∷ with (To Condition) (To Command) Unused
     -- 7 choice P [] Q
     ∷ with (To Guarded) (To Guarded) Unused
+    -- 8 break; 9 continue (document 02, order 7)
+    ∷ with Unused Unused Unused
+    ∷ with Unused Unused Unused
     ∷ []
 
 -- the shape of an entry of a table, by its kind
@@ -100,9 +104,9 @@ tableOf Condition = Boolean
 tableOf Command = Commands
 tableOf Guarded = Commands
 
--- "Kinds 0 to 5 of tag 4 are commands, 6 and 7 guarded commands"
+-- "Kinds 0 to 5 of tag 4 are commands, 6 and 7 guarded commands"; order 7: "command kind 8 is break, kind 9 continue"
 unfoldable pub isCommand : ℕ → Bool
-isCommand kind = leb kind 5
+isCommand kind = leb kind 5 || (leb 8 kind && leb kind 9)
 
 unfoldable pub isGuarded : ℕ → Bool
 isGuarded kind = leb 6 kind && leb kind 7
@@ -139,7 +143,7 @@ booleanKind e =
     (e .kind)
     True
 
--- "0 skip; 1 variable P := Q; 2 array P at Q := R; 3 P ; Q; 4 if P fi; 5 do P od; 6 guarded P → Q; 7 choice P [] Q"
+-- "0 skip; 1 variable P := Q; 2 array P at Q := R; 3 P ; Q; 4 if P fi; 5 do P od; 6 guarded P → Q; 7 choice P [] Q"; order 7: "8 is break, kind 9 continue"
 unfoldable pub commandKind : Entry → CommandNode
 commandKind e =
     getD
@@ -151,6 +155,8 @@ commandKind e =
     ∷ Iteration (e .p)
     ∷ GuardedNode (e .p) (e .q)
     ∷ Choice (e .p) (e .q)
+    ∷ JumpNode Break
+    ∷ JumpNode Continue
     ∷ [])
     (e .kind)
     Skip

@@ -2,9 +2,10 @@ pub mod File
 pub mod FirstSuch
 pub mod Asking
 pub mod Kind
-pub mod Questions
 pub mod Syntax
 pub mod Tree
+pub mod Jumps
+pub mod Questions
 pub mod Graph
 pub mod Meaning
 pub mod Drawing

@@ -2,7 +2,7 @@
 -- results, its index sets, is said of this.
 use Prim.Native.Nat.{ℕ}
 use Rattle.program.specs.Graph.{Action, perform, test, leave, done}
-use Rattle.program.specs.Syntax.{Arith, Boolean, Command, skip, assign, store, sequence, conditional, iteration, guarded, choice}
+use Rattle.program.specs.Syntax.{Arith, Boolean, Command, skip, assign, store, sequence, conditional, iteration, guarded, choice, jump}
 
 -- what an action means: nothing, x := a, A[i] := a, or that a condition holds
 pub data Meaning : Type 0 where
@@ -11,7 +11,8 @@ pub data Meaning : Type 0 where
   stores : ℕ → Arith → Arith → Meaning
   condition : Boolean → Meaning
 
--- skip, an assignment or a store; no other command is performed by an edge, and none means anything here
+-- skip, an assignment or a store; break and continue are arrows that "act as skip" (order 7). No other command is performed by an edge, and none means
+-- anything here
 unfoldable pub performing : Command → Meaning
 performing (skip k) = nothing
 performing (assign k x a) = assigns x a
@@ -21,6 +22,7 @@ performing (conditional k c) = nothing
 performing (iteration k c) = nothing
 performing (guarded k b c) = nothing
 performing (choice k c d) = nothing
+performing (jump k j) = nothing
 
 -- "Action kind 1 is the command entry itself, 2 a boolean entry, 3 the exit of the do whose operand is that command entry."
 unfoldable pub meaning : Action → Meaning

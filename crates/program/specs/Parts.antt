@@ -6,6 +6,7 @@ pub mod Sorted
 pub mod Prepared
 pub mod DrawingParts
 pub mod GraphingParts
+pub mod Jumping
 pub mod LinkingParts
 pub mod Preparing
 pub mod Guards

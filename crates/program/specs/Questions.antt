@@ -1,12 +1,15 @@
--- Questions 1 to 11, of a program file and of the sheet program's input (document 01, "Questions asked, with the number when it is no").
+-- Questions 1 to 11, of a program file and of the sheet program's input (document 01, "Questions asked, with the number when it is no"), and 20, which document 02's
+-- order 7 asks after them.
 use Prim.Native.Nat.{ℕ, zero, suc, _+_, _/_, _%_, _-_}
-use mathlib.Core.Bool.{Bool, true, false, cond, _&&_}
+use mathlib.Core.Bool.{Bool, true, false, not, cond, _&&_}
 use mathlib.Core.List.{List, [], _∷_}
 use lib.Dec.{eqb, leb, ltb}
 use lib.ListN.{length, take}
 use Rattle.program.specs.Asking.{ask, thenAsk, inTurn, askEach, validityNumbers}
 use Rattle.program.specs.File.{tableTag, programFields, initialField, fieldStart, fieldHead, headContent, nameCount, nameOffset, sizeAt, sizes, entryCount, entryOffset, entry, cellCount, isVariable, isArray}
+use Rattle.program.specs.Jumps.{loose}
 use Rattle.program.specs.Kind.{Role, Unused, Half, Variable, Array, To, Roles, Shape, Unknown, Known, shape, tableOf, isCommand, isGuarded}
+use Rattle.program.specs.Tree.{lastCommand, script}
 use Rattle.program.specs.declared.Entry.{Entry}
 use Rattle.program.specs.declared.Field.{Field}
 use Rattle.program.specs.declared.Head.{Head}
@@ -138,10 +141,6 @@ toBeUsed Commands count = count - 1
 unfoldable pub usedValidity : List ℕ → Table → Validity
 usedValidity s t = askEach (toBeUsed t (entryCount s t)) (useValidity s t)
 
--- "The last is the script."
-unfoldable pub lastCommand : List ℕ → ℕ
-lastCommand s = entryCount s Commands - 1
-
 -- "Is the last one a command? 11"
 unfoldable pub lastValidity : List ℕ → Validity
 lastValidity s = ask (isCommand (entry s Commands (lastCommand s) .kind)) 11 (entryOffset s Commands (lastCommand s))
@@ -152,7 +151,14 @@ usesValidity s =
     inTurn
     (usedValidity s Arithmetic ∷ usedValidity s Boolean ∷ usedValidity s Commands ∷ lastValidity s ∷ [])
 
--- questions 6 to 11: "each entry in file order", then their uses
+-- "20, such a command outside every do, with the byte where the lowest such entry starts as its place, asked after 11"
+unfoldable pub jumpValidity : List ℕ → ℕ → Validity
+jumpValidity s n = ask (not (loose n (script s))) 20 (entryOffset s Commands n)
+
+unfoldable pub jumpsValidity : List ℕ → Validity
+jumpsValidity s = askEach (entryCount s Commands) (jumpValidity s)
+
+-- questions 6 to 11 and 20: "each entry in file order", then their uses, then the jumps
 unfoldable pub contentValidity : List ℕ → Validity
 contentValidity s =
     inTurn
@@ -161,13 +167,14 @@ contentValidity s =
     ∷ tableValidity s Boolean
     ∷ tableValidity s Commands
     ∷ usesValidity s
+    ∷ jumpsValidity s
     ∷ [])
 
--- questions 1 to 11 of a program file
+-- questions 1 to 11 and 20 of a program file: it is "well formed" where all are answered yes
 unfoldable pub validity : List ℕ → Validity
 validity s = inTurn (headsValidity s 0 programFields ∷ endValidity s 4 ∷ contentValidity s ∷ [])
 
--- questions 1 to 11 of the sheet program's input: "Here 1 to 4 are asked of the fifth field too, and 5 after it"
+-- questions 1 to 11 and 20 of the sheet program's input: "Here 1 to 4 are asked of the fifth field too, and 5 after it"
 unfoldable pub inputValidity : List ℕ → Validity
 inputValidity s =
     inTurn

@@ -1,8 +1,9 @@
--- The abstract syntax of Guarded Commands (book, Definitions 2.3 and 2.19). Each node has the number of its entry.
+-- The abstract syntax of Guarded Commands (book, Definitions 2.3 and 2.19, and section 2.5). Each node has the number of its entry.
 use Prim.Native.Nat.{ℕ}
 use lib.IntN.{ℤ}
 use Rattle.signs.specs.declared.Comparison.{Comparison}
 use Rattle.signs.specs.declared.Operator.{Operator}
+use Rattle.program.specs.declared.Jump.{Jump}
 
 -- arithmetic: a number, a variable, an element of an array, an operator on two sides
 pub data Arith : Type 0 where
@@ -19,7 +20,7 @@ pub data Boolean : Type 0 where
   shortCircuit : ℕ → Boolean → Boolean → Boolean
   negation : ℕ → Boolean → Boolean
 
--- commands: skip, x := a, A[a] := a, C ; C, if GC fi, do GC od; and guarded commands: b → C, GC [] GC
+-- commands: skip, x := a, A[a] := a, C ; C, if GC fi, do GC od, break and continue; and guarded commands: b → C, GC [] GC
 pub data Command : Type 0 where
   skip : ℕ → Command
   assign : ℕ → ℕ → Arith → Command
@@ -29,6 +30,7 @@ pub data Command : Type 0 where
   iteration : ℕ → Command → Command
   guarded : ℕ → Boolean → Command → Command
   choice : ℕ → Command → Command → Command
+  jump : ℕ → Jump → Command
 
 -- the entry of a tree
 unfoldable pub booleanEntry : Boolean → ℕ
@@ -47,3 +49,4 @@ commandEntry (conditional n c) = n
 commandEntry (iteration n c) = n
 commandEntry (guarded n b c) = n
 commandEntry (choice n c d) = n
+commandEntry (jump n j) = n

@@ -1,22 +1,21 @@
 -- The tree at an entry, by what each table has at each number (document 01, "The script file"). The trees of the entries below are at hand; any
 -- other reference, and an unknown kind, makes a leaf: the number 0, true, or skip.
-use Prim.Native.Nat.{ℕ, zero, suc}
+use Prim.Native.Nat.{ℕ, zero, suc, _-_}
 use mathlib.Core.List.{List, [], _∷_, _++_}
 use lib.IntN.{pos}
 use lib.ListN.{getD}
-use Rattle.program.specs.File.{entry}
+use Rattle.program.specs.File.{entryCount, entry}
 use Rattle.program.specs.Kind.{arithKind, booleanKind, commandKind}
-use Rattle.program.specs.Questions.{lastCommand}
 use Rattle.program.specs.declared.ArithNode.{ArithNode}
 use Rattle.program.specs.declared.ArithNode.the-variants.{Number, Variable, Element, Operator}
 use Rattle.program.specs.declared.BooleanNode.{BooleanNode}
 use Rattle.program.specs.declared.BooleanNode.the-variants.{True, Comparison, Both, AndThen, Not}
 use Rattle.program.specs.declared.CommandNode.{CommandNode}
-use Rattle.program.specs.declared.CommandNode.the-variants.{Skip, Assign, Store, Sequence, Conditional, Iteration, Guarded, Choice}
+use Rattle.program.specs.declared.CommandNode.the-variants.{Skip, Assign, Store, Sequence, Conditional, Iteration, Guarded, Choice, Jump}
 use Rattle.program.specs.declared.Entry.{Entry}
 use Rattle.program.specs.declared.Table.{Table}
 use Rattle.program.specs.declared.Table.the-variants.{Arithmetic, Boolean as Booleans, Commands}
-use Rattle.program.specs.Syntax.{Arith, number, variable, element, operator, Boolean, truth, comparison, conjunction, shortCircuit, negation, Command, skip, assign, store, sequence, conditional, iteration, guarded, choice}
+use Rattle.program.specs.Syntax.{Arith, number, variable, element, operator, Boolean, truth, comparison, conjunction, shortCircuit, negation, Command, skip, assign, store, sequence, conditional, iteration, guarded, choice, jump}
 
 -- what stands at each number of each table: `entry s` for a file s
 abbrev pub Entries : Type 0
@@ -76,6 +75,7 @@ commandMade es below n (Conditional p) = conditional n (commandBelow below p)
 commandMade es below n (Iteration p) = iteration n (commandBelow below p)
 commandMade es below n (Guarded g p) = guarded n (booleanAt es g) (commandBelow below p)
 commandMade es below n (Choice p q) = choice n (commandBelow below p) (commandBelow below q)
+commandMade es below n (Jump j) = jump n j
 
 abbrev pub commandNode : Entries → List Command → ℕ → Entry → Command
 commandNode es below n e = commandMade es below n (commandKind e)
@@ -88,5 +88,8 @@ unfoldable pub commandAt : Entries → ℕ → Command
 commandAt es n = commandNode es (commandTrees es n) n (es Commands n)
 
 -- "The last is the script."
+unfoldable pub lastCommand : List ℕ → ℕ
+lastCommand s = entryCount s Commands - 1
+
 unfoldable pub script : List ℕ → Command
 script s = commandAt (entry s) (lastCommand s)

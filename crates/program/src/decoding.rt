@@ -7,6 +7,7 @@ ghost use Rattle.program.specs.Kind;
 use crate::ArithNode;
 use crate::BooleanNode;
 use crate::CommandNode;
+use crate::Jump;
 use signs::Comparison;
 use signs::Operator;
 
@@ -74,6 +75,8 @@ pub(crate) fn command_kind(kind: u16, p: u16, q: u16, r: u16) -> CommandNode
         5 => CommandNode::Iteration(p),
         6 => CommandNode::Guarded(p, q),
         7 => CommandNode::Choice(p, q),
+        8 => CommandNode::Jump(Jump::Break),
+        9 => CommandNode::Jump(Jump::Continue),
         _ => CommandNode::Skip,
     }
 }

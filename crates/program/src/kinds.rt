@@ -21,7 +21,10 @@ pub fn table_of(sort: Sort) -> Table
 pub fn is_command(kind: u8) -> bool
     ensures { λ r. ⌜ r ≡ spec.isCommand kind ⌝ }
 {
-    kind <= 5
+    if kind <= 5 {
+        return true;
+    }
+    8 <= kind && kind <= 9
 }
 
 // Whether a kind of command entry is a guarded command.

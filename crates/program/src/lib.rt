@@ -90,6 +90,12 @@ pub enum BooleanNode {
     Not(u16),
 }
 
+// The two jumps, of the innermost do around them: break to its last node, continue to its first.
+pub enum Jump {
+    Break,
+    Continue,
+}
+
 // What a command entry is.
 pub enum CommandNode {
     Skip,
@@ -100,6 +106,7 @@ pub enum CommandNode {
     Iteration(u16),
     Guarded(u16, u16),
     Choice(u16, u16),
+    Jump(Jump),
 }
 
 // What an edge's action is: nothing, an assignment, a store, a condition that must hold, or the exit of the do whose operand is a command entry.

@@ -171,6 +171,7 @@ fn performed(node: CommandNode) -> ActionNode
         CommandNode::Iteration(_) => ActionNode::Nothing,
         CommandNode::Guarded(_, _) => ActionNode::Nothing,
         CommandNode::Choice(_, _) => ActionNode::Nothing,
+        CommandNode::Jump(_) => ActionNode::Nothing,
     }
 }
 
@@ -276,7 +277,7 @@ pub fn number_at(code: &[u16; CODE], n: u16) -> i32
     }
 }
 
-// Questions 1 to 11 of a program; where they are answered yes, its code and graph, into two arrays of zeros.
+// The questions of a program file; where they are answered yes, its code and graph, into two arrays of zeros.
 fn fill(program: &[u8], code: &mut [u16; CODE], graph: &mut [u16; GRAPH]) -> Validity
     requires { ⌜ (now code ≡ replicate spec.codeLength 0) × (now graph ≡ replicate spec.graphLength 0) ⌝ }
     ensures { λ r. ⌜ spec.PreparedFor (now (program .entry)) r (now (code .exit)) (now (graph .exit)) ⌝ }
@@ -291,7 +292,7 @@ fn fill(program: &[u8], code: &mut [u16; CODE], graph: &mut [u16; GRAPH]) -> Val
     v
 }
 
-// Questions 1 to 11; where they are answered yes, the program's code and graph. What clears the arrays is small and stands in its callers, where their own zeros are then
+// The file's questions; where they are answered yes, the program's code and graph. What clears the arrays is small and stands in its callers, where their own zeros are then
 // optimised away.
 pub fn prepare(program: &[u8], code: &mut [u16; CODE], graph: &mut [u16; GRAPH]) -> Validity
     ensures { λ r. ⌜ spec.PreparedFor (now (program .entry)) r (now (code .exit)) (now (graph .exit)) ⌝ }

@@ -1,4 +1,4 @@
-// Questions 1 to 11 of a program file.
+// Questions 1 to 11 and 20 of a program file.
 
 ghost use mathlib.Core.Path.{_≡_};
 ghost use Prim.Native.Nat.{_<_};
@@ -22,6 +22,7 @@ use crate::Table;
 use crate::Validity;
 
 mod entries;
+mod jumps;
 mod operands;
 pub(crate) mod uses;
 
@@ -247,7 +248,7 @@ fn check_entries(s: &[u8], l: Layout) -> Validity
     check_all_uses(s, l, &uses)
 }
 
-// Questions 6 to 11, where questions 1 to 4 are answered yes.
+// Questions 6 to 11 and 20, where questions 1 to 4 are answered yes.
 fn check_content(s: &[u8], l: Layout) -> Validity
     requires { ⌜ (spec.headsValidity (now s) 0 File.programFields ≡ Validity.Fit) × (l ≡ File.layoutOf (now s)) ⌝ }
     ensures { λ r. ⌜ r ≡ spec.contentValidity (now (s .entry)) ⌝ }
@@ -257,7 +258,11 @@ fn check_content(s: &[u8], l: Layout) -> Validity
     if refused(names) {
         return names;
     }
-    check_entries(s, l)
+    let entries = check_entries(s, l);
+    if refused(entries) {
+        return entries;
+    }
+    jumps::check_jumps(s, l)
 }
 
 // Question 5: whether a file ends after its last field, at `at`.
@@ -267,7 +272,7 @@ fn check_end(s: &[u8], at: usize) -> Validity
     ask(at == s.len(), 5, at)
 }
 
-// Questions 1 to 11 of a program file.
+// Questions 1 to 11 and 20 of a program file.
 pub fn validate(s: &[u8]) -> Validity
     ensures { λ r. ⌜ r ≡ spec.validity (now (s .entry)) ⌝ }
     ensures numbers { λ r. ⌜ Asking.validityNumbers r ≡ spec.validationRow (now (s .entry)) ⌝ }
@@ -285,7 +290,7 @@ pub fn validate(s: &[u8]) -> Validity
     check_content(s, file::layout_by(h))
 }
 
-// Questions 1 to 11 of the sheet program's input, whose fifth field is the start list.
+// Questions 1 to 11 and 20 of the sheet program's input, whose fifth field is the start list.
 pub fn validate_input(s: &[u8]) -> Validity
     ensures { λ r. ⌜ r ≡ spec.inputValidity (now (s .entry)) ⌝ }
     ensures numbers { λ r. ⌜ Asking.validityNumbers r ≡ spec.inputRow (now (s .entry)) ⌝ }

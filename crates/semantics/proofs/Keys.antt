@@ -14,7 +14,7 @@ use Rattle.program.specs.Parts.Node.{commandTree}
 use Rattle.program.specs.Syntax.{truth}
 use Rattle.program.specs.Tree.{Entries, commandMade}
 use Rattle.program.specs.declared.CommandNode.{CommandNode}
-use Rattle.program.specs.declared.CommandNode.the-variants.{Skip, Assign, Store, Sequence, Conditional, Iteration, Guarded, Choice}
+use Rattle.program.specs.declared.CommandNode.the-variants.{Skip, Assign, Store, Sequence, Conditional, Iteration, Guarded, Choice, Jump}
 use Rattle.program.proofs.CommandNode.{the-type}
 
 unfoldable pub isKey : ℕ → List ℕ → Bool
@@ -30,7 +30,7 @@ one-key k (j ∷ ks) x (inr h) = or-right (eqb x k) (isKey x (j ∷ ks)) (one-ke
 
 module _ (es : Entries) (n : ℕ) where
   -- a do of what is no guarded command is left at once
-  pub left-at-once : (x : CommandNode) → OneOf (0 ∷ 1 ∷ 2 ∷ 3 ∷ 4 ∷ 5 ∷ []) (tagOf the-type x) → done (commandTree es n x) ≡ truth n
+  pub left-at-once : (x : CommandNode) → OneOf (0 ∷ 1 ∷ 2 ∷ 3 ∷ 4 ∷ 5 ∷ 8 ∷ []) (tagOf the-type x) → done (commandTree es n x) ≡ truth n
   unfolding commandMade done isKey
   left-at-once Skip k = refl
   left-at-once (Assign x a) k = refl
@@ -38,5 +38,6 @@ module _ (es : Entries) (n : ℕ) where
   left-at-once (Sequence p q) k = refl
   left-at-once (Conditional p) k = refl
   left-at-once (Iteration p) k = refl
-  left-at-once (Guarded g p) k = absurd (one-key 0 (1 ∷ 2 ∷ 3 ∷ 4 ∷ 5 ∷ []) 6 k)
-  left-at-once (Choice p q) k = absurd (one-key 0 (1 ∷ 2 ∷ 3 ∷ 4 ∷ 5 ∷ []) 7 k)
+  left-at-once (Guarded g p) k = absurd (one-key 0 (1 ∷ 2 ∷ 3 ∷ 4 ∷ 5 ∷ 8 ∷ []) 6 k)
+  left-at-once (Choice p q) k = absurd (one-key 0 (1 ∷ 2 ∷ 3 ∷ 4 ∷ 5 ∷ 8 ∷ []) 7 k)
+  left-at-once (Jump j) k = refl

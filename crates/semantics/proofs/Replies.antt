@@ -44,7 +44,7 @@ module _ (ns : List ℕ) (g : Graph) (run : Run) (e : ℕ) (m : List ℤ) where
   step-settled p (Stored c z) q target t m′ r k =
       record { reply = rw (p, ← q, ← t) (λ i. record { run = k .handed-back i; outcome = k .answer i }); memory = rw (p, ← q) (k .memory ∙ ap (after m) q) }
 
--- the same of a program file: refused by questions 1 to 11, or a step over its graph
+-- the same of a program file: refused by the file's questions, or a step over its graph
 pub record Replied (s : List ℕ) (run : Run) (e : ℕ) (m m′ : List ℤ) (r : Stepped) : Type 0 where
   pub reply : r ≡ stepReply s (record { run = run; memory = m }) e
   pub memory : m′ ≡ programStep s (record { run = run; memory = m }) e .memory

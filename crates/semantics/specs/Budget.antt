@@ -54,7 +54,7 @@ endsUnlessRefused (Refused x) m r = ends (Refuses x) (begun m)
 unfoldable pub budgeted : List ℕ → Graph → ℕ → List ℤ → Result
 budgeted ns g budget m = endsUnlessRefused (memoryValidity ns m) m (runFrom budget ns g (begun m))
 
--- the same of a program file, of which questions 1 to 11 are asked first; the reply "with node and count"
+-- the same of a program file, of which the file's questions are asked first; the reply "with node and count"
 unfoldable pub programBudgeted : List ℕ → ℕ → List ℤ → Result
 programBudgeted s budget m = endsUnlessRefused (validity s) m (budgeted (sizes s) (graph s) budget m)
 

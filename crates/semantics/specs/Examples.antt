@@ -1,11 +1,12 @@
--- The worked examples of document 01 on values, steps and runs. `proofs/Examples` shows that each holds.
+-- The worked examples of document 01 on values, steps and runs, and one of document 02's order 7. `proofs/Examples` shows that each holds.
 use Prim.Native.Nat.{ℕ}
 use mathlib.Core.List.{List, [], _∷_, _++_, flatMap}
-use lib.IntN.{ℤ, pos}
+use lib.IntN.{ℤ, pos, negsuc}
+use lib.ListN.{replicate}
 use Rattle.signs.specs.Case.{Case, _gives_, row}
 use Rattle.signs.specs.declared.Comparison.the-variants.{Greater}
 use Rattle.signs.specs.declared.Operator.the-variants.{Add, Sub}
-use Rattle.program.specs.Examples.{factorial, twoGuards, fileOf, entryOf}
+use Rattle.program.specs.Examples.{factorial, twoGuards, adding, fileOf, entryOf}
 use Rattle.program.specs.Syntax.{Arith, number, variable, element, operator, Boolean, comparison, conjunction, shortCircuit}
 use Rattle.semantics.specs.Budget.{programBudgeted, budgetReply, endedNumbers}
 use Rattle.semantics.specs.Expression.{value, truthIn, evaluationNumbers, truthNumbers}
@@ -62,6 +63,17 @@ runs =
     ∷ (ran twoGuards 2 (row (0 ∷ 1 ∷ [])) gives row (1 ∷ 0 ∷ 2 ∷ 0 ∷ 1 ∷ []))
     ∷ []
 
+-- (order 7) the program of the book's Example 2.25, with A 3 -1 4 0 …: a break ends the sum at the first negative element; with continue in its place "the program
+-- will sum all the non-negative entries in the array and count their number"
+unfoldable pub elements : List ℤ
+elements = pos 3 ∷ negsuc 0 ∷ pos 4 ∷ replicate 7 (pos 0)
+
+unfoldable pub jumps : List Case
+jumps =
+    (ran (adding 8) 100 (replicate 3 (pos 5) ++ elements) gives row (0 ∷ 1 ∷ 12 ∷ 2 ∷ 3 ∷ 1 ∷ []) ++ elements)
+    ∷ (ran (adding 9) 100 (replicate 3 (pos 5) ++ elements) gives row (0 ∷ 1 ∷ 53 ∷ 10 ∷ 7 ∷ 9 ∷ []) ++ elements)
+    ∷ []
+
 -- run and memory after a list of calls from the fresh run, as numbers
 unfoldable pub afterCalls : List ℕ → List ℕ → List ℤ → List ℤ
 afterCalls s es m =
@@ -84,4 +96,4 @@ calls =
     ∷ []
 
 unfoldable pub cases : List Case
-cases = expressions ++ runs ++ calls
+cases = expressions ++ runs ++ jumps ++ calls

@@ -81,7 +81,7 @@ next ns g c e Taken = along ns g c e
 next ns g c e (Stays f) = c
 next ns g c e (Refuses x) = c
 
--- the same of a program file, of which questions 1 to 11 are asked first: the answer, the configuration afterwards, and the reply
+-- the same of a program file, of which the file's questions are asked first: the answer, the configuration afterwards, and the reply
 unfoldable pub programOutcome : List ℕ → Configuration → ℕ → Outcome
 programOutcome s c e = outcomeUnlessRefused (validity s) (outcome (sizes s) (graph s) c e)
 

@@ -1,4 +1,4 @@
-//! Document 01, "The graph".
+//! Document 01, "The graph", with order 7's break and continue.
 
 use super::*;
 
@@ -6,7 +6,7 @@ use super::*;
 pub struct Arrow {
     pub from: u16,
     pub to: u16,
-    /// 1 the command entry itself, 2 a boolean entry, 3 the exit of the do whose operand is the command entry.
+    /// 1 the command entry itself (of a break or a continue too), 2 a boolean entry, 3 the exit of the do whose operand is the command entry.
     pub action: u8,
     pub entry: u16,
 }
@@ -16,11 +16,18 @@ pub struct Graph {
     pub arrows: Vec<Arrow>,
 }
 
+/// The first and the last node of a do.
+#[derive(Clone, Copy)]
+struct Ends {
+    first: u16,
+    last: u16,
+}
+
 impl Graph {
     /// "Node 0 is the start, node 1 the end."
     pub fn of(script: &Script) -> Graph {
         let mut graph = Graph { nodes: 2, arrows: Vec::new() };
-        graph.lay(script, script.tables[COMMANDS].len() as u16 - 1, 0, 1);
+        graph.lay(script, script.tables[COMMANDS].len() as u16 - 1, 0, 1, None);
         graph
     }
 
@@ -34,31 +41,34 @@ impl Graph {
         self.arrows.push(Arrow { from, to, action, entry });
     }
 
-    /// The arrows of a command or guarded command entry, from a node to a node.
-    fn lay(&mut self, script: &Script, n: u16, from: u16, to: u16) {
+    /// The arrows of a command or guarded command entry, from a node to a node; `innermost` is the nearest do around it, if there is one.
+    fn lay(&mut self, script: &Script, n: u16, from: u16, to: u16, innermost: Option<Ends>) {
         let e = script.tables[COMMANDS][usize::from(n)];
         let [p, q, _] = e.operands;
         match e.kind {
             0..=2 => self.arrow(from, to, 1, n),
             3 => {
                 let middle = self.fresh();
-                self.lay(script, p, from, middle);
-                self.lay(script, q, middle, to);
+                self.lay(script, p, from, middle, innermost);
+                self.lay(script, q, middle, to, innermost);
             }
-            4 => self.lay(script, p, from, to),
-            5 => {
-                self.lay(script, p, from, from);
+            4 => self.lay(script, p, from, to, innermost),
+            DO => {
+                self.lay(script, p, from, from, Some(Ends { first: from, last: to }));
                 self.arrow(from, to, 3, p);
             }
             6 => {
                 let middle = self.fresh();
                 self.arrow(from, middle, 2, p);
-                self.lay(script, q, middle, to);
+                self.lay(script, q, middle, to, innermost);
             }
             7 => {
-                self.lay(script, p, from, to);
-                self.lay(script, q, from, to);
+                self.lay(script, p, from, to, innermost);
+                self.lay(script, q, from, to, innermost);
             }
+            // "Break to the loop's last node and continue to its first." Question 20 has made sure that there is a loop.
+            BREAK => self.arrow(from, innermost.unwrap().last, 1, n),
+            CONTINUE => self.arrow(from, innermost.unwrap().first, 1, n),
             _ => unreachable!(),
         }
     }

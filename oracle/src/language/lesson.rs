@@ -59,7 +59,7 @@ pub fn number_of(p: u16, q: u16) -> i32 {
     (u32::from(p) << 16 | u32::from(q)) as i32
 }
 
-/// A script that passed questions 1 to 11, with its graph and with the first cell of each name.
+/// A script that passed questions 1 to 11 and 20, with its graph and with the first cell of each name.
 pub struct Lesson {
     pub script: Script,
     pub graph: Graph,
@@ -201,7 +201,8 @@ impl Lesson {
         let e = self.command(n);
         let [p, q, r] = e.operands;
         match e.kind {
-            0 => Ok(None),
+            // A break or a continue "acts as skip".
+            0 | BREAK | CONTINUE => Ok(None),
             1 => Ok(Some((self.variable(p), self.value(q, memory)?))),
             // "A store works out its index, tests 34 and 35, then its value."
             2 => {
@@ -214,7 +215,7 @@ impl Lesson {
     }
 }
 
-/// A file's bytes with what questions 1 to 11 say of them. Every entry point asks these first: here they are asked once.
+/// A file's bytes with what questions 1 to 11 and 20 say of them. Every entry point asks these first: here they are asked once.
 pub struct Loaded {
     pub bytes: Vec<u8>,
     lesson: Result<Lesson, No>,

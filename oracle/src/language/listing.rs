@@ -16,7 +16,7 @@ pub fn listing(input: &[u8]) -> String {
 }
 
 fn listed(input: &[u8]) -> Result<String, Refusal> {
-    // Questions 1 to 11, with 1 to 4 of the fifth field before 5.
+    // Questions 1 to 11 and 20, with 1 to 4 of the fifth field before 5.
     read(input, 5)?;
     let list = fields(input, 5)?[4];
     let initial = &input[list.at..list.at + list.length];

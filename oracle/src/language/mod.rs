@@ -1,4 +1,4 @@
-//! The language, its graph, its meaning and its sign sheets, written from document 01 alone. Nothing here shares a definition or code with the engine.
+//! The language, its graph, its meaning and its sign sheets, written from document 01 and order 7 of document 02 alone. Nothing here shares a definition or code with the engine.
 
 mod graph;
 mod lesson;

@@ -74,7 +74,7 @@ impl Lesson {
         let e = self.command(n);
         let [p, q, r] = e.operands;
         match e.kind {
-            0 => vec![record.to_vec()],
+            0 | BREAK | CONTINUE => vec![record.to_vec()],
             1 => signs(self.set(q, record)).map(|s| with(record, p, s)).collect(),
             2 if !may_be_index(self.set(q, record)) => Vec::new(),
             2 => {

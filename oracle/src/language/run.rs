@@ -18,7 +18,7 @@ pub enum Outcome {
     Refused(No),
 }
 
-/// Questions 1 to 12.
+/// Questions 1 to 11, 20 and 12.
 fn with_memory<'a>(file: &'a Loaded, memory: &[i32]) -> Result<&'a Lesson, No> {
     let lesson = file.lesson()?;
     if memory.len() != lesson.cells {

@@ -1,4 +1,4 @@
-//! Document 01, "The script file" and "Questions asked": a reader and a validator.
+//! Document 01, "The script file" and "Questions asked", with order 7's two kinds of commands and its question 20: a reader and a validator.
 
 #[derive(Clone, Copy)]
 pub struct Entry {
@@ -17,6 +17,11 @@ pub struct Script {
 pub const ARITHMETIC: usize = 0;
 pub const BOOLEAN: usize = 1;
 pub const COMMANDS: usize = 2;
+
+/// Kinds of commands that matter to a break or a continue: those two, and the do that they go to the end or the start of.
+pub const BREAK: u8 = 8;
+pub const CONTINUE: u8 = 9;
+pub const DO: u8 = 5;
 
 /// The most entries of each table.
 pub const MOST_ENTRIES: [usize; 3] = [512, 256, 256];
@@ -53,12 +58,12 @@ pub fn rule(table: usize, kind: u8) -> Option<[Operand; 3]> {
         (BOOLEAN, 1..=3) => [Arithmetic, Arithmetic, Zero],
         (BOOLEAN, 4 | 5) => [Boolean, Boolean, Zero],
         (BOOLEAN, 6) => [Boolean, Zero, Zero],
-        // Commands: skip; variable P := Q; array P at Q := R; P ; Q; if P fi; do P od; P -> Q; P [] Q.
-        (COMMANDS, 0) => [Zero, Zero, Zero],
+        // Commands: skip; variable P := Q; array P at Q := R; P ; Q; if P fi; do P od; P -> Q; P [] Q; break; continue.
+        (COMMANDS, 0 | BREAK | CONTINUE) => [Zero, Zero, Zero],
         (COMMANDS, 1) => [Variable, Arithmetic, Zero],
         (COMMANDS, 2) => [Array, Arithmetic, Arithmetic],
         (COMMANDS, 3) => [Command, Command, Zero],
-        (COMMANDS, 4 | 5) => [Guarded, Zero, Zero],
+        (COMMANDS, 4 | DO) => [Guarded, Zero, Zero],
         (COMMANDS, 6) => [Boolean, Command, Zero],
         (COMMANDS, 7) => [Guarded, Guarded, Zero],
         _ => return None,
@@ -76,9 +81,14 @@ pub fn referred(o: Operand) -> Option<usize> {
     }
 }
 
-/// "Kinds 0 to 5 of tag 4 are commands, 6 and 7 guarded commands."
+/// "Kinds 0 to 5 of tag 4 are commands, 6 and 7 guarded commands"; 8 and 9 are commands too.
 pub fn is_guarded(e: Entry) -> bool {
     e.kind == 6 || e.kind == 7
+}
+
+/// Whether a command entry is a break or a continue.
+pub fn is_jump(e: Entry) -> bool {
+    e.kind == BREAK || e.kind == CONTINUE
 }
 
 /// "All numbers have the high byte first."
@@ -133,7 +143,7 @@ pub fn fields(file: &[u8], count: usize) -> Result<Vec<Field>, No> {
     Ok(found)
 }
 
-/// Questions 1 to 11, of a script (four fields) or of the sheet program's input (five).
+/// Questions 1 to 11, then 20, of a script (four fields) or of the sheet program's input (five).
 pub fn read(file: &[u8], count: usize) -> Result<Script, No> {
     let fields = fields(file, count)?;
     let mut script = Script { names: read_names(file, fields[0])?, tables: [Vec::new(), Vec::new(), Vec::new()] };
@@ -150,6 +160,9 @@ pub fn read(file: &[u8], count: usize) -> Result<Script, No> {
     let last = script.tables[COMMANDS].len() - 1;
     if is_guarded(script.tables[COMMANDS][last]) {
         return Err(No(11, places[COMMANDS] + 7 * last));
+    }
+    if let Some(i) = loose_jump(&script) {
+        return Err(No(20, places[COMMANDS] + 7 * i));
     }
     Ok(script)
 }
@@ -219,6 +232,27 @@ fn ask_uses(script: &Script, places: [usize; 3]) -> Result<(), No> {
         }
     }
     Ok(())
+}
+
+/// Which command entries have a do about them, of a script that each entry but the last is used once in.
+pub fn inside_do(script: &Script) -> Vec<bool> {
+    let commands = &script.tables[COMMANDS];
+    let mut inside = vec![false; commands.len()];
+    // References go to lower entries: from the last down, an entry's own answer is there before it is handed on to those that it uses.
+    for (i, e) in commands.iter().enumerate().rev() {
+        for (operand, x) in rule(COMMANDS, e.kind).unwrap().into_iter().zip(e.operands) {
+            if referred(operand) == Some(COMMANDS) {
+                inside[usize::from(x)] = inside[i] || e.kind == DO;
+            }
+        }
+    }
+    inside
+}
+
+/// Question 20: the lowest break or continue that is outside every do.
+fn loose_jump(script: &Script) -> Option<usize> {
+    let inside = inside_do(script);
+    script.tables[COMMANDS].iter().zip(inside).position(|(&e, inside)| is_jump(e) && !inside)
 }
 
 pub fn refused(no: No) -> String {

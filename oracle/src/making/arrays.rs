@@ -8,7 +8,7 @@ fn names(size: usize) -> String {
     format!("i j n t x A{size} B{size}")
 }
 
-const LESSONS: [&str; 8] = [
+const LESSONS: [&str; 12] = [
     "i := 1; do n > i -> j := i; do j > 0 && A[j - 1] > A[j] -> t := A[j]; A[j] := A[j - 1]; A[j - 1] := t; j := j - 1 od; i := i + 1 od",
     "i := n; do i > 1 -> j := 0; do i - 1 > j -> if A[j] > A[j + 1] -> t := A[j]; A[j] := A[j + 1]; A[j + 1] := t [] A[j + 1] >= A[j] -> skip fi; j := j + 1 od; i := i - 1 od",
     "i := 0; j := n; do j > i + 1 -> t := (i + j) / 2; if A[t] > x -> j := t [] x >= A[t] -> i := t fi od; if A[i] = x -> t := i [] !(A[i] = x) -> t := -1 fi",
@@ -17,10 +17,14 @@ const LESSONS: [&str; 8] = [
     "i := 0; do n > i -> t := A[i]; if t >= 0 and n > t -> B[t] := B[t] + 1 [] !(t >= 0 and n > t) -> skip fi; i := i + 1 od",
     "i := 1; t := A[0]; do n > i && A[i] >= t -> t := A[i]; i := i + 1 od; x := t * t - i",
     "i := n; do i > 0 -> i := i - 1; A[i] := A[A[i]] od",
+    "i := 0; x := 0; t := 0; do n > i -> if A[i] >= 0 -> x := x + A[i]; i := i + 1 [] 0 > A[i] -> i := i + 1; break fi; t := t + 1 od",
+    "i := 0; x := 0; t := 0; do n > i -> if A[i] >= 0 -> x := x + A[i]; i := i + 1 [] 0 > A[i] -> i := i + 1; continue fi; t := t + 1 od",
+    "t := -1; i := n; do i > 0 -> i := i - 1; if A[i] = x -> t := i; break [] !(A[i] = x) -> skip fi od",
+    "i := n; do true -> i := i - 1; if 0 >= i -> break [] i > 0 -> skip fi; j := 0; do true -> if j >= i -> break [] i > j && A[j + 1] >= A[j] -> j := j + 1; continue [] true -> skip fi; t := A[j]; A[j] := A[j + 1]; A[j + 1] := t; j := j + 1 od od",
 ];
 
 /// Words that may stand for one another.
-const CLASSES: [&[&str]; 4] = [&["0", "1", "2"], &["+", "-"], &[">", ">="], &["i", "j", "n", "t", "x"]];
+const CLASSES: [&[&str]; 5] = [&["0", "1", "2"], &["+", "-"], &[">", ">="], &["i", "j", "n", "t", "x"], &["skip", "break", "continue"]];
 
 /// One word of a lesson becomes another of its class; or a loop's "&&" becomes "and".
 fn changed(r: &mut Random, text: &str) -> String {
@@ -70,4 +74,16 @@ pub fn random_array_memory(r: &mut Random, cells: usize) -> Vec<i32> {
     }
     memory.truncate(cells);
     memory
+}
+
+#[cfg(test)]
+mod tests {
+    use super::*;
+
+    #[test]
+    fn each_lesson_is_fit_as_it_stands() {
+        for text in LESSONS {
+            assert!(read_text(&names(4), text).is_some(), "{text}");
+        }
+    }
 }

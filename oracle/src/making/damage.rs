@@ -7,12 +7,12 @@ use crate::language::*;
 pub fn damage_script(r: &mut Random, s: &mut Script) {
     let t = r.below(3);
     let count = s.tables[t].len();
-    match r.below(8) {
+    match r.below(9) {
         0 => {
             let i = r.below(s.names.len());
             s.names[i] = r.below(80) as u16;
         }
-        1 if count > 0 => s.tables[t][r.below(count)].kind = r.below(9) as u8,
+        1 if count > 0 => s.tables[t][r.below(count)].kind = r.below(11) as u8,
         2..=4 if count > 0 => {
             let i = r.below(count);
             s.tables[t][i].operands[r.below(3)] = r.below(count + 2) as u16;
@@ -28,7 +28,32 @@ pub fn damage_script(r: &mut Random, s: &mut Script) {
         7 if count > 0 => {
             s.tables[t].remove(r.below(count));
         }
+        8 => loosen(r, s),
         _ => {}
+    }
+}
+
+/// A fit script in which a jump comes loose: a skip outside every do becomes one, or one is put before or after the script, or a do becomes an if. The last is of no use where
+/// no jump is in it. A script that is not fit stays as it is.
+pub fn loosen(r: &mut Random, s: &mut Script) {
+    if read(&s.bytes(), 4).is_err() {
+        return;
+    }
+    let inside = inside_do(s);
+    let found = |kind: u8| -> Vec<usize> { (0..inside.len()).filter(|&i| s.tables[COMMANDS][i].kind == kind && !inside[i]).collect() };
+    let (skips, dos) = (found(0), found(DO));
+    let jump = [BREAK, CONTINUE][r.below(2)];
+    if !dos.is_empty() && r.chance(3) {
+        s.tables[COMMANDS][dos[r.below(dos.len())]].kind = 4;
+    } else if !skips.is_empty() && !r.chance(3) {
+        for _ in 0..1 + r.below(2) {
+            s.tables[COMMANDS][skips[r.below(skips.len())]].kind = jump;
+        }
+    } else {
+        let c = s.tables[COMMANDS].len() as u16 - 1;
+        let d = s.jump(jump);
+        let pair = [(c, d), (d, c)][r.below(2)];
+        s.then(pair.0, pair.1);
     }
 }
 

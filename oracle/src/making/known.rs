@@ -1,5 +1,6 @@
 //! Scripts that serve again and again: the factorial lesson, every kind of entry, and scripts at the limits.
 
+use super::{entry, script_of};
 use crate::language::*;
 
 /// y := 1; do x > 0 -> y := x * y; x := x - 1 od
@@ -23,6 +24,12 @@ pub fn factorial() -> Script {
     let body = s.do_od(body);
     s.then(first, body);
     s
+}
+
+/// The book's Example 2.25, over the names i, x, y and A of 10, with a jump or a skip where it has a break: the sum of elements and their number.
+pub fn adding_and_counting(jump: &str) -> Script {
+    let arms = format!("A[i] >= 0 -> x := x + A[i]; i := i + 1 [] 0 > A[i] -> i := i + 1; {jump}");
+    script_of("i x y A10", &format!("i := 0; x := 0; y := 0; do 10 > i -> if {arms} fi; y := y + 1 od"))
 }
 
 /// Every kind of every table: names x, y, A of 4, B of 64.
@@ -59,10 +66,12 @@ pub fn tour() -> Script {
     let assign = s.assign(1, minus);
     let i = s.number(5);
     let store = s.store(3, y, i);
-    let skip = s.skip();
+    let leave = s.jump(BREAK);
     let pair = s.then(assign, store);
-    let g = s.guard(and_then, pair);
-    let h = s.guard(yes, skip);
+    let again = s.jump(CONTINUE);
+    let three = s.then(pair, again);
+    let g = s.guard(and_then, three);
+    let h = s.guard(yes, leave);
     let choice = s.choice(g, h);
     let looped = s.do_od(choice);
     let skip = s.skip();
@@ -81,8 +90,13 @@ pub fn skip_over(names: &[u16]) -> Script {
 
 /// Loops in loops, `depth` of them about one skip.
 pub fn loops(depth: usize) -> Script {
+    loops_about(0, depth)
+}
+
+/// The same about a command of a kind that has no operands: a skip, a break or a continue.
+pub fn loops_about(kind: u8, depth: usize) -> Script {
     let mut s = Script::new(&[0]);
-    let mut c = s.skip();
+    let mut c = s.add(COMMANDS, entry(kind, 0, 0, 0));
     for _ in 0..depth {
         let b = s.truth();
         let g = s.guard(b, c);
@@ -94,21 +108,35 @@ pub fn loops(depth: usize) -> Script {
 /// `count` skips in sequence, to the left, to the right or in halves.
 pub fn sequence(count: usize, shape: u8) -> Script {
     let mut s = Script::new(&[0]);
-    let mut c: Vec<u16> = (0..count).map(|_| s.skip()).collect();
+    let skips = (0..count).map(|_| s.skip()).collect();
+    chain(&mut s, skips, shape);
+    s
+}
+
+/// A loop whose body is `count` jumps in sequence, breaks and continues in turn: only the first is ever reached.
+pub fn jumps_in_a_loop(count: usize, shape: u8) -> Script {
+    let mut s = Script::new(&[0]);
+    let jumps = (0..count).map(|k| s.jump([BREAK, CONTINUE][k % 2])).collect();
+    let body = chain(&mut s, jumps, shape);
+    let b = s.truth();
+    let g = s.guard(b, body);
+    s.do_od(g);
+    s
+}
+
+/// Commands in sequence, nested to the left, to the right or in halves.
+fn chain(s: &mut Script, mut c: Vec<u16>, shape: u8) -> u16 {
+    let last = c.len() - 1;
     match shape {
-        0 => {
-            c[1..].iter().fold(c[0], |p, &q| s.then(p, q));
-        }
-        1 => {
-            c[..count - 1].iter().rev().fold(c[count - 1], |q, &p| s.then(p, q));
-        }
+        0 => c[1..].iter().fold(c[0], |p, &q| s.then(p, q)),
+        1 => c[..last].iter().rev().fold(c[last], |q, &p| s.then(p, q)),
         _ => {
             while c.len() > 1 {
                 c = c.chunks(2).map(|w| if w.len() == 2 { s.then(w[0], w[1]) } else { w[0] }).collect();
             }
+            c[0]
         }
     }
-    s
 }
 
 /// A script with exactly so many entries in each table.

@@ -87,9 +87,9 @@ pub fn random_condition(r: &mut Random, depth: usize, loops: usize) -> String {
     }
 }
 
-/// Commands that mostly go on: counted loops, ifs of a condition and its opposite, and assignments.
+/// Commands that mostly go on: counted loops, ifs of a condition and its opposite, assignments, and in a loop a break or a continue.
 pub fn random_command(r: &mut Random, depth: usize, loops: usize) -> String {
-    match r.below(8) {
+    match r.below(if loops > 0 { 12 } else { 8 }) {
         0 | 1 if depth > 0 => {
             let test = random_condition(r, 1, loops);
             let (yes, no) = (random_command(r, depth - 1, loops), random_command(r, depth - 1, loops));
@@ -101,7 +101,22 @@ pub fn random_command(r: &mut Random, depth: usize, loops: usize) -> String {
         }
         4 | 5 if depth > 0 => format!("{}; {}", random_command(r, depth - 1, loops), random_command(r, depth - 1, loops)),
         6 => format!("{} := {}", random_element(r, loops), random_expression(r, 2, loops)),
+        8..=10 if depth > 0 => {
+            let (test, jump) = (random_condition(r, 1, loops), random_jump(r, loops));
+            format!("if {test} -> {jump} [] !({test}) -> {} fi", random_command(r, depth - 1, loops))
+        }
+        11 if r.chance(2) => random_jump(r, loops),
         _ => format!("{} := {}", ["x", "y", "z"][r.below(3)], random_expression(r, 2, loops)),
+    }
+}
+
+/// A jump in a loop. A continue mostly counts first: without that the loop may go on for ever.
+fn random_jump(r: &mut Random, loops: usize) -> String {
+    let i = COUNTERS[loops - 1];
+    match r.below(6) {
+        0 => "continue".to_string(),
+        1 | 2 => format!("{i} := {i} - 1; continue"),
+        _ => "break".to_string(),
     }
 }
 

@@ -17,10 +17,21 @@ pub fn random_script(r: &mut Random, size: usize) -> Script {
             pools.add_command(r);
         }
         pools.close(r);
-        let script = pools.script;
+        let mut script = pools.script;
+        tie_jumps(&mut script);
         let fits = script.tables.iter().zip(MOST_ENTRIES).all(|(table, most)| table.len() <= most);
         if fits && read(&script.bytes(), 4).is_ok() {
             return script;
+        }
+    }
+}
+
+/// Where a jump ends up in the script is known only once that is whole: outside every do it becomes a skip.
+fn tie_jumps(script: &mut Script) {
+    let inside = inside_do(script);
+    for (e, inside) in script.tables[COMMANDS].iter_mut().zip(inside) {
+        if is_jump(*e) && !inside {
+            e.kind = 0;
         }
     }
 }
@@ -96,7 +107,7 @@ impl Pools {
         self.b.push(made);
     }
 
-    /// A command or guarded command of any kind that there are entries for, or a skip.
+    /// A command or guarded command of any kind that there are entries for, or one that needs none.
     fn add_command(&mut self, r: &mut Random) {
         match r.below(9) {
             0 if !self.a.is_empty() => self.assign(r),
@@ -109,7 +120,8 @@ impl Pools {
             4 if self.g.len() > 1 => self.choose(r),
             5 if !self.g.is_empty() => self.enclose(r),
             6 if self.c.len() > 1 => self.sequence(r),
-            _ => self.c.push(self.script.skip()),
+            _ if r.chance(3) => self.c.push(self.script.skip()),
+            _ => self.c.push(self.script.jump([BREAK, CONTINUE][r.below(2)])),
         }
     }
 

@@ -154,6 +154,14 @@ impl Parser {
                 self.at += 1;
                 return Some(self.script.skip());
             }
+            "break" => {
+                self.at += 1;
+                return Some(self.script.jump(BREAK));
+            }
+            "continue" => {
+                self.at += 1;
+                return Some(self.script.jump(CONTINUE));
+            }
             "if" => {
                 self.at += 1;
                 let g = self.guarded()?;
@@ -206,8 +214,12 @@ impl Parser {
     }
 }
 
-/// The script of a text, if that is one and fits the tables.
+/// The script of a text, if that is one and passes all questions.
 pub fn read_text(names: &str, text: &str) -> Option<Script> {
+    parsed(names, text).filter(|script| read(&script.bytes(), 4).is_ok())
+}
+
+fn parsed(names: &str, text: &str) -> Option<Script> {
     let (mut letters, mut sizes) = (Vec::new(), Vec::new());
     for name in names.split(' ') {
         let (letter, size) = name.split_at(1);
@@ -216,8 +228,12 @@ pub fn read_text(names: &str, text: &str) -> Option<Script> {
     }
     let mut parser = Parser { tokens: words(text), at: 0, letters, script: Script::new(&sizes) };
     parser.command()?;
-    let is_whole = parser.at == parser.tokens.len();
-    (is_whole && read(&parser.script.bytes(), 4).is_ok()).then_some(parser.script)
+    (parser.at == parser.tokens.len()).then_some(parser.script)
+}
+
+/// The script of a text that need not be fit: a break or a continue may be outside every do.
+pub fn draft_of(names: &str, text: &str) -> Script {
+    parsed(names, text).unwrap_or_else(|| panic!("{text}"))
 }
 
 pub fn script_of(names: &str, text: &str) -> Script {

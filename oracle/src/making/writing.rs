@@ -93,6 +93,11 @@ impl Script {
         self.add(2, entry(0, 0, 0, 0))
     }
 
+    /// A break or a continue.
+    pub fn jump(&mut self, kind: u8) -> u16 {
+        self.add(2, entry(kind, 0, 0, 0))
+    }
+
     pub fn assign(&mut self, x: u16, value: u16) -> u16 {
         self.add(2, entry(1, x, value, 0))
     }

@@ -18,6 +18,7 @@ pub fn store(sheet: &Path, sheet_inputs: &Path) -> io::Result<()> {
     records_refused(&mut inputs);
     no_room(&mut inputs);
     listed(&mut inputs);
+    jumping(&mut inputs);
     marked(&mut inputs);
     many(&mut inputs);
     largest(&mut inputs);
@@ -119,7 +120,7 @@ fn largest_input() -> Vec<u8> {
     input(&exact(&full_names(), 512, 256, 256), &list)
 }
 
-/// Questions 6 to 11, which come after 5 of the fifth field: one entry of the lesson is another.
+/// Questions 6 to 11 and 20, which come after 5 of the fifth field: one entry of the lesson is another.
 fn entries_refused(inputs: &mut Inputs) {
     let lesson = factorial();
     let mut names = lesson.clone();
@@ -129,12 +130,14 @@ fn entries_refused(inputs: &mut Inputs) {
     // The arithmetic entries begin at 10, the boolean ones at 76, the command ones at 86; an entry has seven bytes.
     let changed = |t: usize, i: usize, e: Entry| input(&with_entry(&lesson, t, i, e), &[4, 2]);
     inputs.refused("kind-8", &changed(0, 1, entry(8, 0, 0, 0)), 7, 17);
-    inputs.refused("kind-8-of-the-last-command", &changed(2, 6, entry(8, 0, 0, 0)), 7, 128);
+    inputs.refused("kind-10-of-the-last-command", &changed(2, 6, entry(10, 0, 0, 0)), 7, 128);
     inputs.refused("variable-2-of-2", &changed(0, 1, entry(1, 2, 0, 0)), 8, 17);
     inputs.refused("an-array-that-is-none", &changed(2, 0, entry(2, 1, 0, 0)), 8, 86);
     inputs.refused("entry-that-is-not-there", &changed(1, 0, entry(2, 1, 9, 0)), 9, 76);
     inputs.refused("itself", &changed(2, 6, entry(3, 0, 6, 0)), 9, 128);
     inputs.refused("used-twice-and-never", &changed(1, 0, entry(2, 1, 1, 0)), 10, 17);
+    // A break in place of the last sequence: all other commands are left unused, which is asked about before 20.
+    inputs.refused("a-break-last", &changed(2, 6, entry(BREAK, 0, 0, 0)), 10, 86);
     inputs.refused("a-command-never-used", &changed(2, 6, entry(0, 0, 0, 0)), 10, 86);
     // true -> skip by itself.
     let mut guarded = Script::new(&[0, 0]);
@@ -142,6 +145,27 @@ fn entries_refused(inputs: &mut Inputs) {
     inputs.refused("guarded-last", &input(&guarded, &[4, 2]), 11, 30);
     // A wrong byte of the list is asked about last.
     inputs.refused("guarded-last-and-a-wrong-record", &input(&guarded, &[4, 3]), 11, 30);
+    jumps_refused(inputs);
+}
+
+/// Question 20. The first command is at 16, with a condition at 23.
+fn jumps_refused(inputs: &mut Inputs) {
+    let loose = |text: &str| draft_of("x y", text);
+    inputs.refused("break", &input(&loose("break"), &[4, 2]), 20, 16);
+    inputs.refused("continue-in-an-if", &input(&loose("if true -> continue fi"), &[4, 2]), 20, 23);
+    inputs.refused("break-after-a-loop", &input(&loose("do true -> break od; break"), &[4, 2]), 20, 44);
+    inputs.refused("the-lower-of-two", &input(&loose("skip; continue; break"), &[4, 2]), 20, 23);
+    // A wrong byte of the list, and a list that there is no room for, are asked about later.
+    inputs.refused("break-and-a-wrong-record", &input(&loose("break"), &[4, 3]), 20, 16);
+    let mut wide = sequence(46, 1);
+    wide.names = vec![1; 32];
+    wide.tables[COMMANDS][0].kind = BREAK;
+    inputs.refused("break-and-no-room", &input(&wide, &records(32, 42)), 20, wide.place(COMMANDS, 0));
+    // true -> break by itself: a guarded command last is asked about sooner.
+    let mut guarded = Script::new(&[0, 0]);
+    let (b, c) = (guarded.truth(), guarded.jump(BREAK));
+    guarded.guard(b, c);
+    inputs.refused("guarded-last-and-a-break", &input(&guarded, &[4, 2]), 11, 30);
 }
 
 /// Question 17: its place counts from the start list's first byte.
@@ -236,6 +260,32 @@ fn listed(inputs: &mut Inputs) {
     inputs.known("listing-of-the-stuck", &input(&script_of("x", "if x > 0 -> skip fi"), &[2]), "nodes 3 arrows 2 records 1\n0 0 2\nindex clean\n");
     // A store of sign zero into the set 4: 6, then 2.
     inputs.known("listing-of-a-store", &input(&script_of("A3", "A[0] := 0"), &[4]), "nodes 2 arrows 1 records 3\n0 0 4\n1 1 6\n2 1 2\nindex clean\n");
+}
+
+/// What is listed of the book's Example 2.25 where i, x and y are zero and A has elements below and above zero: node, then signs of i, x, y and A. Its jump's
+/// arrow is from 10, where the first has x and y still zero.
+const WITH_BREAK: &str = "0 2 2 2 5; 2 2 2 2 5; 3 2 2 2 5; 4 2 2 2 5; 5 2 2 2 5; 7 2 2 2 5; 9 2 2 2 5; 8 2 1 2 5; 8 2 4 2 5; 10 4 2 2 5; \
+    6 4 1 2 5; 6 4 4 2 5; 1 4 2 2 5; 4 4 1 4 5; 4 4 4 4 5; 5 4 1 4 5; 1 4 1 4 5; 5 4 4 4 5; 1 4 4 4 5; 7 4 1 4 5; \
+    9 4 1 4 5; 7 4 4 4 5; 9 4 4 4 5; 8 4 1 4 5; 8 4 2 4 5; 8 4 4 4 5; 10 4 1 4 5; 10 4 4 4 5; 6 4 1 4 5; 6 4 2 4 5; \
+    6 4 4 4 5; 4 4 2 4 5; 5 4 2 4 5; 1 4 2 4 5; 7 4 2 4 5; 9 4 2 4 5; 10 4 2 4 5";
+
+const WITH_CONTINUE: &str = "0 2 2 2 5; 2 2 2 2 5; 3 2 2 2 5; 4 2 2 2 5; 5 2 2 2 5; 7 2 2 2 5; 9 2 2 2 5; 8 2 1 2 5; 8 2 4 2 5; 10 4 2 2 5; \
+    6 4 1 2 5; 6 4 4 2 5; 4 4 2 2 5; 4 4 1 4 5; 4 4 4 4 5; 5 4 2 2 5; 1 4 2 2 5; 5 4 1 4 5; 1 4 1 4 5; 5 4 4 4 5; \
+    1 4 4 4 5; 7 4 2 2 5; 9 4 2 2 5; 7 4 1 4 5; 9 4 1 4 5; 7 4 4 4 5; 9 4 4 4 5; 8 4 1 2 5; 8 4 4 2 5; 8 4 1 4 5; \
+    8 4 2 4 5; 8 4 4 4 5; 10 4 1 4 5; 10 4 4 4 5; 6 4 1 4 5; 6 4 2 4 5; 6 4 4 4 5; 4 4 2 4 5; 5 4 2 4 5; 1 4 2 4 5; \
+    7 4 2 4 5; 9 4 2 4 5; 10 4 2 4 5";
+
+/// The same lesson with a break and with a continue: a break takes the records of node 10 to node 1, a continue takes them to node 4.
+fn jumping(inputs: &mut Inputs) {
+    for (jump, count, records) in [("break", 37, WITH_BREAK), ("continue", 43, WITH_CONTINUE)] {
+        let rows: String = records.split("; ").enumerate().map(|(i, record)| format!("{i} {record}\n")).collect();
+        let printed = format!("nodes 11 arrows 12 records {count}\n{rows}index clean\n");
+        inputs.known(&format!("listing-with-{jump}"), &input(&adding_and_counting(jump), &[2, 2, 2, 5]), &printed);
+    }
+    // Loops in a loop: 0 to 2 x > 0; 2 to 4 y > 0; 4 to 3 the break; 2 to 3 the inner exit; 3 to 0 x := x - 1; 0 to 1 the exit.
+    let nested = script_of("x y", "do x > 0 -> do y > 0 -> break od; x := x - 1 od");
+    let rows = "0 0 4 4\n1 2 4 4\n2 4 4 4\n3 3 4 4\n4 0 1 4\n5 0 2 4\n6 1 1 4\n7 1 2 4\n";
+    inputs.known("listing-with-break-in-two-loops", &input(&nested, &[4, 4]), &format!("nodes 5 arrows 6 records 8\n{rows}index clean\n"));
 }
 
 /// Index lines that name a record and an arrow.

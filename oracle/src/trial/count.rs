@@ -5,7 +5,7 @@ use super::kinds::Kind;
 use std::collections::BTreeMap;
 
 /// The numbers of the refusals that there are.
-const REFUSALS: [u32; 20] = [1, 2, 3, 4, 5, 6, 7, 8, 9, 10, 11, 12, 13, 14, 15, 16, 17, 18, 23, 24];
+const REFUSALS: [u32; 21] = [1, 2, 3, 4, 5, 6, 7, 8, 9, 10, 11, 12, 13, 14, 15, 16, 17, 18, 20, 23, 24];
 
 #[derive(Default)]
 pub struct Counts {

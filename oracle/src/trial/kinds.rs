@@ -15,6 +15,7 @@ pub enum Kind {
     ByteDamage,
     OtherReference,
     GuardedLast,
+    LooseJump,
     Truncated,
     Extended,
     WrongHead,
@@ -23,10 +24,10 @@ pub enum Kind {
 }
 
 /// How many of a thousand files are of each kind. Those at the limits and those of long sheets are few: they take long.
-const SHARES: [(Kind, usize); 15] = [
-    (Kind::Script, 170),
-    (Kind::SmallNumbers, 170),
-    (Kind::Lesson, 165),
+const SHARES: [(Kind, usize); 16] = [
+    (Kind::Script, 160),
+    (Kind::SmallNumbers, 160),
+    (Kind::Lesson, 155),
     (Kind::ArrayLesson, 120),
     (Kind::LongSheet, 5),
     (Kind::Limits, 5),
@@ -34,6 +35,7 @@ const SHARES: [(Kind, usize); 15] = [
     (Kind::ByteDamage, 85),
     (Kind::OtherReference, 40),
     (Kind::GuardedLast, 20),
+    (Kind::LooseJump, 30),
     (Kind::Truncated, 30),
     (Kind::Extended, 20),
     (Kind::WrongHead, 40),
@@ -58,6 +60,7 @@ impl Kind {
             Kind::ByteDamage => "bytes damaged",
             Kind::OtherReference => "another reference",
             Kind::GuardedLast => "a guarded command last",
+            Kind::LooseJump => "a break or continue come loose",
             Kind::Truncated => "truncated",
             Kind::Extended => "extended",
             Kind::WrongHead => "a wrong tag or length",
@@ -155,7 +158,8 @@ fn limits(r: &mut Random) -> Made {
     let more = usize::from(r.chance(3));
     let script = match r.below(10) {
         0 => exact(&full_names(), 512, 256, 256),
-        1 => loops(127 - r.below(2)),
+        1 => loops_about([0, BREAK, CONTINUE][r.below(3)], 127 - r.below(2)),
+        2 if r.chance(2) => jumps_in_a_loop(127 - r.below(2), r.below(3) as u8),
         2 => sequence(128 - r.below(2), r.below(3) as u8),
         3 => exact(&[0, 9], 512 + more, r.below(2) * 256, 3),
         4 => exact(&[0, 9], r.below(512), 256 + more, 255),
@@ -197,6 +201,7 @@ fn damaged(r: &mut Random, kind: Kind, script: &Script) -> Vec<u8> {
         Kind::EntryDamage => (0..times).for_each(|_| damage_script(r, &mut script)),
         Kind::OtherReference => (0..times).for_each(|_| refer_elsewhere(r, &mut script)),
         Kind::GuardedLast => guard_last(r, &mut script),
+        Kind::LooseJump => (0..times).for_each(|_| loosen(r, &mut script)),
         Kind::WrongSize => wrong_size(r, &mut script),
         _ => {
             match kind {

@@ -18,7 +18,7 @@ render-fit-requires c κs =
     let long : 300000 ≤ length (s .args .out .now) = search needs in
     (sym (v .validate-input .ensures .0) ∙ c .before .enum-told .given .1, record { fits = omega (arith, text-short (s .args .input .now)) })
 
--- the text of a refusal of 1 to 11
+-- the text of a refusal by the file's questions
 refused : (c : tie.After-v) → printedText (c .before .before .before .before .args .input .now) ≡ lineText (refusalLine (c .v .given .0 .0))
 refused c = input-refused _ _ (sym (c .before .before .validate-input .ensures .0) ∙ c .v .given .1)
 

@@ -4,7 +4,7 @@ use mathlib.Core.Path.{_≡_}
 use mathlib.Core.List.{List, [], _∷_, flatMap}
 use lib.ListN.{length}
 use Rattle.program.specs.Parts.DrawingParts.{overAt}
-use Rattle.program.specs.Graph.{Edge, part, actionKind, actionEntry}
+use Rattle.program.specs.Graph.{Edge, Around, part, actionKind, actionEntry}
 use Rattle.program.specs.Parts.Prepared.{edgePlace, graphLength}
 use Rattle.program.specs.Syntax.{Command}
 use Rattle.program.specs.Tree.{Entries, commandBelow, commandTrees}
@@ -18,8 +18,8 @@ pub record Strip : Type 0 where
   pub words : List ℕ
   pub fresh : ℕ
 
-unfoldable pub strip : Command → ℕ → ℕ → ℕ → Strip
-strip c a b n = record { words = flatMap edgeWords (part c a b n .edges); fresh = part c a b n .fresh }
+unfoldable pub strip : Around → Command → ℕ → ℕ → ℕ → Strip
+strip o c a b n = record { words = flatMap edgeWords (part o c a b n .edges); fresh = part o c a b n .fresh }
 
 -- one edge of given numbers
 unfoldable pub edgeStrip : ℕ → ℕ → ℕ → ℕ → ℕ → Strip

@@ -22,7 +22,7 @@ use Rattle.program.specs.declared.ActionNode.the-variants.{Nothing, Assi
 use Rattle.program.specs.declared.ArithNode.{ArithNode}
 use Rattle.program.specs.declared.ArithNode.the-variants.{Number, Variable, Element, Operator}
 use Rattle.program.specs.declared.CommandNode.{CommandNode}
-use Rattle.program.specs.declared.CommandNode.the-variants.{Skip, Assign as AssignNode, Store as StoreNode, Sequence, Conditional, Iteration, Guarded, Choice}
+use Rattle.program.specs.declared.CommandNode.the-variants.{Skip, Assign as AssignNode, Store as StoreNode, Sequence, Conditional, Iteration, Guarded, Choice, Jump}
 use Rattle.program.specs.declared.Entry.{Entry}
 use Rattle.program.specs.declared.Table.the-variants.{Arithmetic, Boolean, Commands}
 use Rattle.program.specs.declared.Validity.{Validity}
@@ -174,6 +174,7 @@ performed (Conditional p) = Nothing
 performed (Iteration p) = Nothing
 performed (Guarded g p) = Nothing
 performed (Choice p q) = Nothing
+performed (Jump j) = Nothing
 
 -- the action of a kind and an entry, decoded: "Action kind 1 is the command entry itself, 2 a boolean entry, 3 the exit of the do whose operand is that command
 -- entry."
@@ -253,7 +254,7 @@ pub record Following (graph : List ℕ) (node : ℕ) (P : ℕ → Type 0) (e : �
   pub here : e < getD graph edgeCountPlace 0 → sourceIn graph e ≡ node
   pub before : (k : ℕ) → k < e → k < getD graph edgeCountPlace 0 → eqb (sourceIn graph k) node ≡ true → P k
 
--- what preparing a file replies, questions 1 to 11, and leaves in the two arrays: where it is fit, its code and graph
+-- what preparing a file replies, the answer to its questions, and leaves in the two arrays: where it is fit, its code and graph
 pub record PreparedFor (s : List ℕ) (r : Validity) (code graph : List ℕ) : Type 0 where
   pub asked : r ≡ validity s
   pub prepared : r ≡ Fit → Prepared (sizes s) (drawn.graph s) code graph

@@ -8,7 +8,7 @@ use lib.ListN.{getD}
 use Rattle.program.specs.File.{isVariable, isArray}
 use Rattle.program.specs.Graph.{Action, perform, test, leave, done}
 use Rattle.program.specs.Meaning.{Meaning, nothing, assigns, stores, condition}
-use Rattle.program.specs.Syntax.{Arith, number, variable, element, operator, Boolean, truth, comparison, conjunction, shortCircuit, negation, booleanEntry, Command, skip, assign, store, sequence, conditional, iteration, guarded, choice, commandEntry}
+use Rattle.program.specs.Syntax.{Arith, number, variable, element, operator, Boolean, truth, comparison, conjunction, shortCircuit, negation, booleanEntry, Command, skip, assign, store, sequence, conditional, iteration, guarded, choice, jump, commandEntry}
 use Rattle.program.specs.Tree.{Entries, booleanAt, commandAt}
 use Rattle.program.specs.declared.Table.{Table}
 use Rattle.program.specs.declared.Table.the-variants.{Boolean as Booleans, Commands}
@@ -45,6 +45,7 @@ commandNamed ns (conditional n c) = commandNamed ns c
 commandNamed ns (iteration n c) = commandNamed ns c
 commandNamed ns (guarded n b c) = booleanNamed ns b && commandNamed ns c
 commandNamed ns (choice n c d) = commandNamed ns c && commandNamed ns d
+commandNamed ns (jump n j) = true
 
 -- and of an action: an exit's names are those of its condition
 unfoldable pub actionNamed : List ℕ → Action → Bool
@@ -74,7 +75,7 @@ booleanPoints (conjunction n a b) = (ltb (booleanEntry a) n && booleanPoints a) 
 booleanPoints (shortCircuit n a b) = (ltb (booleanEntry a) n && booleanPoints a) && (ltb (booleanEntry b) n && booleanPoints b)
 booleanPoints (negation n a) = ltb (booleanEntry a) n && booleanPoints a
 
--- "Kinds 0 to 5 of tag 4 are commands, 6 and 7 guarded commands": whether a tree is a guarded command, b → C or GC [] GC
+-- "6 and 7 guarded commands": whether a tree is a guarded command, b → C or GC [] GC
 unfoldable pub isGuardedTree : Command → Bool
 isGuardedTree (skip n) = false
 isGuardedTree (assign n x a) = false
@@ -84,6 +85,7 @@ isGuardedTree (conditional n c) = false
 isGuardedTree (iteration n c) = false
 isGuardedTree (guarded n b c) = true
 isGuardedTree (choice n c d) = true
+isGuardedTree (jump n j) = false
 
 -- "each operand names the sort its rule needs": a part of a command at entry n is lower, and a command or a guarded command
 abbrev pub asCommand : ℕ → Command → Bool
@@ -102,6 +104,7 @@ commandPoints (conditional n c) = asGuarded n c && commandPoints c
 commandPoints (iteration n c) = asGuarded n c && commandPoints c
 commandPoints (guarded n b c) = booleanPoints b && (asCommand n c && commandPoints c)
 commandPoints (choice n c d) = (asGuarded n c && commandPoints c) && (asGuarded n d && commandPoints d)
+commandPoints (jump n j) = true
 
 -- and of an action: what a do is left by is a guarded command
 unfoldable pub actionPoints : Action → Bool
@@ -131,3 +134,4 @@ commandSize (conditional n c) = 1 + commandSize c
 commandSize (iteration n c) = 1 + commandSize c
 commandSize (guarded n b c) = 1 + commandSize c
 commandSize (choice n c d) = 1 + commandSize c + commandSize d
+commandSize (jump n j) = 1

@@ -6,11 +6,13 @@ ghost use Prim.Native.Nat.{_+_, _≤_};
 ghost use lib.ListN.{length, replicate};
 ghost use Rattle.program.specs.Parts.DrawingParts.{overAt};
 ghost use Rattle.program.specs.File;
+ghost use Rattle.program.specs.Graph;
 ghost use Rattle.program.specs.Parts.GraphingParts as parts;
 ghost use Rattle.program.specs.Parts.Prepared.{graphLength, entriesIn};
 ghost use Rattle.program.specs.Parts.Preparing.{GraphIn};
 ghost use Rattle.program.specs.Questions;
 use crate::CommandNode;
+use crate::Jump;
 use crate::Layout;
 use crate::Validity;
 use crate::prepared;
@@ -57,10 +59,29 @@ fn draw_edge(
     pen + PEN
 }
 
-// The edges of command entry `n`, a part of entry `bound`, from node `a` to node `b`.
-fn draw_part(graph: &mut [u16; GRAPH], bound: u16, n: u16, a: u16, b: u16, pen: u32) -> u32
-    requires { ⌜ parts.Room (parts.strip (parts.partAt (entriesIn [] (now graph)) bound n) a b (parts.freshOf pen)) (parts.nextOf pen) ⌝ }
-    ensures { λ r. ⌜ parts.Drew (parts.strip (parts.partAt (entriesIn [] (now (graph .entry))) bound n) a b (parts.freshOf pen)) (parts.nextOf pen) (now (graph .entry)) (now (graph .exit)) r ⌝ }
+// Where a jump goes in a do from node `first` to node `last`.
+fn landing(jump: Jump, first: u16, last: u16) -> u16
+    ensures { λ r. ⌜ r ≡ Graph.landing (Graph.within first last) jump ⌝ }
+{
+    match jump {
+        Jump::Break => last,
+        Jump::Continue => first,
+    }
+}
+
+// The edges of command entry `n`, a part of entry `bound`, from node `a` to node `b`. The innermost do around it goes from node `first` to node `last`.
+fn draw_part(
+    graph: &mut [u16; GRAPH],
+    bound: u16,
+    n: u16,
+    a: u16,
+    b: u16,
+    pen: u32,
+    first: u16,
+    last: u16,
+) -> u32
+    requires { ⌜ parts.Room (parts.strip (Graph.within first last) (parts.partAt (entriesIn [] (now graph)) bound n) a b (parts.freshOf pen)) (parts.nextOf pen) ⌝ }
+    ensures { λ r. ⌜ parts.Drew (parts.strip (Graph.within first last) (parts.partAt (entriesIn [] (now (graph .entry))) bound n) a b (parts.freshOf pen)) (parts.nextOf pen) (now (graph .entry)) (now (graph .exit)) r ⌝ }
 {
     let fresh = (pen % PEN) as u16;
     let node = prepared::command_node(graph, bound, n);
@@ -69,22 +90,23 @@ fn draw_part(graph: &mut [u16; GRAPH], bound: u16, n: u16, a: u16, b: u16, pen: 
         CommandNode::Assign(_, _) => draw_edge(graph, pen, a, b, 1, n),
         CommandNode::Store(_, _, _) => draw_edge(graph, pen, a, b, 1, n),
         CommandNode::Sequence(p, q) => {
-            let first = draw_part(graph, n, p, a, fresh, pen + 1);
-            draw_part(graph, n, q, fresh, b, first)
+            let front = draw_part(graph, n, p, a, fresh, pen + 1, first, last);
+            draw_part(graph, n, q, fresh, b, front, first, last)
         }
-        CommandNode::Conditional(p) => draw_part(graph, n, p, a, b, pen),
+        CommandNode::Conditional(p) => draw_part(graph, n, p, a, b, pen, first, last),
         CommandNode::Iteration(p) => {
-            let body = draw_part(graph, n, p, a, a, pen);
+            let body = draw_part(graph, n, p, a, a, pen, a, b);
             draw_edge(graph, body, a, b, 3, p)
         }
         CommandNode::Guarded(g, p) => {
             let guard = draw_edge(graph, pen + 1, a, fresh, 2, g);
-            draw_part(graph, n, p, fresh, b, guard)
+            draw_part(graph, n, p, fresh, b, guard, first, last)
         }
         CommandNode::Choice(p, q) => {
-            let first = draw_part(graph, n, p, a, b, pen);
-            draw_part(graph, n, q, a, b, first)
+            let front = draw_part(graph, n, p, a, b, pen, first, last);
+            draw_part(graph, n, q, a, b, front, first, last)
         }
+        CommandNode::Jump(jump) => draw_edge(graph, pen, a, landing(jump, first, last), 1, n),
     }
 }
 
@@ -96,7 +118,7 @@ pub(crate) fn put_graph(program: &[u8], l: Layout, graph: &mut [u16; GRAPH])
     let commands = l.commands;
     coding::put_table(program, commands, graph, 0);
     let count = commands.count;
-    let pen = draw_part(graph, count, count - 1, 0, 1, 2);
+    let pen = draw_part(graph, count, count - 1, 0, 1, 2, 0, 1);
     graph[NODES] = (pen % PEN) as u16;
     graph[EDGES] = (pen / PEN) as u16;
 }

@@ -184,6 +184,8 @@ fn check_command(
         }
         // choice P [] Q
         7 => two_references(s, l, Sort::Guarded, n, e, at, uses),
+        // break, continue
+        8..=9 => no_operand(e, at),
         _ => ask(false, 7, at),
     }
 }

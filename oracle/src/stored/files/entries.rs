@@ -68,8 +68,12 @@ fn first_boolean(out: &mut Out) {
 
 fn first_command(out: &mut Out) {
     let mut s = Script::new(&[0]);
-    s.add(2, entry(8, 0, 0, 0));
+    s.add(2, entry(10, 0, 0, 0));
     known(out, "7, first command", &s, 7, 14);
+    for kind in [BREAK, CONTINUE] {
+        s.tables[2][0] = entry(kind, 0, 0, 1);
+        known(out, &format!("8, first command, kind {kind}"), &s, 8, 14);
+    }
     s.tables[2][0] = entry(0, 1, 0, 0);
     known(out, "8, first command", &s, 8, 14);
     s.tables[2][0] = entry(1, 1, 0, 0);
@@ -180,7 +184,7 @@ fn two_of_entries(out: &mut Out) {
     known(out, "8 of an entry, 9 of the next", &s, 8, s.place(0, 4));
     let mut s = f.clone();
     s.tables[1][0] = entry(2, 65535, 0, 0);
-    s.tables[2][0].kind = 8;
+    s.tables[2][0].kind = 10;
     known(out, "9 of a boolean, 7 of a command", &s, 9, s.place(1, 0));
     s.tables[0][8] = entry(4, 6, 8, 0);
     known(out, "9 of an arithmetic and of a boolean", &s, 9, s.place(0, 8));
@@ -195,7 +199,7 @@ fn two_of_uses(out: &mut Out) {
     known(out, "9 of the last command, 10 of the first number", &s, 9, s.place(2, 6));
     s.tables[2][6] = entry(3, 0, 5, 0);
     known(out, "10 of the first number", &s, 10, s.place(0, 0));
-    s.tables[2][6] = entry(8, 0, 5, 0);
+    s.tables[2][6] = entry(10, 0, 5, 0);
     known(out, "7 of the last command, 10 of the first number", &s, 7, s.place(2, 6));
     let mut s = f.clone();
     s.tables[2].pop();

@@ -100,9 +100,9 @@ fn inputs_refused(out: &mut Out) {
     let list = field(5, &[4, 2, 7, 1, 1, 1, 1, 1]);
     let change = |table: usize, i: usize, e: Entry| [with_entry(&t, table, i, e).bytes(), list.clone()].concat();
     known(out, "tour", &[t.bytes(), list.clone()].concat(), "fit");
-    for (table, i) in [(0, 0), (0, 19), (1, 0), (1, 7), (2, 0), (2, 11)] {
+    for (table, i) in [(0, 0), (0, 19), (1, 0), (1, 7), (2, 0), (2, 13)] {
         let at = t.place(table, i);
-        known(out, &format!("tour, 7 at {at}"), &change(table, i, entry(9, 0, 0, 0)), &format!("refused 7 at {at}"));
+        known(out, &format!("tour, 7 at {at}"), &change(table, i, entry(10, 0, 0, 0)), &format!("refused 7 at {at}"));
         known(out, &format!("tour, 8 at {at}"), &change(table, i, entry(0, 0, 0, 9)), &format!("refused 8 at {at}"));
         known(out, &format!("tour, 9 at {at}"), &change(table, i, entry(5, 99, if table == 2 { 0 } else { 99 }, 0)), &format!("refused 9 at {at}"));
     }

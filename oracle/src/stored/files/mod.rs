@@ -3,6 +3,7 @@
 mod entries;
 mod graphs;
 mod inputs;
+mod jumps;
 mod limits;
 mod random;
 mod refusals;
@@ -25,6 +26,7 @@ pub fn store(folder: &Path) -> io::Result<()> {
     refusals::heads(&mut out);
     refusals::entries(&mut out);
     entries::rest(&mut out);
+    jumps::jumps(&mut out);
     graphs::rooms(&mut out);
     inputs::inputs(&mut out);
     random::neighbours(&mut out);

@@ -2,21 +2,11 @@
 
 use super::*;
 
-/// Every file a byte away from the tour or the factorial.
+/// Every file a byte away from the tour, from two loops with a jump in each, or from the factorial.
 pub fn neighbours(out: &mut Out) {
     out.group("near");
-    let file = tour().bytes();
-    for i in 0..file.len() {
-        for to in [file[i].wrapping_add(1), file[i].wrapping_sub(1)] {
-            // A zero becomes one, and not 255 too.
-            if to == 255 && file[i] == 0 {
-                continue;
-            }
-            let mut bytes = file.clone();
-            bytes[i] = to;
-            out.put(&format!("tour, byte {i} to {to}"), &bytes, &Mode::Sum(1785));
-        }
-    }
+    other_bytes(out, "tour", &tour().bytes());
+    other_bytes(out, "jumps", &file_of("x", "do true -> do true -> break od; continue od"));
     let file = factorial().bytes();
     for i in 0..file.len() {
         out.put(&format!("factorial, first {i}"), &file[..i], &Mode::Sum(1785));
@@ -29,11 +19,26 @@ pub fn neighbours(out: &mut Out) {
     }
 }
 
+fn other_bytes(out: &mut Out, name: &str, file: &[u8]) {
+    for i in 0..file.len() {
+        for to in [file[i].wrapping_add(1), file[i].wrapping_sub(1)] {
+            // A zero becomes one, and not 255 too.
+            if to == 255 && file[i] == 0 {
+                continue;
+            }
+            let mut bytes = file.to_vec();
+            bytes[i] = to;
+            out.put(&format!("{name}, byte {i} to {to}"), &bytes, &Mode::Sum(1785));
+        }
+    }
+}
+
 pub fn random(out: &mut Out) {
     let r = &mut Random(20_260_101_004);
     fit(out, r);
     entry_damage(out, r);
     guarded_last(out, r);
+    loose_jumps(out, r);
     byte_damage(out, r);
     random_inputs(out, r);
 }
@@ -84,6 +89,32 @@ fn guarded_last(out: &mut Out, r: &mut Random) {
             s.choice(h, g);
         }
         out.known(&k.to_string(), &s.bytes(), &Mode::Edges, &format!("refused 11 at {}", s.place(2, s.tables[2].len() - 1)));
+    }
+}
+
+/// Jumps that came loose, found once more from the last entry down: whatever is in a do is left out.
+fn loose_jumps(out: &mut Out, r: &mut Random) {
+    out.group("random loose");
+    for k in 0..80 {
+        let mut s = random_script(r, [8, 16, 32, 64][k % 4]);
+        loosen(r, &mut s);
+        let told = out.put(&k.to_string(), &s.bytes(), &Mode::Sum(1785));
+        match outside(&s, s.tables[COMMANDS].len() as u16 - 1).into_iter().min() {
+            Some(lowest) => assert_eq!(told, format!("refused 20 at {}", s.place(COMMANDS, usize::from(lowest)))),
+            None => assert!(told.starts_with("nodes "), "{told}"),
+        }
+    }
+}
+
+/// The jumps in an entry that have no do of it about them.
+fn outside(s: &Script, n: u16) -> Vec<u16> {
+    let Entry { kind, operands: [p, q, _] } = s.tables[COMMANDS][usize::from(n)];
+    match kind {
+        3 | 7 => [outside(s, p), outside(s, q)].concat(),
+        4 => outside(s, p),
+        6 => outside(s, q),
+        BREAK | CONTINUE => vec![n],
+        _ => Vec::new(),
     }
 }
 

@@ -81,7 +81,7 @@ pub fn entries(out: &mut Out) {
                 let title = format!("{table} {i}, {title}");
                 out.known(&title, &bytes, &Mode::Edges, &format!("refused {expected} at {at}"));
             };
-            for kind in [if t == 1 { 7 } else { 8 }, 255] {
+            for kind in [[8, 7, 10][t], 255] {
                 put(out, &format!("kind {kind}"), Entry { kind, ..e }, 7);
             }
             for k in 0..3 {

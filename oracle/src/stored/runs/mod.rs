@@ -1,6 +1,7 @@
 //! The cases of `semantics_runs`.
 
 mod budgets;
+mod jumps;
 mod random;
 mod reasons;
 mod refusals;
@@ -27,6 +28,7 @@ pub fn store(folder: &Path) -> io::Result<()> {
     reasons::orders(&mut out);
     reasons::exits(&mut out);
     reasons::choices(&mut out);
+    jumps::jumps(&mut out);
     refusals::refusals(&mut out);
     refusals::memories(&mut out);
     refusals::nodes(&mut out);

@@ -11,7 +11,7 @@ fn refuses(out: &mut Out, title: &str, file: &[u8], memory: &[i32], number: u32,
     out.known(&format!("{title}, step"), file, &on(memory, &from), &format!("{no}; {no}; node 2 count 7 memory{cells}"));
 }
 
-/// Questions 1 to 11, a few of each, of the factorial lesson.
+/// Questions 1 to 11 and 20, a few of each, of the factorial lesson.
 pub fn refusals(out: &mut Out) {
     out.group("refusal");
     let f = factorial();
@@ -36,7 +36,7 @@ pub fn refusals(out: &mut Out) {
     refuses(out, "size 65", &s.bytes(), &memory, 6, 5);
     for (t, i) in [(0, 0), (0, 7), (1, 0), (2, 0), (2, 6)] {
         let at = f.place(t, i);
-        refuses(out, &format!("7 at {at}"), &with_entry(&f, t, i, entry(9, 0, 0, 0)).bytes(), &memory, 7, at);
+        refuses(out, &format!("7 at {at}"), &with_entry(&f, t, i, entry(10, 0, 0, 0)).bytes(), &memory, 7, at);
         refuses(out, &format!("8 at {at}"), &with_entry(&f, t, i, entry(0, 0, 0, 1)).bytes(), &memory, 8, at);
         let wrong = if t == 2 { entry(3, 99, 0, 0) } else { entry(5, 99, 0, 0) };
         refuses(out, &format!("9 at {at}"), &with_entry(&f, t, i, wrong).bytes(), &memory, 9, at);
@@ -46,6 +46,10 @@ pub fn refusals(out: &mut Out) {
     let mut s = Script::new(&[0, 0]);
     s.true_skip();
     refuses(out, "11", &s.bytes(), &memory, 11, s.place(2, 1));
+    // The names take 7 bytes, the heads of two empty fields 6, the last head 3; the condition of an if 7 more.
+    for (text, at) in [("break", 16), ("continue", 16), ("skip; break", 23), ("if true -> continue fi", 23), ("do true -> break od; break", 44)] {
+        refuses(out, &format!("20, {text}"), &draft_of("x y", text).bytes(), &memory, 20, at);
+    }
 }
 
 /// Question 12: memories that are shorter or longer than the script's.
@@ -125,12 +129,17 @@ pub fn firsts(out: &mut Out) {
     out.group("first");
     let damaged = |file: &[u8]| [file, &[0]].concat();
     let end = file.len();
+    let loose = draft_of("x y", "break").bytes();
     for (title, bytes, memory, node, edge, expected) in [
         ("5 and 12", damaged(&file), &[3][..], 0, 0, format!("refused 5 at {end}")),
         ("5, 12, 14 and 15", damaged(&file), &[3], 9, 9, format!("refused 5 at {end}")),
         ("5 and 14", damaged(&file), &[3, 5], 9, 0, format!("refused 5 at {end}")),
         ("5 and 15", damaged(&file), &[3, 5], 0, 9, format!("refused 5 at {end}")),
         ("1 and 12", Vec::new(), &[], 0, 0, "refused 1 at 0".to_string()),
+        ("20 and 12", loose.clone(), &[3], 0, 0, "refused 20 at 16".to_string()),
+        ("20, 12, 14 and 15", loose.clone(), &[], 9, 9, "refused 20 at 16".to_string()),
+        ("20 and 14", loose.clone(), &[3, 5], 2, 0, "refused 20 at 16".to_string()),
+        ("20 and 15", loose.clone(), &[3, 5], 0, 1, "refused 20 at 16".to_string()),
         ("12, 14 and 15", file.clone(), &[3], 9, 9, "refused 12 at 0".to_string()),
         ("12 and 14", file.clone(), &[3], 5, 0, "refused 12 at 0".to_string()),
         ("12 and 15", file.clone(), &[3], 0, 1, "refused 12 at 0".to_string()),
@@ -143,6 +152,7 @@ pub fn firsts(out: &mut Out) {
     }
     // A run never asks 14 and 15, and asks 12 before its budget.
     out.known("12 and a budget of 0", &file, &on(&[3], &Ask::Budget(0)), "refused 12 at 0; node 0 count 0 memory 3");
+    out.known("20, 12 and a budget of 0", &loose, &on(&[3], &Ask::Budget(0)), "refused 20 at 16; node 0 count 0 memory 3");
 }
 
 /// "The count stays at 65,535", and is left as it was by what is undefined or refused.

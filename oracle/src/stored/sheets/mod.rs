@@ -1,5 +1,6 @@
 //! The cases of `analysis_sheets`.
 
+mod jumps;
 mod marks;
 mod operators;
 mod random;
@@ -29,6 +30,7 @@ pub fn store(folder: &Path) -> io::Result<()> {
     operators::exits(&mut out);
     marks::indices(&mut out);
     marks::missing(&mut out);
+    jumps::jumps(&mut out);
     refusals::wholes(&mut out);
     refusals::wrong_bytes(&mut out);
     solving::rooms(&mut out);

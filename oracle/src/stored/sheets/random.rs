@@ -47,6 +47,8 @@ pub fn changed(out: &mut Out) {
         ("i A4", "i := 0; do 4 > i -> A[i] := A[i] - 1; i := i + 1 od", "2 4"),
         ("j A4", "do j > 0 && A[j - 1] > A[j] -> A[j] := A[j - 1]; j := j - 1 od", "4 6"),
         ("x", "do true -> if x > 0 -> x := -1 [] 0 >= x -> x := 1 fi od", "2"),
+        ("x y", "do x > 0 -> if y > 0 -> break [] 0 >= y -> y := y + 1; continue fi; x := 0 od", "4 1"),
+        ("i A4", "i := 3; do true -> if A[i] > 0 -> break [] 0 >= A[i] -> i := i - 1 fi; do i > 0 -> break od od", "2 3"),
     ];
     for (names, text, initial) in lessons {
         changes(out, &mut r, text, &file_of(names, text), &starts(initial), true);

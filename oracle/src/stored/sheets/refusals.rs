@@ -1,4 +1,4 @@
-//! Questions 1 to 11, 16 and 17.
+//! Questions 1 to 11, 20, 16 and 17.
 
 use super::*;
 
@@ -143,7 +143,7 @@ fn wrong_at_the_end(out: &mut Out, file: &[u8], sheet: &[u8]) {
     }
 }
 
-/// Questions 1 to 11, of the factorial lesson with its own lists, and with lists that would be refused by 16 and 17.
+/// Questions 1 to 11 and 20, of the factorial lesson with its own lists, and with lists that would be refused by 16 and 17.
 pub fn refusals(out: &mut Out) {
     out.group("refusal");
     let f = factorial();
@@ -168,7 +168,7 @@ pub fn refusals(out: &mut Out) {
     damaged.push(("size 65".to_string(), s.bytes(), 6, 5));
     for (t, i) in [(0, 0), (0, 7), (1, 0), (2, 0), (2, 6)] {
         let at = f.place(t, i);
-        damaged.push((format!("7 at {at}"), with_entry(&f, t, i, entry(9, 0, 0, 0)).bytes(), 7, at));
+        damaged.push((format!("7 at {at}"), with_entry(&f, t, i, entry(10, 0, 0, 0)).bytes(), 7, at));
         damaged.push((format!("8 at {at}"), with_entry(&f, t, i, entry(0, 0, 0, 1)).bytes(), 8, at));
         let wrong = if t == 2 { entry(3, 99, 0, 0) } else { entry(5, 99, 0, 0) };
         damaged.push((format!("9 at {at}"), with_entry(&f, t, i, wrong).bytes(), 9, at));
@@ -177,6 +177,9 @@ pub fn refusals(out: &mut Out) {
     let mut s = Script::new(&[0, 0]);
     s.true_skip();
     damaged.push(("11".to_string(), s.bytes(), 11, s.place(2, 1)));
+    for (text, at) in [("break", 16), ("do true -> break od; continue", 44)] {
+        damaged.push((format!("20, {text}"), draft_of("x y", text).bytes(), 20, at));
+    }
     for (title, file, number, at) in damaged {
         let no = format!("refused {number} at {at}");
         refuses(out, &title, &file, &[4, 2], &sheet, &no);

@@ -90,6 +90,7 @@ pub fn third_term(out: &mut Out) {
         &Ask::Follow(Chunks::of(&[2, 4]), vec![0, 2, 3, 7], vec![0, 0]),
         "finished with 1; has; undefined 34 has; undefined 34 has; index record 0 arrow 0",
     );
+    through_jumps(out);
     let mut r = Random(20_260_301_003);
     let (mut trials, mut written, mut k) = (Trials::default(), 0, 0);
     while written < 260 {
@@ -109,6 +110,27 @@ pub fn third_term(out: &mut Out) {
         tried(&mut trials, &random_following(&mut r, k));
     }
     println!("third term, not written: {}", trials.said());
+}
+
+/// All elements are below zero: the book's Example 2.25 meets its jump, arrow 9, in the first round.
+fn through_jumps(out: &mut Out) {
+    let memory = [vec![0; 3], vec![-1; 10]].concat();
+    let list = || Chunks::of(&[2, 2, 2, 1]);
+    let follow = |out: &mut Out, jump: &str, calls: &[u16], expected: &str| {
+        out.known(&format!("adding and counting, {jump}"), &adding_and_counting(jump).bytes(), &Ask::Follow(list(), memory.clone(), calls.to_vec()), expected);
+    };
+    let taken = |times: usize| "taken has; ".repeat(times);
+    let expected = format!("finished with 8; has; {}undefined 31 has; {}refused 15 at 0 has; index clean", taken(4), taken(3));
+    follow(out, "break", &[0, 1, 2, 3, 4, 7, 8, 9, 3], &expected);
+    let expected = format!("finished with 11; has; {}undefined 31 has; index clean", taken(11));
+    follow(out, "continue", &[0, 1, 2, 3, 7, 8, 9, 3, 7, 8, 9, 11], &expected);
+    let no = "refused 20 at 14";
+    out.known(
+        "a loose jump",
+        &draft_of("x", "break").bytes(),
+        &Ask::Follow(Chunks::of(&[4]), vec![2], vec![0]),
+        &format!("{no} with 0; has not; {no} has not; {no}"),
+    );
 }
 
 impl Trials {

@@ -104,11 +104,21 @@ mod tests {
     }
 
     #[test]
+    fn jumps_leave_for_the_ends_of_their_loop() {
+        let skipping = picture(include_bytes!("../../../../../crates/sheet_inputs/data/listing-with-continue.in")).unwrap();
+        assert!(skipping.contains("n10 -> n4 [label=\"9: continue\"];"), "{skipping}");
+        let leaving = picture(include_bytes!("../../../../../crates/sheet_inputs/data/listing-with-break.in")).unwrap();
+        assert!(leaving.contains("n10 -> n1 [label=\"9: break\"];"), "{leaving}");
+    }
+
+    #[test]
     fn what_is_refused_is_told_in_words() {
         let told = |input: &[u8]| picture(input).unwrap_err().to_string();
         assert_eq!(told(b"junk"), "a field's tag is not the one due (question 2, byte 0)");
         let wrong = include_bytes!("../../../../../crates/sheet_inputs/data/refused-17-the-first-of-two.in");
         assert_eq!(told(wrong), "a byte of a record is wrong (question 17, byte 2 of the start list)");
+        let loose = include_bytes!("../../../../../crates/sheet_inputs/data/refused-20-continue-in-an-if.in");
+        assert_eq!(told(loose), "a break or continue is outside every do (question 20, byte 23)");
         let long = include_bytes!("../../../../../crates/sheet_inputs/data/refused-18-4097-records.in");
         assert_eq!(told(long), "there is no room for the solver's next record after 4096 (question 18)");
     }

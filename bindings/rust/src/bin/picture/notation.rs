@@ -86,7 +86,9 @@ impl Notation {
         match kind {
             0 => "skip".to_string(),
             1 => format!("v{p}:={}", self.expression(q)),
-            _ => format!("A{p}[{}]:={}", self.expression(q), self.expression(r)),
+            2 => format!("A{p}[{}]:={}", self.expression(q), self.expression(r)),
+            8 => "break".to_string(),
+            _ => "continue".to_string(),
         }
     }
 

@@ -1,4 +1,4 @@
--- `judging::index_mark`: refused by questions 1 to 11, or marked over the prepared program.
+-- `judging::index_mark`: refused by the file's questions, or marked over the prepared program.
 use borrow.Author.Needs.{needs}
 use Prim.Native.Nat.{ℕ}
 use mathlib.Core.List.{List}

@@ -1,4 +1,4 @@
--- `judging::judge`: refused by questions 1 to 11, or judged over the prepared program.
+-- `judging::judge`: refused by the file's questions, or judged over the prepared program.
 use borrow.Author.Needs.{needs}
 use mathlib.Core.Path.{sym, _∙_}
 use Rattle.analysis.proofs.Judged.{ready, still, verdict-judged, verdict-refused, promised}

@@ -1,4 +1,4 @@
--- `solver::solve`: refused by questions 1 to 11, or solved over the prepared program.
+-- `solver::solve`: refused by the file's questions, or solved over the prepared program.
 use borrow.Author.Needs.{needs}
 use mathlib.Core.Path.{sym, _∙_}
 use Rattle.analysis.proofs.Answering.{validity-fit, validity-refused, answered-all, answered-asked, answered-refused}

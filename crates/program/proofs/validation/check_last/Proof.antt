@@ -5,7 +5,8 @@ use native.Mathlib.Omega.{arith}
 use Rattle.program.specs.Asking.{ask}
 use Rattle.program.specs.File.{byteAt, spanOf, entry, entryAt}
 use Rattle.program.specs.Kind.{isCommand}
-use Rattle.program.specs.Questions.{toBeUsed, lastCommand, lastValidity}
+use Rattle.program.specs.Questions.{toBeUsed, lastValidity}
+use Rattle.program.specs.Tree.{lastCommand}
 use Rattle.program.specs.declared.Table.the-variants.{Commands}
 use Rattle.program.proofs.Reading.{laid-count, laid-start, entry-in}
 use Rattle.program.proofs.validation.check_last.Statement.{statement}

@@ -1,4 +1,4 @@
--- `Run::step`: refused by questions 1 to 11, or a step over the prepared program.
+-- `Run::step`: refused by the file's questions, or a step over the prepared program.
 use borrow.Author.Needs.{needs}
 use mathlib.Core.Path.{_≡_, ap, _∙_, sym}
 use mathlib.Core.List.{List}

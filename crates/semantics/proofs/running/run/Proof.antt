@@ -1,4 +1,4 @@
--- `running::run`: refused by questions 1 to 11, or a run over the prepared program.
+-- `running::run`: refused by the file's questions, or a run over the prepared program.
 use borrow.Author.Needs.{needs}
 use mathlib.Core.Path.{_≡_, refl, ap, _∙_, sym}
 use mathlib.Core.List.{List}

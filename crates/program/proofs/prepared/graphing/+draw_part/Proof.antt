@@ -6,6 +6,7 @@ use borrow.Fn.PlainCycle.{Measures, is, falls, and}
 use mathlib.Core.List.{List, []}
 use mathlib.Core.Path.{_≡_, refl, sym, subst}
 use native.Mathlib.Omega.{arith}
+use Rattle.program.specs.Graph.{Around, within}
 use Rattle.program.specs.Parts.GraphingParts.{Strip, strip, freshOf, nextOf, partAt, Room, Drew}
 use Rattle.program.specs.Parts.Prepared.{entriesIn}
 use Rattle.program.specs.Tree.{Entries}
@@ -19,6 +20,7 @@ use Rattle.program.proofs.prepared.graphing.draw_part.Kinds as draw-par
 use Rattle.program.proofs.prepared.graphing.+draw_part.Lts-draw_part as lts
 use Rattle.program.proofs.prepared.command_node.Reads as command-node-reads
 use Rattle.program.proofs.prepared.graphing.draw_edge.Reads as draw-edge-reads
+use Rattle.program.proofs.prepared.graphing.landing.Reads as landing-reads
 
 abbrev μ-draw-part : Measures 1 draw-part-kinds.ps ℕ
 μ-draw-part κs a = a .1 .0
@@ -32,7 +34,7 @@ draw-part-below t =
 
 abbrev claims : ℕ → lts.Claims
 claims t =
-    (command-node-reads.Asked, command-node-reads.Learnt, draw-edge-reads.Asked, draw-edge-reads.Learnt, draw-part-below t, draw-part.Post)
+    (command-node-reads.Asked, command-node-reads.Learnt, draw-edge-reads.Asked, draw-edge-reads.Learnt, draw-part-below t, draw-part.Post, landing-reads.Asked, landing-reads.Learnt)
 
 -- where the entry is known
 module _ (t : ℕ) (c : lts.After-command-node (claims t) (draw-part-at t) draw-part.Post) where
@@ -45,9 +47,12 @@ module _ (t : ℕ) (c : lts.After-command-node (claims t) (draw-part-at t) draw-
   abbrev fresh : ℕ
   fresh = freshOf (start .args .pen)
 
+  abbrev around : Around
+  around = within (start .args .first) (start .args .last)
+
   -- the entry's numbers, and what drawing does with a part of them, from a pen on
   abbrev whole : Strip
-  whole = strip (partAt commands (start .args .bound) (start .args .n)) (start .args .a) (start .args .b) fresh
+  whole = strip around (partAt commands (start .args .bound) (start .args .n)) (start .args .a) (start .args .b) fresh
 
   abbrev Draws : Strip → ℕ → List ℕ → ℕ → Type 0
   Draws x pen after r = Drew x (nextOf pen) (start .args .graph .now) after r
@@ -58,26 +63,26 @@ module _ (t : ℕ) (c : lts.After-command-node (claims t) (draw-part-at t) draw-
     pen = taking k (start .args .pen)
 
     abbrev front : ℕ → Strip
-    front = firstAs commands (start .args .n) k (start .args .a) (start .args .b) fresh
+    front = firstAs commands around (start .args .n) k (start .args .a) (start .args .b) fresh
 
     abbrev restIn : Entries → ℕ → Strip
-    restIn es = restAs es (start .args .n) k (start .args .a) (start .args .b) fresh
+    restIn es = restAs es around (start .args .n) k (start .args .a) (start .args .b) fresh
 
     abbrev rest : ℕ → Strip
     rest = restIn commands
 
-    same : whole ≡ drawnAs commands (start .args .n) k (start .args .a) (start .args .b) fresh
-    same = strip-part _ _ _ (c .command-node .ensures []) told (start .args .a) (start .args .b) fresh
+    same : whole ≡ drawnAs commands around (start .args .n) k (start .args .a) (start .args .b) fresh
+    same = strip-part _ around _ _ (c .command-node .ensures []) told (start .args .a) (start .args .b) fresh
 
-    room : Room (drawnAs commands (start .args .n) k (start .args .a) (start .args .b) fresh) (nextOf (start .args .pen))
+    room : Room (drawnAs commands around (start .args .n) k (start .args .a) (start .args .b) fresh) (nextOf (start .args .pen))
     room = rw same at (start .pre .1)
 
     fitting : Room (front (taking k fresh)) (nextOf (start .args .pen))
     unfolding drawnAs
-    fitting = first-room (front (taking k fresh)) rest (rest-grows _ _ k _ _ _) room
+    fitting = first-room (front (taking k fresh)) rest (rest-grows _ _ _ k _ _ _) room
 
     next : Taken k (start .args .pen)
-    next = taken _ _ (omega (arith, fitting .nodes-fit, first-grows commands (start .args .n) k (start .args .a) (start .args .b) fresh (taking k fresh)))
+    next = taken _ _ (omega (arith, fitting .nodes-fit, first-grows commands around (start .args .n) k (start .args .a) (start .args .b) fresh (taking k fresh)))
 
     first : Room (front (freshOf pen)) (nextOf pen)
     first = rw (next .fresh, next .next) fitting
@@ -223,6 +228,19 @@ draw-part-requires-7 t c κs =
     let told = c .before .before .before .before .node5 .given .1 in
     (lower t at told tt, second t at told (c .before .draw-part6 .ensures))
 
+enum-known-node-6 : (t : ℕ) → lts.Need-enum-known-node-6 (claims t) (draw-part-at t) draw-part.Post
+enum-known-node-6 t c = search needs
+
+landing-requires : (t : ℕ) → lts.Need-landing-requires (claims t) (draw-part-at t) draw-part.Post
+landing-requires t c κs = search needs
+
+draw-edge-requires-6 : (t : ℕ) → lts.Need-draw-edge-requires-6 (claims t) (draw-part-at t) draw-part.Post
+unfolding taking firstAs
+draw-edge-requires-6 t c κs =
+    let at = c .before .before .before .before .before in
+    let told = c .before .before .before .node6 .given .1 in
+    rw (c .landing .ensures) (first t at told)
+
 returns : (t : ℕ) → lts.Need-returns (claims t) (draw-part-at t) draw-part.Post
 unfolding taking firstAs restAs
 returns t c =
@@ -279,6 +297,13 @@ returns-8 t c =
     let told = c .before .before .before .before .before .node5 .given .1 in
     both t at told (c .before .before .draw-part6 .ensures) (c .draw-part7 .ensures)
 
+returns-9 : (t : ℕ) → lts.Need-returns-9 (claims t) (draw-part-at t) draw-part.Post
+unfolding taking firstAs restAs
+returns-9 t c =
+    let at = c .before .before .before .before .before .before in
+    let told = c .before .before .before .before .node6 .given .1 in
+    only t at told refl (rw (c .before .landing .ensures) at (c .draw-edge6 .ensures))
+
 pub +draw-part-spec : {M : Type 1} → statement M
 +draw-part-spec =
     close
@@ -312,6 +337,9 @@ pub +draw-part-spec : {M : Type 1} → statement M
     (enum-known-node-5 t)
     (draw-part-requires-6 t)
     (draw-part-requires-7 t)
+    (enum-known-node-6 t)
+    (landing-requires t)
+    (draw-edge-requires-6 t)
     (returns t)
     (returns-2 t)
     (returns-3 t)
@@ -319,4 +347,5 @@ pub +draw-part-spec : {M : Type 1} → statement M
     (returns-5 t)
     (returns-6 t)
     (returns-7 t)
-    (returns-8 t))
+    (returns-8 t)
+    (returns-9 t))

@@ -7,7 +7,7 @@ use Rattle.program.specs.Questions.{sameTable}
 use Rattle.program.specs.declared.Table.the-variants.{Commands}
 use Rattle.program.proofs.Checking.{own-limit, expressions-limit, conditions-limit, known-checked, unknown-checked}
 use Rattle.program.proofs.Reading.{laid-names}
-use Rattle.program.proofs.Shapes.{constructs, unknown-command}
+use Rattle.program.proofs.Shapes.{constructs, jumps, unknown-command}
 use Rattle.program.proofs.validation.entries.check_command.Statement.{statement}
 use Rattle.program.proofs.validation.entries.check_command.Tie as tie
 
@@ -59,6 +59,9 @@ two-references-requires-2 c κs = search needs
 one-reference-requires : tie.Need-one-reference-requires
 one-reference-requires c κs = search needs
 
+no-operand-requires-2 : tie.Need-no-operand-requires-2
+no-operand-requires-2 c κs = search needs
+
 ask-requires : tie.Need-ask-requires
 ask-requires c κs = search needs
 
@@ -109,11 +112,14 @@ unfolding tableOf
 returns-7 c = c .one-reference .ensures Commands _ (own-limit _ Commands _) (c .before .before .before .before .before .before .before .before .pre .1) (sym (constructs _ (omega arith) (omega arith)))
 
 returns-8 : tie.Need-returns-8
-returns-8 c = unknown-checked _ Commands _ (c .before .before .before .before .before .before .before .pre .1) (sym (unknown-command _ (omega arith))) (c .ask .ensures)
+returns-8 c = c .no-operand2 .ensures _ Commands _ _ (c .before .before .before .before .before .before .before .before .pre .1) (sym (jumps _ (omega arith) (omega arith)))
+
+returns-9 : tie.Need-returns-9
+returns-9 c = unknown-checked _ Commands _ (c .before .before .before .before .before .before .before .before .pre .1) (sym (unknown-command _ (omega arith))) (c .ask .ensures)
 
 pub check-command-spec : {M : Type 1} → statement M
 check-command-spec =
     tie.close
     (tie.spec no-operand-requires variable-requires reference-requires unused-requires settled-requires array-requires reference-requires-2 reference-requires-3 settled-requires-2
-    two-references-requires reference-requires-4 reference-requires-5 unused-requires-2 settled-requires-3 two-references-requires-2 one-reference-requires ask-requires returns
-    returns-2 returns-3 returns-4 returns-5 returns-6 returns-7 returns-8)
+    two-references-requires reference-requires-4 reference-requires-5 unused-requires-2 settled-requires-3 two-references-requires-2 one-reference-requires no-operand-requires-2 ask-requires returns
+    returns-2 returns-3 returns-4 returns-5 returns-6 returns-7 returns-8 returns-9)
