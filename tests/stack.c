@@ -103,23 +103,25 @@ static void conjunctions(struct program *p, unsigned kind, int left) {
     add(p, COMMANDS, 4, guarded, 0, 0);
 }
 
-/* Ifs in one another about a skip, or dos about a break: 127. */
-static void nested(struct program *p, unsigned loop) {
-    unsigned last = add(p, COMMANDS, loop ? 8 : 0, 0, 0, 0);
-    for (unsigned k = 0; k < 127; k++) {
+/* Ifs (4) or dos (5) in one another about a command. */
+static unsigned about(struct program *p, unsigned kind, unsigned count, unsigned last) {
+    for (unsigned k = 0; k < count; k++) {
         unsigned guarded = add(p, COMMANDS, 6, add(p, CONDITIONS, 0, 0, 0, 0), last, 0);
-        last = add(p, COMMANDS, loop ? 5 : 4, guarded, 0, 0);
+        last = add(p, COMMANDS, kind, guarded, 0, 0);
     }
+    return last;
 }
 
-/* Commands in turn: 128. */
-static void sequence(struct program *p, int left) {
-    unsigned last = add(p, COMMANDS, 0, 0, 0, 0);
-    for (unsigned k = 0; k < 127; k++) {
+/* Skips in turn with a command. */
+static void sequence(struct program *p, unsigned count, int left, unsigned last) {
+    for (unsigned k = 0; k < count; k++) {
         unsigned other = add(p, COMMANDS, 0, 0, 0, 0);
         last = left ? add(p, COMMANDS, 3, last, other, 0) : add(p, COMMANDS, 3, other, last, 0);
     }
 }
+
+/* A skip (0) or a break (8). */
+static unsigned single(struct program *p, unsigned kind) { return add(p, COMMANDS, kind, 0, 0, 0); }
 
 static void build(struct program *p, int which) {
     memset(p, 0, sizeof *p);
@@ -131,13 +133,15 @@ static void build(struct program *p, int which) {
     case 6: case 7: guards(p, 0, 85, which == 6); break;
     case 8: case 9: guards(p, 1, 1 + 2 * (which == 8), 1); break;
     case 10: case 11: case 12: case 13: conjunctions(p, 4 + (unsigned)which % 2, which < 12); break;
-    case 14: case 15: nested(p, which == 15); break;
-    default: sequence(p, which == 16);
+    case 14: about(p, 4, 127, single(p, 0)); break;
+    case 15: about(p, 5, 127, single(p, 8)); break;
+    case 16: case 17: sequence(p, 127, which == 16, single(p, 0)); break;
+    default: sequence(p, 126, 1, about(p, 5, 1, single(p, 8)));
     }
     finish(p);
 }
 
-#define PROGRAMS 18
+#define PROGRAMS 19
 
 static struct program program;
 static uint8_t start[] = {PIZWOTER_ZERO, PIZWOTER_ZERO};

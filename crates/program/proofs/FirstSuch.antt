@@ -99,8 +99,7 @@ module _ {A : Type 0} (settles : A → Bool) (nothing : A) (unsettled : settles 
 
 -- ---- The first that passes a test
 
--- an answer that is no number is nothing
-pub no-number : (x : First) → isAt x ≡ false → x ≡ Nothing
+no-number : (x : First) → isAt x ≡ false → x ≡ Nothing
 unfolding isAt
 no-number (At k) e = absurd (false≢true (sym e))
 no-number Nothing e = refl

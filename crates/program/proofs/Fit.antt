@@ -62,7 +62,7 @@ module _ (s : List ℕ) (e : headsValidity s 0 programFields ≡ Fit) where
   table-allowed Commands = head-fit s (fieldStart s 3) _ (field-fit s e 3 (omega arith))
 
   -- all bytes of a table's entries are there
-  pub entries-whole : (t : Table) → spanOf (layoutOf s) t .start + 7 * spanOf (layoutOf s) t .count ≤ length s
+  entries-whole : (t : Table) → spanOf (layoutOf s) t .start + 7 * spanOf (layoutOf s) t .count ≤ length s
   unfolding programFields layoutOf fieldHead spanOf headSpan headFound tableField
   entries-whole Arithmetic = let w = whole s (fieldStart s 1) _ (field-fit s e 1 (omega arith)) in rw (w .found) (omega (arith, w .known .inside))
   entries-whole Boolean = let w = whole s (fieldStart s 2) _ (field-fit s e 2 (omega arith)) in rw (w .found) (omega (arith, w .known .inside))

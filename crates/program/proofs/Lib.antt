@@ -23,6 +23,7 @@ pub mod Codes
 pub mod Expressions
 pub mod Made
 pub mod Sorting
+pub mod Noting
 pub mod Loose
 pub mod Nodes
 pub mod Actions

@@ -3,35 +3,31 @@
 use mathlib.Core.Path.{_≡_, refl, sym, _∙_, ap}
 use mathlib.Core.Bool.{Bool, true, false, false≢true, _||_}
 use mathlib.Core.List.{List}
-use Prim.Native.Nat.{ℕ, _+_, _-_, _*_, _≤_, _<_, min}
+use Prim.Native.Nat.{ℕ, _+_, _-_, _≤_, _<_, min}
 use native.Mathlib.Decide.{decLe, decLt}
 use native.Mathlib.Nat.{le-refl}
 use native.Mathlib.Omega.{arith}
 use lib.Dec.{leb}
-use lib.ListN.{getD}
 use borrow.Author.Tests.{eq-eqb, ne-eqb, le-leb, lt-leb, leb-false}
-use Rattle.program.specs.Asking.{ask, askEach, isRefused}
-use Rattle.program.specs.File.{byteAt, programFields, layoutOf, spanOf, entryCount, tableStart, entryOffset, entryAt, entry}
-use Rattle.program.specs.FirstSuch.{firstSuch}
+use Rattle.program.specs.Asking.{ask, isRefused}
+use Rattle.program.specs.File.{programFields, layoutOf, spanOf, entryCount, entryOffset, entry}
 use Rattle.program.specs.Graph.{Around, part}
 use Rattle.program.specs.Jumps.{loose}
 use Rattle.program.specs.Kind.{commandKind}
 use Rattle.program.specs.Parts.GraphingParts.{partAt}
-use Rattle.program.specs.Parts.Jumping.{CommandsFrom, CommandsAt, mayJump, lowest}
+use Rattle.program.specs.Parts.Jumping.{CommandsAt, mayJump, lowest}
 use Rattle.program.specs.Parts.Node.{commandTree}
 use Rattle.program.specs.Questions.{headsValidity, jumpValidity, jumpsValidity, validity}
 use Rattle.program.specs.Syntax.{Command, skip, assign, store, sequence, conditional, iteration, guarded, choice, jump}
 use Rattle.program.specs.Tree.{Entries, commandMade, commandAt, lastCommand, script}
 use Rattle.program.specs.declared.CommandNode.{CommandNode}
 use Rattle.program.specs.declared.CommandNode.the-variants.{Skip, Assign, Store, Sequence, Conditional, Iteration, Guarded, Choice, Jump}
-use Rattle.program.specs.declared.First.the-variants.{Nothing}
 use Rattle.program.specs.declared.Layout.{Layout}
 use Rattle.program.specs.declared.Table.the-variants.{Commands}
 use Rattle.program.specs.declared.Validity.{Validity}
 use Rattle.program.specs.declared.Validity.the-variants.{Fit}
 use Rattle.program.proofs.Asking.{each-yes, each-stops}
-use Rattle.program.proofs.FirstSuch.{such-none}
-use Rattle.program.proofs.Fit.{entries-whole, tight-fit}
+use Rattle.program.proofs.Fit.{laid-out, counts-allowed, tight-fit}
 use Rattle.program.proofs.Forms.{by-parts}
 use Rattle.program.proofs.Induction.{by-kind}
 use Rattle.program.proofs.Made.{Made, makeSkip, makeAssign, makeStore, makeSequence, makeConditional, makeIteration, makeGuarded, makeChoice, makeJump}
@@ -95,22 +91,22 @@ lowest-loose (jump k j) f h = eq-eqb k (min k f) (omega arith)
 
 -- ---- where the commands stand
 
-module _ {s : List ℕ} {start count : ℕ} (at : CommandsAt s start count) where
-  pub commands-from : CommandsFrom s start
-  commands-from = record { starts = at .starts; inside = omega (arith, at .there) }
-
-  -- the lowest in the last of them, as a part of all
-  pub last-lowest : {r : ℕ} → 1 ≤ count → r ≡ lowest (partAt (entry s) count (count - 1)) count → r ≡ lowest (script s) (entryCount s Commands)
-  unfolding script lastCommand
-  last-lowest some e =
-      let here = at .counted in
-      e ∙ rw (here, command-below (entry s) (entryCount s Commands) (entryCount s Commands - 1) (omega arith))
+-- the lowest in the last of them, as a part of all
+pub last-lowest : {s : List ℕ} {start count r : ℕ} → CommandsAt s start count → r ≡ lowest (partAt (entry s) count (count - 1)) count → r ≡ lowest (script s) (entryCount s Commands)
+unfolding script lastCommand
+last-lowest {s} at e =
+    let here = at .counted in
+    let some = at .some in
+    e ∙ rw (here, command-below (entry s) (entryCount s Commands) (entryCount s Commands - 1) (omega arith))
 
 pub commands-there : {s : List ℕ} {l : Layout} → headsValidity s 0 programFields ≡ Fit → l ≡ layoutOf s → CommandsAt s (spanOf l Commands .start) (spanOf l Commands .count)
 commands-there {s} {l} heads laid =
-    let start = laid-start s l laid Commands in
     let count = laid-count s l laid Commands in
-    record { starts = start; counted = count; there = omega (arith, entries-whole s heads Commands, ap (λ (x : Layout). spanOf x Commands .start) laid, ap (λ (x : Layout). spanOf x Commands .count) laid) }
+    record {
+      from = record { starts = laid-start s l laid Commands; inside = laid-out s heads l laid .inside Commands };
+      counted = count;
+      some = omega (arith, counts-allowed s heads .some-command);
+    }
 
 -- ---- question 20, by the lowest
 
@@ -145,16 +141,6 @@ module _ (s : List ℕ) where
 
 -- ---- no command is a jump, so none is loose
 
--- the kind of an entry, as it is read
-module _ (s : List ℕ) {start : ℕ} (n : ℕ) (from : start ≡ tableStart s Commands) where
-  pub jump-read : 8 ≤ getD s (start + 7 * n) 0 → mayJump s n ≡ true
-  unfolding mayJump entry entryAt entryOffset byteAt
-  jump-read h = le-leb 8 _ (rw from at h)
-
-  pub no-jump-read : getD s (start + 7 * n) 0 < 8 → mayJump s n ≡ false
-  unfolding mayJump entry entryAt entryOffset byteAt
-  no-jump-read h = lt-leb 8 _ (rw from at h)
-
 -- what an entry of a kind before those of the jumps is
 abbrev NoJump : CommandNode → Type 0
 NoJump Skip = Unit
@@ -186,7 +172,7 @@ tree-tight es n m below (Guarded g p) h = below p
 tree-tight es n m below (Choice p q) h = rw (below p) (below q)
 tree-tight es n m below (Jump j) h = absurd h
 
-pub no-jumps : (s : List ℕ) → 1 ≤ entryCount s Commands → firstSuch (entryCount s Commands) (mayJump s) ≡ Nothing → jumpsValidity s ≡ Fit
+pub no-jumps : (s : List ℕ) → 1 ≤ entryCount s Commands → ((n : ℕ) → n < entryCount s Commands → mayJump s Commands n ≡ false) → jumpsValidity s ≡ Fit
 unfolding mayJump script lastCommand loose
 no-jumps s some none = none-loose s (λ m l. rw (← command-below (entry s) (entryCount s Commands) (lastCommand s) (omega arith)) (tight m))
   where
@@ -194,7 +180,7 @@ no-jumps s some none = none-loose s (λ m l. rw (← command-below (entry s) (en
     tight m =
         by-parts (entry s) (entry s) (λ c d. loose m c ≡ false) (entryCount s Commands)
         (λ n. refl)
-        (λ n h below. tree-tight (entry s) n m below _ (no-jump _ _ _ _ (leb-false 8 _ (such-none (entryCount s Commands) (mayJump s) none n h))))
+        (λ n h below. tree-tight (entry s) n m below _ (no-jump _ _ _ _ (leb-false 8 _ (none n h))))
         (λ n h. refl) (entryCount s Commands) (le-refl _) (lastCommand s)
 
 -- ---- two readings with the same commands have the same loose jumps

@@ -1,12 +1,12 @@
 pub mod Layouts
 pub mod Counting
+pub mod Jumping
 pub mod Checking
 pub mod Node
 pub mod Sorted
 pub mod Prepared
 pub mod DrawingParts
 pub mod GraphingParts
-pub mod Jumping
 pub mod LinkingParts
 pub mod Preparing
 pub mod Guards

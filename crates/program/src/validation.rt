@@ -4,7 +4,6 @@ ghost use mathlib.Core.Path.{_≡_};
 ghost use Prim.Native.Nat.{_<_};
 ghost use lib.ListN.{length, take, drop};
 ghost use mathlib.Core.Bool.{_&&_};
-ghost use mathlib.Core.List.{[], _∷_};
 ghost use lib.Dec.{eqb, leb};
 ghost use Rattle.program.specs.Questions as spec;
 ghost use Rattle.program.specs.Asking;
@@ -137,17 +136,24 @@ fn check_names(s: &[u8], names: u16) -> Validity
     Validity::Fit
 }
 
-// Questions 7 to 9 of a table's entries. Where they are answered yes, the operands of all are counted, for question 10: one pass serves both.
-fn check_table(s: &[u8], l: Layout, table: Table, uses: &mut [u8; 1024]) -> Validity
+// Questions 7 to 9 of a table's entries. Where they are answered yes, the operands of all are counted, for question 10, and it is noted whether one may be a jump,
+// for question 20: one pass serves all.
+fn check_table(
+    s: &[u8],
+    l: Layout,
+    table: Table,
+    uses: &mut [u8; 1024],
+    jumps: &mut [u8; 1],
+) -> Validity
     requires { ⌜ Layouts.LaidOut (now s) l ⌝ }
-    ensures { λ r. ⌜ Checking.TableChecked (now (s .entry)) table (now (uses .entry)) (now (uses .exit)) r ⌝ }
+    ensures { λ r. ⌜ Checking.TableNoted (now (s .entry)) table (now (uses .entry)) (now (uses .exit)) (now (jumps .entry)) (now (jumps .exit)) r ⌝ }
 {
     let span = file::span_of(l, table);
     let start = span.start;
     let count = span.count;
     let mut n: u16 = 0;
     while n < count {
-        let v = entries::check_entry(s, l, table, start, n, uses);
+        let v = entries::check_entry(s, l, table, start, n, uses, jumps);
         if refused(v) {
             return v;
         }
@@ -223,25 +229,20 @@ fn check_all_uses(s: &[u8], l: Layout, counts: &[u8]) -> Validity
 }
 
 // Questions 7 to 11.
-fn check_entries(s: &[u8], l: Layout) -> Validity
+fn check_entries(s: &[u8], l: Layout, jumps: &mut [u8; 1]) -> Validity
     requires { ⌜ Layouts.LaidOut (now s) l ⌝ }
-    ensures { λ r. ⌜ r ≡ Asking.inTurn
-        (spec.tableValidity (now (s .entry)) Table.Arithmetic
-        ∷ spec.tableValidity (now (s .entry)) Table.Boolean
-        ∷ spec.tableValidity (now (s .entry)) Table.Commands
-        ∷ spec.usesValidity (now (s .entry))
-        ∷ []) ⌝ }
+    ensures { λ r. ⌜ Checking.EntriesNoted (now (s .entry)) (now (jumps .entry)) (now (jumps .exit)) r ⌝ }
 {
     let mut uses = [0u8; 1024];
-    let arithmetic = check_table(s, l, Table::Arithmetic, &mut uses);
+    let arithmetic = check_table(s, l, Table::Arithmetic, &mut uses, jumps);
     if refused(arithmetic) {
         return arithmetic;
     }
-    let boolean = check_table(s, l, Table::Boolean, &mut uses);
+    let boolean = check_table(s, l, Table::Boolean, &mut uses, jumps);
     if refused(boolean) {
         return boolean;
     }
-    let commands = check_table(s, l, Table::Commands, &mut uses);
+    let commands = check_table(s, l, Table::Commands, &mut uses, jumps);
     if refused(commands) {
         return commands;
     }
@@ -258,11 +259,12 @@ fn check_content(s: &[u8], l: Layout) -> Validity
     if refused(names) {
         return names;
     }
-    let entries = check_entries(s, l);
+    let mut jumps = [0u8; 1];
+    let entries = check_entries(s, l, &mut jumps);
     if refused(entries) {
         return entries;
     }
-    jumps::check_jumps(s, l)
+    jumps::check_jumps(s, l, jumps[0])
 }
 
 // Question 5: whether a file ends after its last field, at `at`.

@@ -2,15 +2,18 @@
 -- on the way. No public contract cites these.
 use Prim.Native.Nat.{ℕ}
 use mathlib.Core.Bool.{Bool, true, not, _||_}
-use mathlib.Core.List.{List}
+use mathlib.Core.List.{List, [], _∷_}
 use mathlib.Core.Path.{_≡_}
 use lib.Dec.{eqb}
+use Rattle.program.specs.Asking.{inTurn}
 use Rattle.program.specs.Parts.Counting.{Counted}
 use Rattle.program.specs.File.{entryCount, entryOffset, entry}
 use Rattle.program.specs.Kind.{Role}
-use Rattle.program.specs.Questions.{named, points, entryValidity, tableValidity, refersTo, entryUses, tableUses}
+use Rattle.program.specs.Parts.Jumping.{mayJump, Noted, AllNoted}
+use Rattle.program.specs.Questions.{named, points, entryValidity, tableValidity, refersTo, entryUses, tableUses, usesValidity}
 use Rattle.program.specs.declared.Entry.{Entry}
 use Rattle.program.specs.declared.Table.{Table}
+use Rattle.program.specs.declared.Table.the-variants.{Arithmetic, Boolean, Commands}
 use Rattle.program.specs.declared.Validity.{Validity}
 use Rattle.program.specs.declared.Validity.the-variants.{Fit}
 
@@ -35,7 +38,21 @@ pub record EntryChecked (s : List ℕ) (t : Table) (n : ℕ) (before after : Lis
   pub valid : v ≡ entryValidity s t n
   pub counted : v ≡ Fit → Counted before after (λ u k. entryUses s u k t n)
 
+-- and whether it may be a jump is noted, for question 20
+pub record EntryNoted (s : List ℕ) (t : Table) (n : ℕ) (before after old new : List ℕ) (v : Validity) : Type 0 where
+  pub checked : EntryChecked s t n before after v
+  pub noted : Noted (mayJump s t n) old new
+
 -- the same of all entries of a table
 pub record TableChecked (s : List ℕ) (t : Table) (before after : List ℕ) (v : Validity) : Type 0 where
   pub valid : v ≡ tableValidity s t
   pub counted : v ≡ Fit → Counted before after (λ u k. tableUses s u k t (entryCount s t))
+
+pub record TableNoted (s : List ℕ) (t : Table) (before after old new : List ℕ) (v : Validity) : Type 0 where
+  pub checked : TableChecked s t before after v
+  pub noted : v ≡ Fit → AllNoted s t old new
+
+-- the answer v to questions 7 to 11; where they are answered yes, it is noted whether a command may be a jump
+pub record EntriesNoted (s old new : List ℕ) (v : Validity) : Type 0 where
+  pub valid : v ≡ inTurn (tableValidity s Arithmetic ∷ tableValidity s Boolean ∷ tableValidity s Commands ∷ usesValidity s ∷ [])
+  pub noted : v ≡ Fit → AllNoted s Commands old new

@@ -1,5 +1,5 @@
 // Questions 7 to 9 of an entry: every entry is told apart by its kind, which says what its operands are. Where they are answered yes, its operands are
-// counted, for question 10.
+// counted, for question 10; and a jump is noted, for question 20.
 
 ghost use mathlib.Core.Path.{_≡_};
 ghost use mathlib.Core.List.{List};
@@ -10,6 +10,7 @@ ghost use Rattle.program.specs.File;
 ghost use Rattle.program.specs.Kind;
 ghost use Rattle.program.specs.Questions;
 use super::ask;
+use super::jumps;
 use super::operands;
 use crate::Entry;
 use crate::Layout;
@@ -198,15 +199,19 @@ pub(super) fn check_entry(
     start: usize,
     n: u16,
     uses: &mut [u8; 1024],
+    jumps: &mut [u8; 1],
 ) -> Validity
     requires { ⌜ Layouts.LaidOut (now s) l × (start ≡ File.tableStart (now s) table) ⌝ }
-    ensures { λ v. ⌜ spec.EntryChecked (now (s .entry)) table n (now (uses .entry)) (now (uses .exit)) v ⌝ }
+    ensures { λ v. ⌜ spec.EntryNoted (now (s .entry)) table n (now (uses .entry)) (now (uses .exit)) (now (jumps .entry)) (now (jumps .exit)) v ⌝ }
 {
     let at = start + 7 * file::long(n);
     let e = file::entry_at(s, at);
     match table {
         Table::Arithmetic => check_arithmetic(s, l, n, e, at, uses),
         Table::Boolean => check_boolean(s, l, n, e, at, uses),
-        Table::Commands => check_command(s, l, n, e, at, uses),
+        Table::Commands => {
+            jumps::note(jumps, e.kind);
+            check_command(s, l, n, e, at, uses)
+        }
     }
 }

@@ -1,9 +1,10 @@
 // Question 20: break and continue stand inside a do.
 
 ghost use mathlib.Core.Path.{_≡_};
-ghost use Prim.Native.Nat.{_≤_, min};
+ghost use mathlib.Core.Bool.{false};
+ghost use Prim.Native.Nat.{ℕ, _<_, min};
+ghost use lib.Dec.{leb};
 ghost use Rattle.program.specs.File;
-ghost use Rattle.program.specs.FirstSuch.{isAt, firstSuch};
 ghost use Rattle.program.specs.Parts.GraphingParts.{partAt};
 ghost use Rattle.program.specs.Parts.Jumping as spec;
 ghost use Rattle.program.specs.Parts.Node;
@@ -16,19 +17,13 @@ use crate::Validity;
 use crate::decoding;
 use crate::file;
 
-// Whether there may be a jump among the commands. Most programs have none, and then no tree is gone through.
-fn any_jump(s: &[u8], start: usize, count: u16) -> bool
-    requires { ⌜ spec.CommandsAt (now s) start count ⌝ }
-    ensures { λ r. ⌜ r ≡ isAt (firstSuch (File.entryCount (now (s .entry)) Table.Commands) (spec.mayJump (now (s .entry)))) ⌝ }
+// Notes a kind of command that may be a jump. Most programs have none, and then no tree is gone through.
+pub(super) fn note(jumps: &mut [u8; 1], kind: u8)
+    ensures { λ _. ⌜ spec.Noted (leb 8 kind) (now (jumps .entry)) (now (jumps .exit)) ⌝ }
 {
-    let mut n: u16 = 0;
-    while n < count {
-        if 8 <= s[start + 7 * n as usize] {
-            return true;
-        }
-        n += 1;
+    if 8 <= kind {
+        *jumps = [1u8; 1];
     }
-    false
 }
 
 // What command entry `n` is as a part of entry `bound`: one that is not lower is a skip.
@@ -74,26 +69,24 @@ fn lowest(s: &[u8], start: usize, bound: u16, n: u16, found: u16) -> u16
     }
 }
 
-// Question 20 of so many commands, of which there is one at least.
+// Question 20 of so many commands.
 fn check_lowest(s: &[u8], start: usize, count: u16) -> Validity
-    requires { ⌜ spec.CommandsAt (now s) start count × (1 ≤ count) ⌝ }
+    requires { ⌜ spec.CommandsAt (now s) start count ⌝ }
     ensures { λ r. ⌜ r ≡ Questions.jumpsValidity (now (s .entry)) ⌝ }
 {
     let found = lowest(s, start, count, count - 1, count);
     ask(count <= found, 20, start + 7 * file::long(found))
 }
 
-// Question 20, where questions 1 to 4 are answered yes.
-pub(super) fn check_jumps(s: &[u8], l: Layout) -> Validity
-    requires { ⌜ (Questions.headsValidity (now s) 0 File.programFields ≡ Validity.Fit) × (l ≡ File.layoutOf (now s)) ⌝ }
+// Question 20, where questions 1 to 4 are answered yes and it is noted whether a command may be a jump.
+pub(super) fn check_jumps(s: &[u8], l: Layout, noted: u8) -> Validity
+    requires { ⌜ (Questions.headsValidity (now s) 0 File.programFields ≡ Validity.Fit) × (l ≡ File.layoutOf (now s))
+        × (noted ≡ 0 → (n : ℕ) → n < File.entryCount (now s) Table.Commands → spec.mayJump (now s) Table.Commands n ≡ false) ⌝ }
     ensures { λ r. ⌜ r ≡ Questions.jumpsValidity (now (s .entry)) ⌝ }
 {
-    let span = l.commands;
-    let start = span.start;
-    let count = span.count;
-    if any_jump(s, start, count) {
-        check_lowest(s, start, count)
-    } else {
-        Validity::Fit
+    if noted == 0 {
+        return Validity::Fit;
     }
+    let span = l.commands;
+    check_lowest(s, span.start, span.count)
 }

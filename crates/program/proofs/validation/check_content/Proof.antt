@@ -7,7 +7,7 @@ use Rattle.program.specs.Asking.{thenAsk, inTurn, askEach}
 use Rattle.program.specs.File.{nameCount}
 use Rattle.program.specs.Questions.{nameValidity, tableValidity, usesValidity, jumpsValidity, contentValidity}
 use Rattle.program.specs.declared.Table.the-variants.{Arithmetic, Boolean, Commands}
-use Rattle.program.proofs.Asking.{stops, goes-on, turn-last}
+use Rattle.program.proofs.Asking.{stops, goes-on, not-refused, turn-last}
 use Rattle.program.proofs.Fit.{laid-out}
 use Rattle.program.proofs.Reading.{laid-names}
 use Rattle.program.proofs.validation.check_content.Statement.{statement}
@@ -28,18 +28,21 @@ returns : tie.Need-returns
 returns c = stops _ _ _ _ (c .before .before .check-names .ensures) (c .before .refused .ensures) (c .if1 .taken) ∙ sym (in-parts _)
 
 check-entries-requires : tie.Need-check-entries-requires
-check-entries-requires c κs = laid-out _ (c .before .before .before .before .before .pre .0) _ (c .before .before .before .before .before .pre .1)
+check-entries-requires c κs = laid-out _ (c .before .before .before .before .before .before .pre .0) _ (c .before .before .before .before .before .before .pre .1)
 
 returns-2 : tie.Need-returns-2
-returns-2 c = goes-on _ _ _ _ _ (c .before .before .before .before .before .check-names .ensures) (c .before .before .before .before .refused .ensures) (c .before .before .before .if1 .left) (stops _ _ _ _ (c .before .before .check-entries .ensures) (c .before .refused2 .ensures) (c .if2 .taken)) ∙ sym (in-parts _)
+returns-2 c = goes-on _ _ _ _ _ (c .before .before .before .before .before .before .check-names .ensures) (c .before .before .before .before .before .refused .ensures) (c .before .before .before .before .if1 .left) (stops _ _ _ _ (c .before .before .check-entries .ensures .valid) (c .before .refused2 .ensures) (c .if2 .taken)) ∙ sym (in-parts _)
 
 check-jumps-requires : tie.Need-check-jumps-requires
-check-jumps-requires c κs = c .before .before .before .before .before .before .before .before .pre
+check-jumps-requires c κs =
+    let start = c .before .before .before .before .before .before .before .before .before in
+    let fit = not-refused _ _ (c .before .refused2 .ensures) (c .if2 .left) in
+    (start .pre .0, start .pre .1, λ e. c .before .before .check-entries .ensures .noted fit .clear e .1)
 
 returns-3 : tie.Need-returns-3
-returns-3 c = goes-on _ _ _ _ _ (c .before .before .before .before .before .before .check-names .ensures) (c .before .before .before .before .before .refused .ensures) (c .before .before .before .before .if1 .left) (goes-on _ _ _ _ _ (c .before .before .before .check-entries .ensures) (c .before .before .refused2 .ensures) (c .before .if2 .left) (c .check-jumps .ensures)) ∙ sym (in-parts _)
+returns-3 c = goes-on _ _ _ _ _ (c .before .before .before .before .before .before .before .check-names .ensures) (c .before .before .before .before .before .before .refused .ensures) (c .before .before .before .before .before .if1 .left) (goes-on _ _ _ _ _ (c .before .before .before .check-entries .ensures .valid) (c .before .before .refused2 .ensures) (c .before .if2 .left) (c .check-jumps .ensures)) ∙ sym (in-parts _)
 
 pub check-content-spec : {M : Type 1} → statement M
 check-content-spec =
     tie.close
-    (tie.spec check-names-requires (λ c κs. search needs) returns check-entries-requires (λ c κs. search needs) returns-2 check-jumps-requires returns-3)
+    (tie.spec check-names-requires (λ c κs. search needs) returns check-entries-requires (λ c κs. search needs) returns-2 (λ c. search needs) check-jumps-requires returns-3)

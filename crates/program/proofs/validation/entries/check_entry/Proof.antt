@@ -1,9 +1,10 @@
 -- `program::validation::entries::check_entry` meets its contract.
 use borrow.Author.Needs.{needs}
 use Prim.Native.Nat.{_+_, _*_}
-use mathlib.Core.Path.{_≡_, _∙_, ap}
+use mathlib.Core.Path.{_≡_, refl, _∙_, ap}
 use native.Mathlib.Omega.{arith}
 use Rattle.program.specs.Parts.Checking.{Standing}
+use Rattle.program.specs.Parts.Jumping.{mayJump}
 use Rattle.program.specs.File.{tableStart}
 use Rattle.program.specs.declared.Table.{Table}
 use Rattle.program.proofs.Reading.{laid-start, entry-in, entry-read}
@@ -47,20 +48,29 @@ check-boolean-requires c κs = (c .before .before .before .before .before .befor
 enum-told-3 : tie.Need-enum-told-3
 enum-told-3 c = search needs
 
+note-requires : tie.Need-note-requires
+note-requires c κs = search needs
+
 check-command-requires : tie.Need-check-command-requires
-check-command-requires c κs = (c .before .before .before .before .before .before .pre .0, standing (c .before .before .before) (c .before .enum-told3 .given .1))
+check-command-requires c κs = (c .before .before .before .before .before .before .before .before .pre .0, standing (c .before .before .before .before .before) (c .before .before .before .enum-told3 .given .1))
 
 returns : tie.Need-returns
-returns c = rw (c .before .before .enum-told .given .1) (c .check-arithmetic .ensures)
+unfolding mayJump
+returns c = rw (c .before .before .enum-told .given .1) (record { checked = c .check-arithmetic .ensures; noted = record { clear = λ e. (e, refl) } })
 
 returns-2 : tie.Need-returns-2
-returns-2 c = rw (c .before .before .enum-told2 .given .1) (c .check-boolean .ensures)
+unfolding mayJump
+returns-2 c = rw (c .before .before .enum-told2 .given .1) (record { checked = c .check-boolean .ensures; noted = record { clear = λ e. (e, refl) } })
 
 returns-3 : tie.Need-returns-3
-returns-3 c = rw (c .before .before .enum-told3 .given .1) (c .check-command .ensures)
+unfolding mayJump
+returns-3 c =
+    let told = c .before .before .before .before .enum-told3 .given .1 in
+    let here = standing (c .before .before .before .before .before .before) told in
+    rw told (record { checked = c .check-command .ensures; noted = rw (here .read) at (c .before .before .note .ensures) })
 
 pub check-entry-spec : {M : Type 1} → statement M
 check-entry-spec =
     tie.close
-    (tie.spec long-requires mul-at add-at entry-at-requires enum-told check-arithmetic-requires enum-told-2 check-boolean-requires enum-told-3 check-command-requires returns
+    (tie.spec long-requires mul-at add-at entry-at-requires enum-told check-arithmetic-requires enum-told-2 check-boolean-requires enum-told-3 note-requires check-command-requires returns
     returns-2 returns-3)
