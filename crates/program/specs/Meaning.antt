@@ -11,8 +11,8 @@ pub data Meaning : Type 0 where
   stores : ℕ → Arith → Arith → Meaning
   condition : Boolean → Meaning
 
--- skip, an assignment or a store; break and continue are arrows that "act as skip" (order 7). No other command is performed by an edge, and none means
--- anything here
+-- skip, an assignment or a store; break and continue, each of which "gives one arrow that acts as skip" (order 7). No other command is performed by an edge, and
+-- none means anything here
 unfoldable pub performing : Command → Meaning
 performing (skip k) = nothing
 performing (assign k x a) = assigns x a

@@ -48,6 +48,7 @@ pub record TableChecked (s : List ℕ) (t : Table) (before after : List ℕ) (v 
   pub valid : v ≡ tableValidity s t
   pub counted : v ≡ Fit → Counted before after (λ u k. tableUses s u k t (entryCount s t))
 
+-- with the note for question 20
 pub record TableNoted (s : List ℕ) (t : Table) (before after old new : List ℕ) (v : Validity) : Type 0 where
   pub checked : TableChecked s t before after v
   pub noted : v ≡ Fit → AllNoted s t old new

@@ -38,6 +38,7 @@ fn command_at(s: &[u8], start: usize, bound: u16, n: u16) -> CommandNode
     decoding::command_kind(e.kind as u16, e.p, e.q, e.r)
 }
 
+// The lower of two entries.
 fn lower(a: u16, b: u16) -> u16
     ensures { λ r. ⌜ r ≡ min a b ⌝ }
 {
