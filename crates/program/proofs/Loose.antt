@@ -1,7 +1,7 @@
 -- Laws of question 20: the lowest jump outside every do is the first that is asked about and answered no; where no command is a jump there is none; and it depends
 -- on the commands alone.
 use mathlib.Core.Path.{_≡_, refl, sym, _∙_, ap}
-use mathlib.Core.Bool.{Bool, true, false, false≢true, _||_}
+use mathlib.Core.Bool.{Bool, true, false, false≢true, _||_, or-true}
 use mathlib.Core.List.{List}
 use Prim.Native.Nat.{ℕ, _+_, _-_, _≤_, _<_, min}
 use native.Mathlib.Decide.{decLe, decLt}
@@ -33,11 +33,12 @@ use Rattle.program.proofs.Induction.{by-kind}
 use Rattle.program.proofs.Made.{Made, makeSkip, makeAssign, makeStore, makeSequence, makeConditional, makeIteration, makeGuarded, makeChoice, makeJump}
 use Rattle.program.proofs.Reading.{laid-start, laid-count}
 use Rattle.program.proofs.Sorting.{script-made}
+use Rattle.program.proofs.Tests.{neither}
 use Rattle.program.proofs.Trees.{command-below}
 
 -- ---- the lowest is what it says
 
-pub lowest-most : (c : Command) (found : ℕ) → lowest c found ≤ found
+lowest-most : (c : Command) (found : ℕ) → lowest c found ≤ found
 unfolding lowest
 lowest-most (skip k) f = le-refl f
 lowest-most (assign k x a) f = le-refl f
@@ -50,7 +51,7 @@ lowest-most (choice k c d) f = omega (arith, lowest-most d (lowest c f), lowest-
 lowest-most (jump k j) f = omega arith
 
 -- no entry below it is loose
-pub lowest-none : (c : Command) (found n : ℕ) → n < lowest c found → loose n c ≡ false
+lowest-none : (c : Command) (found n : ℕ) → n < lowest c found → loose n c ≡ false
 unfolding lowest loose
 lowest-none (skip k) f n h = refl
 lowest-none (assign k x a) f n h = refl
@@ -61,10 +62,6 @@ lowest-none (iteration k c) f n h = refl
 lowest-none (guarded k b c) f n h = lowest-none c f n h
 lowest-none (choice k c d) f n h = rw (lowest-none c f n (omega (arith, lowest-most d (lowest c f)))) (lowest-none d (lowest c f) n h)
 lowest-none (jump k j) f n h = ne-eqb k n (omega arith)
-
-or-true : (b : Bool) → (b || true) ≡ true
-or-true true = refl
-or-true false = refl
 
 -- where it is lower than what was found before, it is loose: in one of two parts
 two-found : (c d : Command) (f : ℕ) → (lowest c f < f → loose (lowest c f) c ≡ true) → (lowest d (lowest c f) < lowest c f → loose (lowest d (lowest c f)) d ≡ true)
@@ -77,7 +74,7 @@ two-found c d f first second h =
           rw (same, first (omega arith))
     ]
 
-pub lowest-loose : (c : Command) (found : ℕ) → lowest c found < found → loose (lowest c found) c ≡ true
+lowest-loose : (c : Command) (found : ℕ) → lowest c found < found → loose (lowest c found) c ≡ true
 unfolding lowest loose
 lowest-loose (skip k) f h = absurd (omega arith)
 lowest-loose (assign k x a) f h = absurd (omega arith)
@@ -225,10 +222,6 @@ no-loose s fit n =
       | yes h ↦ past-tight (script-made s fit) n h
       | no h ↦ tight-fit s fit n (omega arith)
     ]
-
-neither : (a b : Bool) → (a || b) ≡ false → (a ≡ false) × (b ≡ false)
-neither true b e = absurd (false≢true (sym e))
-neither false b e = (refl, e)
 
 pub same-around : (c : Command) → ((n : ℕ) → loose n c ≡ false) → (o p : Around) (a b n : ℕ) → part o c a b n ≡ part p c a b n
 unfolding loose part

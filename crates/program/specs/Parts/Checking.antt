@@ -9,7 +9,7 @@ use Rattle.program.specs.Asking.{inTurn}
 use Rattle.program.specs.Parts.Counting.{Counted}
 use Rattle.program.specs.File.{entryCount, entryOffset, entry}
 use Rattle.program.specs.Kind.{Role}
-use Rattle.program.specs.Parts.Jumping.{mayJump, Noted, AllNoted}
+use Rattle.program.specs.Parts.Jumping.{mayJump, Noted, NotedTo}
 use Rattle.program.specs.Questions.{named, points, entryValidity, tableValidity, refersTo, entryUses, tableUses, usesValidity}
 use Rattle.program.specs.declared.Entry.{Entry}
 use Rattle.program.specs.declared.Table.{Table}
@@ -51,9 +51,9 @@ pub record TableChecked (s : List ℕ) (t : Table) (before after : List ℕ) (v 
 -- with the note for question 20
 pub record TableNoted (s : List ℕ) (t : Table) (before after old new : List ℕ) (v : Validity) : Type 0 where
   pub checked : TableChecked s t before after v
-  pub noted : v ≡ Fit → AllNoted s t old new
+  pub noted : v ≡ Fit → NotedTo s t (entryCount s t) old new
 
 -- the answer v to questions 7 to 11; where they are answered yes, it is noted whether a command may be a jump
 pub record EntriesNoted (s old new : List ℕ) (v : Validity) : Type 0 where
   pub valid : v ≡ inTurn (tableValidity s Arithmetic ∷ tableValidity s Boolean ∷ tableValidity s Commands ∷ usesValidity s ∷ [])
-  pub noted : v ≡ Fit → AllNoted s Commands old new
+  pub noted : v ≡ Fit → NotedTo s Commands (entryCount s Commands) old new

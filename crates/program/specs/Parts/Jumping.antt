@@ -31,9 +31,9 @@ mayJump s Commands n = leb 8 (entry s Commands n .kind)
 pub record Noted (jump : Bool) (before after : List ℕ) : Type 0 where
   pub clear : getD after 0 0 ≡ 0 → (getD before 0 0 ≡ 0) × (jump ≡ false)
 
--- the same of all entries of a table
-pub record AllNoted (s : List ℕ) (t : Table) (before after : List ℕ) : Type 0 where
-  pub clear : getD after 0 0 ≡ 0 → (getD before 0 0 ≡ 0) × ((n : ℕ) → n < entryCount s t → mayJump s t n ≡ false)
+-- the same of the first n entries of a table
+pub record NotedTo (s : List ℕ) (t : Table) (n : ℕ) (before after : List ℕ) : Type 0 where
+  pub clear : getD after 0 0 ≡ 0 → (getD before 0 0 ≡ 0) × ((k : ℕ) → k < n → mayJump s t k ≡ false)
 
 -- the lowest of a number and of the jumps outside every do in a command
 unfoldable pub lowest : Command → ℕ → ℕ

@@ -1,9 +1,12 @@
 -- `program::validation::check_entries` meets its contract.
 use borrow.Author.Needs.{needs}
+use Prim.Native.Nat.{ℕ}
+use mathlib.Core.List.{List}
 use mathlib.Core.Path.{_≡_, refl, sym, _∙_}
 use Rattle.program.specs.Asking.{inTurn}
+use Rattle.program.specs.File.{entryCount}
 use Rattle.program.specs.Parts.Counting.{UsesIn}
-use Rattle.program.specs.Parts.Jumping.{AllNoted}
+use Rattle.program.specs.Parts.Jumping.{NotedTo}
 use Rattle.program.specs.Questions.{tableValidity}
 use Rattle.program.specs.declared.Table.the-variants.{Arithmetic, Boolean, Commands}
 use Rattle.program.specs.declared.Validity.the-variants.{Fit}
@@ -31,14 +34,17 @@ module _ (c : tie.Else3) where
   abbrev first : tie.Else1
   first = second .before .before .before .before .before
 
-  all-counted : UsesIn (c .before .before .before .before .before .before .before .before .before .before .before .before .before .before .before .before .args .s .now) (c .before .before .check-table3 .last .1 .1 .1 .0)
+  abbrev file : List ℕ
+  file = c .before .before .before .before .before .before .before .before .before .before .before .before .before .before .before .before .args .s .now
+
+  all-counted : UsesIn file (c .before .before .check-table3 .last .1 .1 .1 .0)
   all-counted =
       let a = first .before .before .check-table .ensures .checked in
       let b = second .before .before .check-table2 .ensures .checked in
       let d = c .before .before .check-table3 .ensures .checked in
       counted-all _ _ _ _ (a .counted (a .valid ∙ arithmetic-fit first)) (b .counted (b .valid ∙ boolean-fit second)) (d .counted (d .valid ∙ commands-fit c))
 
-  all-noted : AllNoted (c .before .before .before .before .before .before .before .before .before .before .before .before .before .before .before .before .args .s .now) Commands (c .before .before .before .before .before .before .before .before .before .before .before .before .before .before .before .before .args .jumps .now) (c .before .before .check-table3 .last .1 .1 .1 .1 .0)
+  all-noted : NotedTo file Commands (entryCount file Commands) (c .before .before .before .before .before .before .before .before .before .before .before .before .before .before .before .before .args .jumps .now) (c .before .before .check-table3 .last .1 .1 .1 .1 .0)
   all-noted =
       let a = first .before .before .check-table .ensures in
       let b = second .before .before .check-table2 .ensures in

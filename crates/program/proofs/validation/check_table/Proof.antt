@@ -8,12 +8,13 @@ use Rattle.program.specs.FirstSuch.{firstOf}
 use Rattle.program.specs.Asking.{askEach}
 use Rattle.program.specs.Parts.Counting.{Counted}
 use Rattle.program.specs.File.{entryCount}
+use Rattle.program.specs.Parts.Jumping.{NotedTo}
 use Rattle.program.specs.Questions.{tableValidity, entryValidity, tableUses}
 use Rattle.program.specs.declared.Span.{Span}
 use Rattle.program.specs.declared.Validity.the-variants.{Fit}
 use Rattle.program.proofs.Asking.{each-stops, each-goes-on, not-refused, stopped}
 use Rattle.program.proofs.Counting.{counted-none, counted-then}
-use Rattle.program.proofs.Noting.{NotedTo, noted-none, noted-next, all-noted}
+use Rattle.program.proofs.Noting.{noted-none, noted-next}
 use Rattle.program.proofs.Reading.{laid-count, laid-start}
 use Rattle.program.proofs.validation.check_table.Statement.{statement}
 use Rattle.program.proofs.validation.check_table.Tie as tie
@@ -85,7 +86,7 @@ returns-2 c =
         valid = sym (ap (λ n. askEach n (entryValidity (s .args .s .now) (s .args .table))) (sym all) ∙ l .inv .1);
         counted = λ fit. subst (λ (k : ℕ). Counted (s .args .uses .now) (l .uses) (λ u n. tableUses (s .args .s .now) u n (s .args .table) k)) all (l .inv .2);
       };
-      noted = λ fit. all-noted all (l .inv .3);
+      noted = λ fit. subst (λ (k : ℕ). NotedTo (s .args .s .now) (s .args .table) k (s .args .jumps .now) (l .jumps)) all (l .inv .3);
     }
 
 pub check-table-spec : {M : Type 1} → statement M
