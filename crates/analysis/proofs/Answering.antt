@@ -14,6 +14,7 @@ use Rattle.program.specs.File.{sizes}
 use Rattle.program.specs.Graph.{Graph, graph}
 use Rattle.program.specs.Parts.Prepared.{Coded, nameCountPlace}
 use Rattle.program.specs.Questions.{validity}
+use Rattle.program.specs.declared.Construction.{Construction}
 use Rattle.program.specs.declared.Refusal.{Refusal}
 use Rattle.program.specs.declared.Validity.{Validity}
 use Rattle.program.specs.declared.Validity.the-variants.{Fit, Refused}
@@ -113,8 +114,8 @@ unfolding initialValidity thenAsk
 validity-refused s initial x e = rw e
 
 -- the clauses of the contract
-pub answered-all : (s initial buffer : List ℕ) {buffer′ : List ℕ} {r : Solved}
-    → Answered (initialValidity s initial) (initialFormed (sizes s) initial) (solution (sizes s) (graph s) initial (roomOf (sizes s) (length buffer))) buffer buffer′ r
-    → ((r ≡ solved s initial buffer) × (buffer′ ≡ solvedBuffer s initial buffer)) × (solvedNumbers r ≡ solverRow s initial buffer)
+pub answered-all : (κ : Construction) (s initial buffer : List ℕ) {buffer′ : List ℕ} {r : Solved}
+    → Answered (initialValidity s initial) (initialFormed (sizes s) initial) (solution (sizes s) (graph κ s) initial (roomOf (sizes s) (length buffer))) buffer buffer′ r
+    → ((r ≡ solved κ s initial buffer) × (buffer′ ≡ solvedBuffer κ s initial buffer)) × (solvedNumbers r ≡ solverRow κ s initial buffer)
 unfolding solverRow solved solvedBuffer solutionIn
-answered-all s initial buffer a = ((a .reply, a .buffer), ap solvedNumbers (a .reply))
+answered-all κ s initial buffer a = ((a .reply, a .buffer), ap solvedNumbers (a .reply))

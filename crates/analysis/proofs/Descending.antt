@@ -10,33 +10,49 @@ use borrow.Author.Tests.{eq-eqb, ne-eqb, lt-ltb, le-ltb}
 use lib.Dec.{eqb, ltb}
 use lib.ListN.{length, getD, set}
 use Rattle.signs.specs.Lists.{tabulate, passing, indices}
+use Rattle.signs.specs.declared.Truths.{Truths}
 use Rattle.program.specs.File.{wordAt}
 use Rattle.program.specs.Graph.{Graph, edgeAt}
 use Rattle.program.specs.Meaning.{meaning}
-use Rattle.program.specs.Parts.Prepared.{Prepared, Linked, Following, entriesIn, decodedMeaning, actionIn, sourceIn, targetIn, firstIn, nextIn, edgeCountPlace}
+use Rattle.program.specs.declared.ActionNode.{ActionNode}
+use Rattle.program.specs.Parts.Prepared.{Prepared, Linked, Following, entriesIn, decodedMeaning, isGuardNode, actionIn, sourceIn, targetIn, firstIn, nextIn, edgeCountPlace}
 use Rattle.program.proofs.Lists.{getD-tabulate}
 use Rattle.program.proofs.Laws.{next-is-beyond, first-is-followed, next-is-followed}
+use Rattle.semantics.specs.Parts.Selecting.{Opens}
 use Rattle.semantics.specs.Step.{leaves}
+use Rattle.semantics.proofs.Opened.{opens}
 use Rattle.analysis.specs.Parts.Changing.{setsOf, ResultsIn}
 use Rattle.analysis.specs.Parts.Judging.{ReadInto}
 use Rattle.analysis.specs.Records.{recordAt, nodeOf, memoryOf}
 use Rattle.analysis.specs.Results.{results}
+use Rattle.analysis.specs.Signs.{truthsIn}
 use Rattle.analysis.specs.Solver.{Found, offer, offerResults, offerSuccessors, descend}
 use Rattle.analysis.specs.Parts.Solving.{foundIn, along}
 use Rattle.analysis.specs.declared.solver.Progress.{Progress}
+use Rattle.analysis.proofs.Alike.{truths-alike, as-it-is}
 use Rattle.analysis.proofs.Growing.{offer-full}
 use Rattle.analysis.proofs.Laid.{node-reads}
+use Rattle.analysis.proofs.Tested.{ownAt, plain-meaning, results-own, results-none}
 
 -- ---- Along an edge
 
 -- the results of an edge, as the code reads it and offers them
-pub edge-offered : {ns : List ℕ} {g : Graph} {code graph : List ℕ} (x : Prepared ns g code graph) (e : ℕ) → e < length (g .edges) → (ρ rho : List ℕ) → ReadInto ρ rho (length ns)
-    → (r : ℕ) → ResultsIn rho (decodedMeaning (entriesIn code graph) (actionIn graph e)) r → (room : ℕ) (f : Found) {f′ : Found}
+pub edge-offered : {ns : List ℕ} {g : Graph} {code graph : List ℕ} (x : Prepared ns g code graph) (e : ℕ) → e < length (g .edges) → {a : ActionNode} → a ≡ actionIn graph e → isGuardNode a ≡ false
+    → (ρ rho : List ℕ) → ReadInto ρ rho (length ns) → (r : ℕ) → ResultsIn rho (decodedMeaning (entriesIn code graph) a) r → (room : ℕ) (f : Found) {f′ : Found}
     → f′ ≡ foldl (offer ns room (targetIn graph e)) f (map (set ρ (r % 64)) (setsOf (r / 64))) → f′ ≡ offerResults ns g room ρ f e
 unfolding offerResults
-edge-offered x e h ρ rho y r k room f p =
-    let d = x .edge e h in
-    rw (← d .target, ← d .action, k .gives ρ (omega (arith, y .sized, x .coded .few)) (y .alike)) p
+edge-offered x e h told plainly ρ rho y r k room f p =
+    rw (← x .edge e h .target, ← plain-meaning x e h told plainly, k .gives ρ (omega (arith, y .sized, x .coded .few)) (y .alike)) p
+
+-- the abstract memory as it is, where a guard may hold
+pub own-offered : {ns : List ℕ} {g : Graph} {code graph : List ℕ} (x : Prepared ns g code graph) (e : ℕ) → e < length (g .edges) → {ρ rho : List ℕ} → ReadInto ρ rho (length ns)
+    → (room : ℕ) (b : Bool) {r node : ℕ} → r ≡ cond b 96 32 → node ≡ targetIn graph e → (f : Found) {f′ : Found}
+    → f′ ≡ foldl (offer ns room node) f (map (set ρ (r % 64)) (setsOf (r / 64))) → f′ ≡ foldl (offer ns room (edgeAt g e .target)) f (cond b (ρ ∷ []) [])
+own-offered {ns = ns} x e h {ρ} y room b {r} {node} k t f p =
+    p
+    ∙ ap (λ (n : ℕ). foldl (offer ns room node) f (map (set ρ (n % 64)) (setsOf (n / 64)))) k
+    ∙ ap (foldl (offer ns room node) f) (sym (as-it-is b ρ (omega (arith, y .sized, x .coded .few))))
+    ∙ ap (λ (n : ℕ). foldl (offer ns room n) f (cond b (ρ ∷ []) [])) (t ∙ x .edge e h .target)
 
 -- ---- Along the edges out of a node
 
@@ -148,6 +164,94 @@ module _ {graph : List ℕ} (w : Linked graph) (node : ℕ) where
     all-along e h p =
         let all : min e count ≡ length (g .edges) = omega (arith, x .edges) in
         p ∙ ap (λ (n : ℕ). along f g node n z) all
+
+-- ---- Along the edges out of a node whose lowest is a guard's of the deterministic graph
+
+module _ (f : Found → ℕ → Found) (g : Graph) (node : ℕ) (z : Found) where
+  -- from n to m, where none of them that leaves the node changes what is found
+  along-still : (n k : ℕ) → ((i : ℕ) → n ≤ i → i < n + k → leaves g i node ≡ true → (v : Found) → f v i ≡ v) → along f g node (n + k) z ≡ along f g node n z
+  along-still n zero h = rw add-zero
+  along-still n (suc k) h =
+      let step : n + suc k ≡ suc (n + k) = omega arith in
+      ap (λ (m : ℕ). along f g node m z) step ∙ by (leaves g (n + k) node) refl ∙ along-still n k (λ i a b. h i a (omega arith))
+    where
+      by : (b : Bool) → leaves g (n + k) node ≡ b → along f g node (suc (n + k)) z ≡ along f g node (n + k) z
+      by true e = along-taken f g node z (n + k) e ∙ h (n + k) (omega arith) (omega arith) e _
+      by false e = along-other f g node z (n + k) e
+
+-- the own guard of an edge may fail
+abbrev pub MayFail : List ℕ → List ℕ → List ℕ → ℕ → Type 0
+MayFail code graph rho k = truthsIn rho (ownAt code graph k) .fails ≡ true
+
+module _ {ns : List ℕ} {g : Graph} {code graph ρ rho : List ℕ} (x : Prepared ns g code graph) (y : ReadInto ρ rho (length ns)) (w : Linked graph)
+    {node first : ℕ} (opened : Opens graph node first) (room : ℕ) (z : Found) where
+  abbrev Offer : Found → ℕ → Found
+  Offer = offerResults ns g room ρ
+
+  alike : (k : ℕ) → truthsIn ρ (ownAt code graph k) ≡ truthsIn rho (ownAt code graph k)
+  alike k = truths-alike ρ rho (y .alike) (ownAt code graph k)
+
+  leaves-source : (k : ℕ) → k < length (g .edges) → leaves g k node ≡ eqb (sourceIn graph k) node
+  leaves-source k h = leaves-by w node x Offer z k (omega (arith, x .edges))
+
+  -- before the lowest there is none
+  pub guarded-start : z ≡ along Offer g node (min first (getD graph edgeCountPlace 0)) z
+  guarded-start =
+      sym
+      (along-between Offer g node z 0 (min first (getD graph edgeCountPlace 0)) (omega arith) (λ i a b. by i (omega arith) (omega (arith, x .edges)) (eqb (sourceIn graph i) node) refl)
+      ∙ along-none Offer g node z)
+    where
+      by : (i : ℕ) → i < first → i < length (g .edges) → (b : Bool) → eqb (sourceIn graph i) node ≡ b → leaves g i node ≡ false
+      by i l h true s = absurd (opened .none i l s)
+      by i l h false s = leaves-source i h ∙ s
+
+  module _ (e : ℕ) (at : Following graph node (MayFail code graph rho) e) (h : e < getD graph edgeCountPlace 0) where
+    leaves-here : eqb (sourceIn graph e) node ≡ true
+    leaves-here = eq-eqb (sourceIn graph e) node (at .here h)
+
+    -- along an edge, by its own guard
+    offered-own : (v : Found) → foldl (offer ns room (edgeAt g e .target)) v (cond (truthsIn rho (ownAt code graph e) .holds) (ρ ∷ []) []) ≡ Offer v e
+    unfolding offerResults
+    offered-own v =
+        ap (foldl (offer ns room (edgeAt g e .target)) v)
+        (sym
+        (results-own x ρ opened e (omega (arith, x .edges)) leaves-here (λ i m t. ap (λ (v : Truths). v .fails) (alike i) ∙ at .before i m (omega arith) t)
+        ∙ ap (λ (v : Truths). cond (v .holds) (ρ ∷ []) []) (alike e)))
+
+    pub guarded-next : {a b : Found} → a ≡ along Offer g node (min e (getD graph edgeCountPlace 0)) z
+        → b ≡ foldl (offer ns room (edgeAt g e .target)) a (cond (truthsIn rho (ownAt code graph e) .holds) (ρ ∷ []) [])
+        → b ≡ along Offer g node (min (nextIn graph e) (getD graph edgeCountPlace 0)) z
+    guarded-next {a} p q = next-along w node x Offer z e h (at .here h) p (q ∙ offered-own a)
+
+    -- where its own guard may not fail, nothing follows along the edges after it
+    pub guarded-stop : {a b : Found} → a ≡ along Offer g node (min e (getD graph edgeCountPlace 0)) z
+        → b ≡ foldl (offer ns room (edgeAt g e .target)) a (cond (truthsIn rho (ownAt code graph e) .holds) (ρ ∷ []) []) → truthsIn rho (ownAt code graph e) .fails ≡ false
+        → b ≡ along Offer g node (length (g .edges)) z
+    unfolding offerResults
+    guarded-stop {a} p q u =
+        let here : min e (getD graph edgeCountPlace 0) ≡ e = omega arith in
+        let all : suc e + (length (g .edges) - suc e) ≡ length (g .edges) = omega (arith, x .edges) in
+        q
+        ∙ offered-own a
+        ∙ ap (λ (v : Found). Offer v e) (p ∙ ap (λ (n : ℕ). along Offer g node n z) here)
+        ∙ sym (along-taken Offer g node z e (leaves-source e (omega (arith, x .edges)) ∙ leaves-here))
+        ∙ sym (along-still Offer g node z (suc e) (length (g .edges) - suc e) (λ i l m s. still i (omega arith) (omega arith) s))
+        ∙ ap (λ (n : ℕ). along Offer g node n z) all
+      where
+        still : (i : ℕ) → e < i → i < length (g .edges) → leaves g i node ≡ true → (v : Found) → Offer v i ≡ v
+        still i l m s v =
+            ap (foldl (offer ns room (edgeAt g i .target)) v)
+            (results-none x ρ opened i m (sym (leaves-source i m) ∙ s) e l leaves-here (ap (λ (v : Truths). v .fails) (alike e) ∙ u))
+
+-- so a list handed over at a guard's edge has all that follows: before that edge there is none
+pub guarded-all : {ns : List ℕ} {g : Graph} {code graph ρ rho : List ℕ} (x : Prepared ns g code graph) (y : ReadInto ρ rho (length ns)) (w : Linked graph) {node : ℕ} (room : ℕ) (z : Found)
+    (e : ℕ) → e < getD graph edgeCountPlace 0 → sourceIn graph e ≡ node → (node < 129 → Following graph node (λ k. isGuardNode (actionIn graph k) ≡ false) e)
+    → isGuardNode (actionIn graph e) ≡ true → {a b : Found} → a ≡ along (offerResults ns g room ρ) g node (min e (getD graph edgeCountPlace 0)) z
+    → (Opens graph node e → b ≡ along (offerResults ns g room ρ) g node (length (g .edges)) a) → b ≡ along (offerResults ns g room ρ) g node (length (g .edges)) z
+guarded-all {ns} {g} {ρ = ρ} x y w {node} room z e h here at t p found =
+    let d = x .edge e (omega (arith, x .edges)) in
+    let o = opens x (at (omega (arith, here, d .source, d .from, x .few-nodes))) h t in
+    found o ∙ ap (along (offerResults ns g room ρ) g node (length (g .edges))) (p ∙ sym (guarded-start x y w o room z))
 
 -- ---- Down the list
 

@@ -4,8 +4,8 @@ use mathlib.Core.List.{List, [], _++_, append-assoc, append-nil}
 use Prim.Native.Nat.{ℕ}
 use Rattle.signs.specs.Truth.{certain, conjoined}
 use Rattle.signs.proofs.Laws.{conjoined-assoc, conjoined-certain, certain-conjoined}
-use Rattle.program.specs.Graph.{done}
-use Rattle.program.specs.Parts.Guards.{guards, allFalse}
+use Rattle.program.specs.Graph.{guards, done}
+use Rattle.program.specs.Parts.Guards.{allFalse}
 use Rattle.program.specs.Syntax.{Command}
 use Rattle.program.proofs.Guards.{Joins}
 use Rattle.program.proofs.Laws.{left-to-right}

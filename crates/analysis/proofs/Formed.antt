@@ -20,12 +20,15 @@ use Rattle.signs.proofs.Lists.{or-right}
 use Rattle.program.specs.File.{byteAt, wordAt, sizes, isVariable, isArray}
 use Rattle.program.specs.Graph.{Graph, graph, edges, edgeCount, nodeCount, edgeAt, wordBytes}
 use Rattle.program.specs.Meaning.{Meaning, nothing, assigns, stores, condition, meaning}
+use Rattle.program.specs.Parts.Preceding.{plainGraph}
 use Rattle.program.specs.Parts.Sorted.{arithNamed, meaningNamed}
 use Rattle.program.specs.Asking.{ask, thenAsk, askEach, isRefused}
+use Rattle.program.specs.declared.Construction.{Construction}
+use Rattle.program.specs.declared.Construction.the-variants.{Nondeterministic}
 use Rattle.program.specs.declared.Validity.{Validity}
 use Rattle.program.specs.declared.Validity.the-variants.{Fit, Refused}
 use Rattle.program.specs.Questions.{validity}
-use Rattle.program.proofs.Laws.{all-nothing, each-fit, two-nodes, edge-inside, few-nodes, edge-faithful, meaning-named}
+use Rattle.program.proofs.Laws.{all-nothing, each-fit, two-nodes, edge-inside, few-nodes, edge-faithful, meaning-named, plain-graph}
 use Rattle.program.proofs.Lists.{Each, none, more, each-append, each-at}
 use Rattle.program.proofs.Tests.{is-true}
 use Rattle.semantics.specs.Step.{leaves}
@@ -295,17 +298,22 @@ module _ (ns : List ℕ) (g : Graph) (room : ℕ) (few : room ≤ 4096) (rs : Li
 
 -- ---- The solver's list for a file
 
-module _ (s initial : List ℕ) (fit : validity s ≡ Fit) (formed : initialFormed (sizes s) initial ≡ Fit) (room : ℕ) where
-  pub solution-list : FormedList (sizes s) (graph s .nodes) room (solution (sizes s) (graph s) initial room .records)
+module _ (κ : Construction) (s initial : List ℕ) (fit : validity s ≡ Fit) (formed : initialFormed (sizes s) initial ≡ Fit) (room : ℕ) where
+  pub solution-list : FormedList (sizes s) (graph κ s .nodes) room (solution (sizes s) (graph κ s) initial room .records)
   unfolding edges edgeCount nodeCount edgeAt
   solution-list =
-      solution-kept (sizes s) (graph s) room (omega (arith, few-nodes s fit))
-      (λ e h. edge-inside s e _ h .target-inside)
-      (λ e h. meaning-named (sizes s) (edgeAt (graph s) e .action) (edge-faithful s fit e _ h .named))
-      (omega (arith, two-nodes s)) initial formed
+      solution-kept (sizes s) (graph κ s) room (omega (arith, few-nodes s fit κ))
+      (λ e h. edge-inside κ s e _ h .target-inside)
+      (λ e h. meaning-named (sizes s) (edgeAt (graph κ s) e .action) (edge-faithful s fit κ e _ h .named))
+      (omega (arith, two-nodes κ s)) initial formed
 
-  pub solution-marked : room ≤ 4096 → (let rs = solution (sizes s) (graph s) initial room .records in marking s (flatten rs) ≡ Marked (indexMark (sizes s) (graph s) (flatten rs)))
+  -- its nodes are those of document 01's graph, on which its mark is asked
+  listed-alike : FormedList (sizes s) (graph Nondeterministic s .nodes) room (solution (sizes s) (graph κ s) initial room .records)
+  unfolding plainGraph
+  listed-alike = subst (λ (g : Graph). FormedList (sizes s) (g .nodes) room (solution (sizes s) (graph κ s) initial room .records)) (plain-graph κ s) solution-list
+
+  pub solution-marked : room ≤ 4096 → (let rs = solution (sizes s) (graph κ s) initial room .records in marking s (flatten rs) ≡ Marked (indexMark (sizes s) (graph Nondeterministic s) (flatten rs)))
   unfolding marking markingBy solutionValidity thenAsk ask
   solution-marked few =
-      let rs = solution (sizes s) (graph s) initial room .records in
-      rw (fit, whole-list (sizes s) (graph s) room few rs solution-list, formed-list (sizes s) (graph s) room few rs solution-list)
+      let rs = solution (sizes s) (graph κ s) initial room .records in
+      rw (fit, whole-list (sizes s) (graph Nondeterministic s) room few rs listed-alike, formed-list (sizes s) (graph Nondeterministic s) room few rs listed-alike)

@@ -13,6 +13,8 @@ use Rattle.program.specs.Graph as drawn
 use Rattle.program.specs.Graph.{graph}
 use Rattle.program.specs.Parts.Prepared.{Prepared, PreparedLinked}
 use Rattle.program.specs.Questions.{validity}
+use Rattle.program.specs.declared.Construction.{Construction}
+use Rattle.program.specs.declared.Construction.the-variants.{Nondeterministic}
 use Rattle.program.specs.declared.Refusal.{Refusal}
 use Rattle.program.specs.declared.Validity.{Validity}
 use Rattle.program.specs.declared.Validity.the-variants.{Fit, Refused}
@@ -59,36 +61,36 @@ pub some-names : (s : List ℕ) → validity s ≡ Fit → (names : ℕ) → nam
 some-names s fit names p = let c = counts s fit in (omega (arith, c .some-name), omega (arith, c .names))
 
 -- a well-formed program is prepared with its links, and still is with the set table; and so many names of a prepared one
-pub still : {s : List ℕ} {r : Validity} {old code graph : List ℕ} → PreparedLinked s r old graph → r ≡ Fit → TablePut old code → Prepared (sizes s) (drawn.graph s) code graph
+pub still : {κ : Construction} {s : List ℕ} {r : Validity} {old code graph : List ℕ} → PreparedLinked κ s r old graph → r ≡ Fit → TablePut old code → Prepared (sizes s) (drawn.graph κ s) code graph
 still p f t = prepared-still _ _ (code-long (t .tabled)) (t .before) (p .prepared .prepared f)
 
-pub ready : {s : List ℕ} {r : Validity} {old code graph : List ℕ} → PreparedLinked s r old graph → r ≡ Fit → TablePut old code → Ready code graph
+pub ready : {κ : Construction} {s : List ℕ} {r : Validity} {old code graph : List ℕ} → PreparedLinked κ s r old graph → r ≡ Fit → TablePut old code → Ready code graph
 ready p f t = record { ns = _; g = _; prepared = still p f t; linked = p .linked f; tabled = t .tabled }
 
 pub ready-names : {code graph : List ℕ} → Ready code graph → (0 < namesIn code) × (namesIn code ≤ 32)
 ready-names r = let c = r .prepared .coded in (omega (arith, c .some, c .count), omega (arith, c .few, c .count))
 
 -- the verdict of a program file: refused, or judged over its graph
-pub verdict-refused : (s initial solution : List ℕ) (x : Refusal) → validity s ≡ Refused x → verdict s initial solution ≡ Refuses x
+pub verdict-refused : (κ : Construction) (s initial solution : List ℕ) (x : Refusal) → validity s ≡ Refused x → verdict κ s initial solution ≡ Refuses x
 unfolding verdict verdictUnlessRefused
-verdict-refused s initial solution x p = rw p
+verdict-refused κ s initial solution x p = rw p
 
-pub verdict-judged : (s initial solution : List ℕ) → validity s ≡ Fit → verdict s initial solution ≡ verdictOver (sizes s) (graph s) initial solution
+pub verdict-judged : (κ : Construction) (s initial solution : List ℕ) → validity s ≡ Fit → verdict κ s initial solution ≡ verdictOver (sizes s) (graph κ s) initial solution
 unfolding verdict verdictUnlessRefused
-verdict-judged s initial solution p = rw p
+verdict-judged κ s initial solution p = rw p
 
 -- a verdict, with document 01's numbers and the third term
-pub promised : (s initial solution : List ℕ) {r : Verdict} → r ≡ verdict s initial solution
-    → (r ≡ verdict s initial solution) × ((verdictNumbers r ≡ verdictRow s initial solution) × ThirdTermFor s initial solution r)
+pub promised : (κ : Construction) (s initial solution : List ℕ) {r : Verdict} → r ≡ verdict κ s initial solution
+    → (r ≡ verdict κ s initial solution) × ((verdictNumbers r ≡ verdictRow κ s initial solution) × ThirdTermFor κ s initial solution r)
 unfolding verdictRow
-promised s initial solution k = (k, (ap verdictNumbers k, subst (ThirdTermFor s initial solution) (sym k) (third-term s initial solution)))
+promised κ s initial solution k = (k, (ap verdictNumbers k, subst (ThirdTermFor κ s initial solution) (sym k) (third-term κ s initial solution)))
 
 -- the index mark of a list by itself: refused, or over the prepared program
 pub marking-refused : (s solution : List ℕ) (x : Refusal) → validity s ≡ Refused x → marking s solution ≡ Declined x
 unfolding marking solutionValidity markingBy thenAsk
 marking-refused s solution x p = rw p
 
-pub marking-marked : (s solution : List ℕ) → validity s ≡ Fit → marking s solution ≡ marked (sizes s) (graph s) solution
+pub marking-marked : (s solution : List ℕ) → validity s ≡ Fit → marking s solution ≡ marked (sizes s) (graph Nondeterministic s) solution
 unfolding marking solutionValidity marked thenAsk
 marking-marked s solution p = rw p
 

@@ -3,10 +3,12 @@ use mathlib.Core.Path.{_≡_}
 use mathlib.Core.List.{List, flatten}
 use Prim.Native.Nat.{ℕ, _≤_}
 use Rattle.program.specs.File.{sizes}
-use Rattle.program.specs.Graph.{graph, done}
-use Rattle.program.specs.Parts.Guards.{guards, allFalse}
+use Rattle.program.specs.Graph.{guards, graph, done}
+use Rattle.program.specs.Parts.Guards.{allFalse}
 use Rattle.program.specs.Questions.{validity}
 use Rattle.program.specs.Syntax.{Command}
+use Rattle.program.specs.declared.Construction.{Construction}
+use Rattle.program.specs.declared.Construction.the-variants.{Nondeterministic}
 use Rattle.program.specs.declared.Validity.the-variants.{Fit}
 use Rattle.analysis.specs.Index.{booleanIndexes}
 use Rattle.analysis.specs.Records.{initialFormed}
@@ -23,14 +25,21 @@ use Rattle.analysis.specs.declared.Verdict.{Verdict}
 use Rattle.analysis.proofs.Exits
 use Rattle.analysis.proofs.Formed
 use Rattle.analysis.proofs.Formed.{FormedList}
+use Rattle.analysis.proofs.Marks
 use Rattle.analysis.proofs.Readback
 use Rattle.analysis.proofs.Readback.{QuestionsOnly}
 use Rattle.analysis.proofs.ThirdTerm
 
--- ---- The third term
+-- ---- The third term, on every construction's graph
 
-pub third-term : (s initial solution : List ℕ) → ThirdTermFor s initial solution (verdict s initial solution)
+pub third-term : (κ : Construction) (s initial solution : List ℕ) → ThirdTermFor κ s initial solution (verdict κ s initial solution)
 third-term = ThirdTerm.third-term
+
+-- ---- The index mark
+
+-- (order 8) it is the same for every construction: the first edge with an index that may be negative has it in its own guard
+pub mark-same : (s : List ℕ) → validity s ≡ Fit → (κ : Construction) (solution : List ℕ) → indexMark (sizes s) (graph κ s) solution ≡ indexMark (sizes s) (graph Nondeterministic s) solution
+mark-same = Marks.mark-same
 
 -- ---- The exit of a do
 
@@ -44,13 +53,13 @@ exit-indexes = Exits.exit-indexes
 -- ---- The solver's list
 
 -- the list for a well-formed file and start list has room records at most, each at a node of the graph and with signs that are right for their names
-module _ (s initial : List ℕ) (fit : validity s ≡ Fit) (formed : initialFormed (sizes s) initial ≡ Fit) (room : ℕ) where
-  pub solution-list : FormedList (sizes s) (graph s .nodes) room (solution (sizes s) (graph s) initial room .records)
-  solution-list = Formed.solution-list s initial fit formed room
+module _ (κ : Construction) (s initial : List ℕ) (fit : validity s ≡ Fit) (formed : initialFormed (sizes s) initial ≡ Fit) (room : ℕ) where
+  pub solution-list : FormedList (sizes s) (graph κ s .nodes) room (solution (sizes s) (graph κ s) initial room .records)
+  solution-list = Formed.solution-list κ s initial fit formed room
 
   -- so it passes 16 and 17, and its index mark comes back
-  pub solution-marked : room ≤ 4096 → (let rs = solution (sizes s) (graph s) initial room .records in marking s (flatten rs) ≡ Marked (indexMark (sizes s) (graph s) (flatten rs)))
-  solution-marked = Formed.solution-marked s initial fit formed room
+  pub solution-marked : room ≤ 4096 → (let rs = solution (sizes s) (graph κ s) initial room .records in marking s (flatten rs) ≡ Marked (indexMark (sizes s) (graph Nondeterministic s) (flatten rs)))
+  solution-marked = Formed.solution-marked κ s initial fit formed room
 
 -- ---- Rows of numbers
 
@@ -58,7 +67,7 @@ module _ (s initial : List ℕ) (fit : validity s ≡ Fit) (formed : initialForm
 pub verdict-row : (v w : Verdict) → QuestionsOnly v → QuestionsOnly w → verdictNumbers v ≡ verdictNumbers w → v ≡ w
 verdict-row = Readback.verdict-row
 
-pub verdict-asked : (s initial solution : List ℕ) → QuestionsOnly (verdict s initial solution)
+pub verdict-asked : (κ : Construction) (s initial solution : List ℕ) → QuestionsOnly (verdict κ s initial solution)
 verdict-asked = Readback.verdict-asked
 
 pub marking-row : (m n : Marking) → markingNumbers m ≡ markingNumbers n → m ≡ n

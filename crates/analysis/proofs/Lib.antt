@@ -10,6 +10,8 @@ pub mod Readback
 pub mod Exits
 pub mod Values
 pub mod Negative
+pub mod Marks
+pub mod Tested
 pub mod Meanings
 pub mod Stores
 pub mod Effects

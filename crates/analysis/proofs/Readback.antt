@@ -9,6 +9,7 @@ use borrow.Author.Tests.{ne-eqb}
 use lib.Dec.{eqb}
 use lib.ListN.{length, getD}
 use Rattle.program.specs.Asking.{validityNumbers}
+use Rattle.program.specs.declared.Construction.{Construction}
 use Rattle.program.specs.declared.First.{First}
 use Rattle.program.specs.declared.First.the-variants.{At, Nothing}
 use Rattle.program.specs.declared.Refusal.{Refusal}
@@ -94,9 +95,9 @@ found-asked (At k) spot mark x e = never cc
 found-asked Nothing (Here k k') mark x e = never cc
 found-asked Nothing Nowhere mark x e = never cc
 
-pub verdict-asked : (s initial solution : List ℕ) → QuestionsOnly (verdict s initial solution)
+pub verdict-asked : (κ : Construction) (s initial solution : List ℕ) → QuestionsOnly (verdict κ s initial solution)
 unfolding verdict verdictOver bothWhole
-verdict-asked s initial solution =
+verdict-asked κ s initial solution =
     unless-asked _ _ (validity-placed s)
     (unless-asked _ _ (placed-ask {most = 0} _ 16 0 tt (omega arith)) (formed-asked Initial _ _ (formed-asked Solution _ _ (found-asked _ _ _))))
 

@@ -1,39 +1,47 @@
 -- A solution is searched through its index: what is found of one abstract memory, of the results of an edge, and of the edges out of a node.
 use mathlib.Core.Path.{_≡_, refl, sym, ap, _∙_}
-use mathlib.Core.Bool.{Bool, true, false, not, _&&_, false≢true}
-use mathlib.Core.List.{List, map}
+use mathlib.Core.Bool.{Bool, true, false, cond, not, _&&_, false≢true}
+use mathlib.Core.List.{List, [], _∷_, map}
 use Prim.Native.Nat.{ℕ, suc, _+_, _*_, _/_, _%_, _<_, _≤_}
+use native.Mathlib.Decide.{ℕ-discrete, decLt}
 use native.Mathlib.Omega.{arith}
 use borrow.Author.Tests.{eq-eqb, lt-ltb}
 use lib.Dec.{eqb}
 use lib.ListN.{length, getD, set}
 use lib.Seq.{set-out}
 use Rattle.signs.specs.Lists.{anyOf}
+use Rattle.signs.specs.declared.Truths.{Truths}
 use Rattle.program.specs.File.{wordAt}
 use Rattle.program.specs.FirstSuch.{firstOf, firstSuch}
 use Rattle.program.specs.Graph.{Graph, edgeAt}
 use Rattle.program.specs.Meaning.{meaning}
-use Rattle.program.specs.Parts.Prepared.{Prepared, Following, entriesIn, sourceIn, targetIn, actionIn, decodedMeaning, edgeCountPlace}
+use Rattle.program.specs.Parts.Preceding.{plain}
+use Rattle.program.specs.Parts.Prepared.{Prepared, Following, entriesIn, sourceIn, targetIn, actionIn, decodedMeaning, isGuardNode, edgeCountPlace}
 use Rattle.program.specs.declared.ActionNode.{ActionNode}
+use Rattle.program.specs.declared.First.{First}
 use Rattle.program.specs.declared.First.the-variants.{At, Nothing}
 use Rattle.program.proofs.Laws.{first-at, first-more, first-such, none-such, such-stops, such-goes-on}
+use Rattle.semantics.specs.Parts.Selecting.{Opens}
 use Rattle.semantics.specs.Step.{leaves}
+use Rattle.semantics.proofs.Opened.{opens}
 use Rattle.analysis.specs.Parts.Changing.{setsOf, ResultsIn}
 use Rattle.analysis.specs.Index.{mayBeNegative}
-use Rattle.analysis.specs.Parts.Judging.{anyMissing, picks, firstPicked, spotOf, namesIn, ReadInto, Filled, Searched}
+use Rattle.analysis.specs.Parts.Judging.{anyMissing, picks, handedOver, firstPicked, spotOf, namesIn, ReadInto, Filled, Searched}
 use Rattle.analysis.specs.Parts.Membership.{among, changed, Front}
 use Rattle.analysis.specs.Parts.RecordParts.{padded}
 use Rattle.analysis.specs.Records.{initialWidth, recordWidth, recordCount, recordAt, recordFor, nodeOf, memoryOf, hasAt}
+use Rattle.analysis.specs.Signs.{truthsIn}
 use Rattle.analysis.specs.Verdict.{missingInitial, isHere, firstSpot}
 use Rattle.analysis.specs.declared.Change.{Change}
 use Rattle.analysis.specs.declared.Spot.{Spot}
 use Rattle.analysis.specs.declared.Spot.the-variants.{At as Here, Nowhere}
 use Rattle.analysis.specs.declared.judging.Query.{Query}
 use Rattle.analysis.specs.declared.judging.Query.the-variants.{MissingResult, NegativeIndex}
-use Rattle.analysis.proofs.Alike.{negative-alike}
+use Rattle.analysis.proofs.Alike.{truths-alike, negative-alike, as-it-is}
 use Rattle.analysis.proofs.Among.{has-among}
 use Rattle.analysis.proofs.Digits.{sets-none, sets-next}
 use Rattle.analysis.proofs.Laid.{record-inside, changed-record, start-reads, memory-reads, node-reads, node-formed}
+use Rattle.analysis.proofs.Tested.{ownAt, plain-meaning, results-own, results-none}
 
 -- ---- One abstract memory
 
@@ -70,17 +78,23 @@ module _ (ns solution : List ℕ) (node : ℕ) (ρ : List ℕ) (name : ℕ) wher
 
 module _ {ns : List ℕ} {g : Graph} {code graph : List ℕ} (p : Prepared ns g code graph) (e : ℕ) (h : e < length (g .edges)) (a : ActionNode) (told : a ≡ actionIn graph e)
     {ρ rho : List ℕ} (y : ReadInto ρ rho (length ns)) (solution : List ℕ) where
-  meaning-told : decodedMeaning (entriesIn code graph) a ≡ meaning (edgeAt g e .action)
-  meaning-told = ap (decodedMeaning (entriesIn code graph)) told ∙ p .edge e h .action
-
-  pub picks-missing : (r : ℕ) → ResultsIn rho (decodedMeaning (entriesIn code graph) a) r → (node : ℕ) → node ≡ targetIn graph e
+  pub picks-missing : isGuardNode a ≡ false → (r : ℕ) → ResultsIn rho (decodedMeaning (entriesIn code graph) a) r → (node : ℕ) → node ≡ targetIn graph e
       → anyMissing ns solution node (map (set ρ (r % 64)) (setsOf (r / 64))) ≡ picks ns g solution MissingResult ρ e
   unfolding picks
-  picks-missing r k node t = rw (← k .gives ρ (omega (arith, y .sized, p .coded .few)) (y .alike), ← meaning-told, t ∙ p .edge e h .target)
+  picks-missing plainly r k node t = rw (← k .gives ρ (omega (arith, y .sized, p .coded .few)) (y .alike), ← plain-meaning p e h told plainly, t ∙ p .edge e h .target)
+
+  -- where the abstract memory is a result as it is, or none is
+  pub own-missing : (b : Bool) {r node : ℕ} → r ≡ cond b 96 32 → node ≡ targetIn graph e
+      → anyMissing ns solution node (map (set ρ (r % 64)) (setsOf (r / 64))) ≡ anyMissing ns solution (edgeAt g e .target) (cond b (ρ ∷ []) [])
+  own-missing b {r} {node} k t =
+      ap (λ (n : ℕ). anyMissing ns solution node (map (set ρ (n % 64)) (setsOf (n / 64)))) k
+      ∙ ap (anyMissing ns solution node) (sym (as-it-is b ρ (omega (arith, y .sized, p .coded .few))))
+      ∙ ap (λ (n : ℕ). anyMissing ns solution n (cond b (ρ ∷ []) [])) (t ∙ p .edge e h .target)
 
   pub picks-negative : mayBeNegative rho (decodedMeaning (entriesIn code graph) a) ≡ picks ns g solution NegativeIndex ρ e
   unfolding picks
-  picks-negative = ap (mayBeNegative rho) meaning-told ∙ sym (negative-alike ρ rho (y .alike) (meaning (edgeAt g e .action)))
+  picks-negative =
+      ap (mayBeNegative rho) (ap (decodedMeaning (entriesIn code graph)) told ∙ p .edge e h .action) ∙ sym (negative-alike ρ rho (y .alike) (meaning (plain (edgeAt g e .action))))
 
 -- ---- The edges out of a node
 
@@ -126,6 +140,79 @@ module _ (q : Query) (code graph solution index rho : List ℕ) (node e : ℕ) (
   pub none-picked : getD graph edgeCountPlace 0 ≤ e → firstPicked ns g solution q node ρ ≡ Nothing
   unfolding firstPicked
   none-picked h = none-along (x .prepared) node _ e unpicked-before h
+
+-- ---- 42 at a node whose lowest edge is a guard's of the deterministic graph
+
+-- an edge that is passed over: its own guard may fail, and where it may hold, the abstract memory is listed at the target
+pub record Passed (code graph solution index rho : List ℕ) (e : ℕ) : Type 0 where
+  pub fails : truthsIn rho (ownAt code graph e) .fails ≡ true
+  pub listed : (ns : List ℕ) (g : Graph) (ρ : List ℕ) → Searched ns g code graph MissingResult solution index → ReadInto ρ rho (length ns) → e < length (g .edges)
+      → anyMissing ns solution (edgeAt g e .target) (cond (truthsIn rho (ownAt code graph e) .holds) (ρ ∷ []) []) ≡ false
+
+module _ {ns : List ℕ} {g : Graph} {code graph solution index ρ rho : List ℕ} (x : Searched ns g code graph MissingResult solution index) (y : ReadInto ρ rho (length ns))
+    {node first : ℕ} (opened : Opens graph node first) (e : ℕ) (at : Following graph node (Passed code graph solution index rho) e) where
+  count-is : getD graph edgeCountPlace 0 ≡ length (g .edges)
+  count-is = x .prepared .edges
+
+  alike : (k : ℕ) → truthsIn ρ (ownAt code graph k) ≡ truthsIn rho (ownAt code graph k)
+  alike k = truths-alike ρ rho (y .alike) (ownAt code graph k)
+
+  -- up to the edge, one is picked by its own guard
+  picks-own : (k : ℕ) → k ≤ e → k < getD graph edgeCountPlace 0 → eqb (sourceIn graph k) node ≡ true
+      → picks ns g solution MissingResult ρ k ≡ anyMissing ns solution (edgeAt g k .target) (cond (truthsIn rho (ownAt code graph k) .holds) (ρ ∷ []) [])
+  unfolding picks
+  picks-own k l h s =
+      ap (anyMissing ns solution (edgeAt g k .target))
+      (results-own (x .prepared) ρ opened k (omega (arith, count-is)) s
+      (λ i m t. ap (λ (v : Truths). v .fails) (alike i) ∙ at .before i (omega arith) (omega arith) t .fails)
+      ∙ ap (λ (v : Truths). cond (v .holds) (ρ ∷ []) []) (alike k))
+
+  unpicked : (k : ℕ) → k < e → k < getD graph edgeCountPlace 0 → eqb (sourceIn graph k) node ≡ true → picks ns g solution MissingResult ρ k ≡ false
+  unpicked k l h s = picks-own k (omega arith) h s ∙ at .before k l h s .listed ns g ρ x y (omega (arith, count-is))
+
+  pub no-guard : getD graph edgeCountPlace 0 ≤ e → firstPicked ns g solution MissingResult node ρ ≡ Nothing
+  unfolding firstPicked
+  no-guard h = none-along (x .prepared) node _ e (record { here = at .here; before = unpicked }) h
+
+  module _ (h : e < getD graph edgeCountPlace 0) where
+    leaves-here : eqb (sourceIn graph e) node ≡ true
+    leaves-here = eq-eqb (sourceIn graph e) node (at .here h)
+
+    -- a result is missing along it
+    pub missing-here : anyMissing ns solution (edgeAt g e .target) (cond (truthsIn rho (ownAt code graph e) .holds) (ρ ∷ []) []) ≡ true → firstPicked ns g solution MissingResult node ρ ≡ At e
+    unfolding firstPicked
+    missing-here t = first-along (x .prepared) node _ e (record { here = at .here; before = unpicked }) h (picks-own e (omega arith) h leaves-here ∙ t)
+
+    -- or none is, and its own guard may not fail: no edge after it has a result
+    pub none-after : anyMissing ns solution (edgeAt g e .target) (cond (truthsIn rho (ownAt code graph e) .holds) (ρ ∷ []) []) ≡ false → truthsIn rho (ownAt code graph e) .fails ≡ false
+        → firstPicked ns g solution MissingResult node ρ ≡ Nothing
+    unfolding firstPicked picks anyMissing anyOf
+    none-after t u = none-along (x .prepared) node _ (getD graph edgeCountPlace 0) (record { here = λ l. absurd (omega arith); before = each }) (omega arith)
+      where
+        later : (k : ℕ) → e < k → k < getD graph edgeCountPlace 0 → eqb (sourceIn graph k) node ≡ true → picks ns g solution MissingResult ρ k ≡ false
+        later k l c s =
+            ap (anyMissing ns solution (edgeAt g k .target))
+            (results-none (x .prepared) ρ opened k (omega (arith, count-is)) s e l leaves-here (ap (λ (v : Truths). v .fails) (alike e) ∙ u))
+
+        each : (k : ℕ) → k < getD graph edgeCountPlace 0 → k < getD graph edgeCountPlace 0 → eqb (sourceIn graph k) node ≡ true → picks ns g solution MissingResult ρ k ≡ false
+        each k c d s =
+            elim (decLt k e) [
+              | yes l ↦ unpicked k l c s
+              | no l ↦
+                  elim (ℕ-discrete k e) [
+                    | yes q ↦ rw q (picks-own e (omega arith) h leaves-here ∙ t)
+                    | no q ↦ later k (omega arith) c s
+                  ]
+            ]
+
+-- where a query is handed over, it is 42
+pub handed-here : (q : Query) {ns : List ℕ} {g : Graph} {code graph solution index ρ rho : List ℕ} {node e : ℕ} → Searched ns g code graph q solution index → ReadInto ρ rho (length ns)
+    → Following graph node (λ k. handedOver q (actionIn graph k) ≡ false) e → e < getD graph edgeCountPlace 0 → handedOver q (actionIn graph e) ≡ true → {r : First}
+    → (Searched ns g code graph MissingResult solution index → ReadInto ρ rho (length ns) → Opens graph node e → r ≡ firstPicked ns g solution MissingResult node ρ)
+    → r ≡ firstPicked ns g solution q node ρ
+unfolding handedOver
+handed-here MissingResult x y at h t found = found x y (opens (x .prepared) at h t)
+handed-here NegativeIndex x y at h t found = absurd (false≢true t)
 
 -- ---- One record
 

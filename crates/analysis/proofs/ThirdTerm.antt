@@ -14,6 +14,7 @@ use Rattle.program.specs.File.{cellCount, sizes}
 use Rattle.program.specs.Graph.{Graph, graph, edges, edgeCount, edgeAt}
 use Rattle.program.specs.Questions.{validity}
 use Rattle.program.specs.Parts.Sorted.{meaningNamed, actionNamed}
+use Rattle.program.specs.declared.Construction.{Construction}
 use Rattle.program.specs.declared.Validity.{Validity}
 use Rattle.program.specs.declared.Validity.the-variants.{Fit, Refused}
 use Rattle.program.proofs.Laws.{ask-fit, turn-fit, edge-faithful, meaning-named}
@@ -139,25 +140,25 @@ module _ (ns : List ℕ) (g : Graph) (named : (e : ℕ) → e < length (g .edges
       }
 
 -- where a file is fit, its steps and runs are those of its graph, and so is what holds of them
-sound-file : (s initial solution : List ℕ) (mark : Mark) → validity s ≡ Fit → SoundOn (sizes s) (graph s) initial solution mark → Sound s initial solution mark
+sound-file : (κ : Construction) (s initial solution : List ℕ) (mark : Mark) → validity s ≡ Fit → SoundOn (sizes s) (graph κ s) initial solution mark → Sound κ s initial solution mark
 unfolding SoundOn Sound
-sound-file s initial solution mark fit on m t calls budget =
+sound-file κ s initial solution mark fit on m t calls budget =
     let k = on m t calls budget in
-    let reached = program-replay s fit (begun m) calls in
-    let ran = ap (λ (r : Result). r .final) (program-budgeted s fit budget m) in
+    let reached = program-replay κ s fit (begun m) calls in
+    let ran = ap (λ (r : Result). r .final) (program-budgeted κ s fit budget m) in
     record {
       reached = rw reached (k .reached);
       run-reached = rw ran (k .run-reached);
-      no-call-meets = λ clean. rw (program-outcomes s fit (begun m) calls) (k .no-call-meets clean);
+      no-call-meets = λ clean. rw (program-outcomes κ s fit (begun m) calls) (k .no-call-meets clean);
       no-edge-meets = λ clean. rw reached (k .no-edge-meets clean);
       run-no-edge-meets = λ clean. rw ran (k .run-no-edge-meets clean);
     }
 
 -- the third term of a program file
-pub third-term : (s initial solution : List ℕ) → ThirdTermFor s initial solution (verdict s initial solution)
+pub third-term : (κ : Construction) (s initial solution : List ℕ) → ThirdTermFor κ s initial solution (verdict κ s initial solution)
 unfolding ThirdTermFor verdict edges edgeCount edgeAt
-third-term s initial solution mark e =
-    let fit = not-refused-accepted (validity s) (verdictOver (sizes s) (graph s) initial solution) mark e in
-    sound-file s initial solution mark (fit .0)
-    (sound (sizes s) (graph s) (λ k h. edge-faithful s (fit .0) k _ h .named) initial solution mark
-    (accepted (sizes s) (graph s) initial solution mark (fit .1)))
+third-term κ s initial solution mark e =
+    let fit = not-refused-accepted (validity s) (verdictOver (sizes s) (graph κ s) initial solution) mark e in
+    sound-file κ s initial solution mark (fit .0)
+    (sound (sizes s) (graph κ s) (λ k h. edge-faithful s (fit .0) κ k _ h .named) initial solution mark
+    (accepted (sizes s) (graph κ s) initial solution mark (fit .1)))

@@ -10,7 +10,9 @@ use Rattle.program.specs.File.{sizes}
 use Rattle.program.specs.Graph.{perform}
 use Rattle.program.specs.Syntax.{number, store}
 use Rattle.program.specs.Meaning.{meaning}
-use Rattle.semantics.specs.Examples.{cases as semanticCases}
+use Rattle.program.specs.declared.Construction.{Construction}
+use Rattle.program.specs.declared.Construction.the-variants.{Nondeterministic, Deterministic}
+use Rattle.semantics.specs.Examples.{greatest, cases as semanticCases}
 use Rattle.analysis.specs.Results.{results}
 use Rattle.analysis.specs.Sheet.{printedRows}
 use Rattle.analysis.specs.Solver.{solved, solvedBuffer, solvedNumbers}
@@ -38,10 +40,10 @@ factorialStart = 4 ∷ 2 ∷ []
 -- (P) "The eight records", into a buffer of nine; and into one of five and a byte: 18
 unfoldable pub solutions : List Case
 solutions =
-    (row (solvedNumbers (solved factorial factorialStart (replicate 36 9))) gives row (0 ∷ 8 ∷ []))
-    ∷ (row (solvedBuffer factorial factorialStart (replicate 36 9)) gives row (factorialSheet ++ replicate 4 9))
-    ∷ (row (solvedNumbers (solved factorial factorialStart (replicate 21 9))) gives row (18 ∷ 5 ∷ []))
-    ∷ (row (solvedBuffer factorial factorialStart (replicate 21 9))
+    (row (solvedNumbers (solved Nondeterministic factorial factorialStart (replicate 36 9))) gives row (0 ∷ 8 ∷ []))
+    ∷ (row (solvedBuffer Nondeterministic factorial factorialStart (replicate 36 9)) gives row (factorialSheet ++ replicate 4 9))
+    ∷ (row (solvedNumbers (solved Nondeterministic factorial factorialStart (replicate 21 9))) gives row (18 ∷ 5 ∷ []))
+    ∷ (row (solvedBuffer Nondeterministic factorial factorialStart (replicate 21 9))
     gives row
     ((0 ∷ 0 ∷ 4 ∷ 2 ∷ [])
     ++ (0 ∷ 2 ∷ 4 ∷ 4 ∷ [])
@@ -52,21 +54,21 @@ solutions =
     ∷ []
 
 -- the verdict on a candidate solution of the factorial lesson, then the offending record
-unfoldable pub verdictOn : List ℕ → List ℕ → List ℕ
-verdictOn initial solution =
-    let v = verdict factorial initial solution in
+unfoldable pub verdictOn : Construction → List ℕ → List ℕ → List ℕ
+verdictOn κ initial solution =
+    let v = verdict κ factorial initial solution in
     verdictNumbers v ++ offending (sizes factorial) initial solution v
 
 -- the whole sheet is accepted, index clean; (P) "The sheet without record 7: 42, record 5, arrow 4"; a start record that it has not: 41; half a
 -- record: 16; a sign that is none, and a node that is none: 17
 unfoldable pub verdicts : List Case
 verdicts =
-    (row (verdictOn factorialStart factorialSheet) gives row (0 ∷ []))
-    ∷ (row (verdictOn factorialStart firstSeven) gives row (42 ∷ 5 ∷ 4 ∷ 0 ∷ 2 ∷ 2 ∷ 4 ∷ []))
-    ∷ (row (verdictOn (4 ∷ 2 ∷ 1 ∷ 2 ∷ []) factorialSheet) gives row (41 ∷ 1 ∷ 1 ∷ 2 ∷ []))
-    ∷ (row (verdictOn (4 ∷ []) factorialSheet) gives row (16 ∷ 0 ∷ []))
-    ∷ (row (verdictOn (4 ∷ 3 ∷ []) factorialSheet) gives row (17 ∷ 1 ∷ 1 ∷ []))
-    ∷ (row (verdictOn factorialStart (0 ∷ 0 ∷ 4 ∷ 2 ∷ 0 ∷ 5 ∷ 4 ∷ 2 ∷ [])) gives row (17 ∷ 2 ∷ 4 ∷ []))
+    (row (verdictOn Nondeterministic factorialStart factorialSheet) gives row (0 ∷ []))
+    ∷ (row (verdictOn Nondeterministic factorialStart firstSeven) gives row (42 ∷ 5 ∷ 4 ∷ 0 ∷ 2 ∷ 2 ∷ 4 ∷ []))
+    ∷ (row (verdictOn Nondeterministic (4 ∷ 2 ∷ 1 ∷ 2 ∷ []) factorialSheet) gives row (41 ∷ 1 ∷ 1 ∷ 2 ∷ []))
+    ∷ (row (verdictOn Nondeterministic (4 ∷ []) factorialSheet) gives row (16 ∷ 0 ∷ []))
+    ∷ (row (verdictOn Nondeterministic (4 ∷ 3 ∷ []) factorialSheet) gives row (17 ∷ 1 ∷ 1 ∷ []))
+    ∷ (row (verdictOn Nondeterministic factorialStart (0 ∷ 0 ∷ 4 ∷ 2 ∷ 0 ∷ 5 ∷ 4 ∷ 2 ∷ [])) gives row (17 ∷ 2 ∷ 4 ∷ []))
     ∷ []
 
 -- (P) "A store of sign zero at index zero, set 4: sets 6, then 2."
@@ -85,7 +87,7 @@ unfoldable pub marks : List Case
 marks =
     (row
     (verdictNumbers
-    (verdict storeAtJ
+    (verdict Nondeterministic storeAtJ
     (2 ∷ 4 ∷ 1 ∷ 4 ∷ [])
     ((0 ∷ 0 ∷ 2 ∷ 4 ∷ []) ++ (0 ∷ 0 ∷ 1 ∷ 4 ∷ []) ++ (0 ∷ 1 ∷ 2 ∷ 6 ∷ []) ++ (0 ∷ 1 ∷ 2 ∷ 2 ∷ []))))
     gives row (0 ∷ 1 ∷ 0 ∷ []))
@@ -112,8 +114,33 @@ listings =
     ∷ (row (flatten (printedRows (factorial ++ field 5 (4 ∷ 0 ∷ [])))) gives row (17 ∷ 1 ∷ []))
     ∷ []
 
+-- the greatest of two zeros: along the first guard, and along both; of two pluses
+unfoldable pub byFirst : List ℕ
+byFirst = (0 ∷ 0 ∷ 2 ∷ 2 ∷ 2 ∷ []) ++ (0 ∷ 2 ∷ 2 ∷ 2 ∷ 2 ∷ []) ++ (0 ∷ 1 ∷ 2 ∷ 2 ∷ 2 ∷ [])
+
+unfoldable pub byBoth : List ℕ
+byBoth = (0 ∷ 0 ∷ 2 ∷ 2 ∷ 2 ∷ []) ++ (0 ∷ 2 ∷ 2 ∷ 2 ∷ 2 ∷ []) ++ (0 ∷ 3 ∷ 2 ∷ 2 ∷ 2 ∷ []) ++ (0 ∷ 1 ∷ 2 ∷ 2 ∷ 2 ∷ [])
+
+unfoldable pub byEither : List ℕ
+byEither = (0 ∷ 0 ∷ 4 ∷ 4 ∷ 2 ∷ []) ++ (0 ∷ 2 ∷ 4 ∷ 4 ∷ 2 ∷ []) ++ (0 ∷ 3 ∷ 4 ∷ 4 ∷ 2 ∷ []) ++ (0 ∷ 1 ∷ 4 ∷ 4 ∷ 4 ∷ [])
+
+-- (order 8) the factorial has the same sheet on the deterministic graph. Of two zeros the first guard is true, so that only document 01's graph goes along the second too,
+-- and there the other's sheet lacks a result, at record 0 and edge 2; of two pluses the first may be false
+unfoldable pub selections : List Case
+selections =
+    (row (solvedNumbers (solved Deterministic factorial factorialStart (replicate 36 9))) gives row (0 ∷ 8 ∷ []))
+    ∷ (row (solvedBuffer Deterministic factorial factorialStart (replicate 36 9)) gives row (factorialSheet ++ replicate 4 9))
+    ∷ (row (verdictOn Deterministic factorialStart factorialSheet) gives row (0 ∷ []))
+    ∷ (row (verdictOn Deterministic factorialStart firstSeven) gives row (42 ∷ 5 ∷ 4 ∷ 0 ∷ 2 ∷ 2 ∷ 4 ∷ []))
+    ∷ (row (solvedBuffer Nondeterministic greatest (2 ∷ 2 ∷ 2 ∷ []) (replicate 20 9)) gives row byBoth)
+    ∷ (row (solvedBuffer Deterministic greatest (2 ∷ 2 ∷ 2 ∷ []) (replicate 20 9)) gives row (byFirst ++ replicate 5 9))
+    ∷ (row (verdictNumbers (verdict Deterministic greatest (2 ∷ 2 ∷ 2 ∷ []) byFirst)) gives row (0 ∷ []))
+    ∷ (row (verdictNumbers (verdict Nondeterministic greatest (2 ∷ 2 ∷ 2 ∷ []) byFirst)) gives row (42 ∷ 0 ∷ 2 ∷ []))
+    ∷ (row (solvedBuffer Deterministic greatest (4 ∷ 4 ∷ 2 ∷ []) (replicate 20 9)) gives row byEither)
+    ∷ []
+
 unfoldable pub sheetCases : List Case
-sheetCases = solutions ++ verdicts ++ stores ++ marks ++ places ++ listings
+sheetCases = solutions ++ verdicts ++ stores ++ marks ++ places ++ listings ++ selections
 
 -- every worked example of document 01
 unfoldable pub cases : List Case

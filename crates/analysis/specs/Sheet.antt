@@ -8,6 +8,7 @@ use Rattle.program.specs.Asking.{askPlain, inTurn}
 use Rattle.program.specs.File.{sizes}
 use Rattle.program.specs.Graph.{graph}
 use Rattle.program.specs.Questions.{inputValidity, programPart, initialPart}
+use Rattle.program.specs.declared.Construction.the-variants.{Nondeterministic}
 use Rattle.program.specs.declared.Refusal.{Refusal}
 use Rattle.program.specs.declared.Validity.{Validity}
 use Rattle.program.specs.declared.Validity.the-variants.{Fit, Refused}
@@ -16,11 +17,11 @@ use Rattle.analysis.specs.Solver.{Found, solution, roomOf}
 use Rattle.analysis.specs.Verdict.{indexMark, markNumbers}
 use Rattle.analysis.specs.declared.Mark.{Mark}
 
--- "Its sheet buffer has 65,536 bytes": the solver's list for an input
+-- "Its sheet buffer has 65,536 bytes": the solver's list for an input, on document 01's graph, which it asks for by name
 unfoldable pub sheetOf : List ℕ → Found
 sheetOf input =
     let s = programPart input in
-    solution (sizes s) (graph s) (initialPart input) (roomOf (sizes s) 65536)
+    solution (sizes s) (graph Nondeterministic s) (initialPart input) (roomOf (sizes s) 65536)
 
 -- what a line that it prints says: the numbers of nodes, arrows and records; number, node and signs of a record; the index mark; a refusal
 pub data Line : Type 0 where
@@ -32,9 +33,9 @@ pub data Line : Type 0 where
 -- "It prints counts, then number, node and signs of each record, then the index line"
 unfoldable pub listing : List ℕ → List (List ℕ) → List Line
 listing s rs =
-    (countsLine (graph s .nodes) (length (graph s .edges)) (length rs)
+    (countsLine (graph Nondeterministic s .nodes) (length (graph Nondeterministic s .edges)) (length rs)
     ∷ tabulate (length rs) (λ k. recordLine k (nodeOf (getD rs k [])) (memoryOf (sizes s) (getD rs k []))))
-    ++ (indexLine (indexMark (sizes s) (graph s) (flatten rs)) ∷ [])
+    ++ (indexLine (indexMark (sizes s) (graph Nondeterministic s) (flatten rs)) ∷ [])
 
 -- whether a listing is printed: after the file's questions, 17, whose "place counts from the start list's first byte", and 18 (16 cannot be refused here: the
 -- fifth field is whole records, at most 512)

@@ -10,6 +10,7 @@ use Rattle.program.specs.Drawing.{over}
 use Rattle.program.specs.File.{sizes}
 use Rattle.program.specs.Graph.{Graph, graph, edgeAt}
 use Rattle.program.specs.Questions.{validity}
+use Rattle.program.specs.declared.Construction.{Construction}
 use Rattle.program.specs.declared.Validity.{Validity}
 use Rattle.program.specs.declared.Validity.the-variants.{Fit, Refused}
 use Rattle.program.specs.Meaning.{meaning}
@@ -80,20 +81,20 @@ bufferWith Fit Fit f buffer = over (flatten (f .records)) buffer
 bufferWith Fit (Refused x) f buffer = buffer
 bufferWith (Refused x) formed f buffer = buffer
 
--- of a program file: the file's questions and 16, 17 of the start list, and the list for a buffer
+-- of a program file and a construction of its graph: the file's questions and 16, 17 of the start list, and the list for a buffer
 unfoldable pub initialValidity : List ℕ → List ℕ → Validity
 initialValidity s initial = thenAsk (validity s) (initialWhole (sizes s) initial)
 
-unfoldable pub solutionIn : List ℕ → List ℕ → List ℕ → Found
-solutionIn s initial buffer = solution (sizes s) (graph s) initial (roomOf (sizes s) (length buffer))
+unfoldable pub solutionIn : Construction → List ℕ → List ℕ → List ℕ → Found
+solutionIn κ s initial buffer = solution (sizes s) (graph κ s) initial (roomOf (sizes s) (length buffer))
 
-unfoldable pub solved : List ℕ → List ℕ → List ℕ → Solved
-solved s initial buffer =
-    solvedWith (initialValidity s initial) (initialFormed (sizes s) initial) (solutionIn s initial buffer)
+unfoldable pub solved : Construction → List ℕ → List ℕ → List ℕ → Solved
+solved κ s initial buffer =
+    solvedWith (initialValidity s initial) (initialFormed (sizes s) initial) (solutionIn κ s initial buffer)
 
-unfoldable pub solvedBuffer : List ℕ → List ℕ → List ℕ → List ℕ
-solvedBuffer s initial buffer =
-    bufferWith (initialValidity s initial) (initialFormed (sizes s) initial) (solutionIn s initial buffer) buffer
+unfoldable pub solvedBuffer : Construction → List ℕ → List ℕ → List ℕ → List ℕ
+solvedBuffer κ s initial buffer =
+    bufferWith (initialValidity s initial) (initialFormed (sizes s) initial) (solutionIn κ s initial buffer) buffer
 
 -- an answer in document 01's numbers: 0; 18; the question's number and place; 17's
 unfoldable pub solvingNumbers : Solving → List ℕ
@@ -107,5 +108,5 @@ unfoldable pub solvedNumbers : Solved → List ℕ
 solvedNumbers r = solvingNumbers (r .solving) ++ (r .count ∷ [])
 
 -- the row that solving into a buffer answers
-unfoldable pub solverRow : List ℕ → List ℕ → List ℕ → List ℕ
-solverRow s initial buffer = solvedNumbers (solved s initial buffer)
+unfoldable pub solverRow : Construction → List ℕ → List ℕ → List ℕ → List ℕ
+solverRow κ s initial buffer = solvedNumbers (solved κ s initial buffer)

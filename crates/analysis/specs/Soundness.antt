@@ -10,6 +10,7 @@ use lib.ListN.{length}
 use Rattle.signs.specs.Lists.{allOf, indices}
 use Rattle.program.specs.File.{sizes}
 use Rattle.program.specs.Graph.{Graph, graph}
+use Rattle.program.specs.declared.Construction.{Construction}
 use Rattle.semantics.specs.Budget.{programBudgeted}
 use Rattle.semantics.specs.Expression.{faultNumber}
 use Rattle.semantics.specs.Replay.{programReplay, programOutcomes}
@@ -51,25 +52,26 @@ noEdgeMeets ns g c =
     (λ e. not (leaves g e (c .run .node) && meetsInEffect (edgeEffect ns g (c .memory) e)))
     (indices (length (g .edges)))
 
--- what holds of a memory, a list of step calls of a program file and a budget: after the calls, from a fresh run, the solution has the memory's record at
+-- what holds of a memory, a list of step calls of a program file and a budget, on the graph by a construction: after the calls, from a fresh run, the solution has the memory's record at
 -- the node reached, and so it has where the budgeted run ends. Where the mark is clean, no call of the list meets a negative index, and no edge out of the
 -- node reached does, taken or not
-pub record Kept (s solution : List ℕ) (mark : Mark) (m : List ℤ) (calls : List ℕ) (budget : ℕ) : Type 0 where
-  pub reached : T (hasConfiguration (sizes s) solution (programReplay s (begun m) calls))
-  pub run-reached : T (hasConfiguration (sizes s) solution (programBudgeted s budget m .final))
-  pub no-call-meets : mark ≡ Clean → T (allOf (λ o. not (meetsInCall o)) (programOutcomes s (begun m) calls))
-  pub no-edge-meets : mark ≡ Clean → T (noEdgeMeets (sizes s) (graph s) (programReplay s (begun m) calls))
-  pub run-no-edge-meets : mark ≡ Clean → T (noEdgeMeets (sizes s) (graph s) (programBudgeted s budget m .final))
+pub record Kept (κ : Construction) (s solution : List ℕ) (mark : Mark) (m : List ℤ) (calls : List ℕ) (budget : ℕ) : Type 0 where
+  pub reached : T (hasConfiguration (sizes s) solution (programReplay κ s (begun m) calls))
+  pub run-reached : T (hasConfiguration (sizes s) solution (programBudgeted κ s budget m .final))
+  pub no-call-meets : mark ≡ Clean → T (allOf (λ o. not (meetsInCall o)) (programOutcomes κ s (begun m) calls))
+  pub no-edge-meets : mark ≡ Clean → T (noEdgeMeets (sizes s) (graph κ s) (programReplay κ s (begun m) calls))
+  pub run-no-edge-meets : mark ≡ Clean → T (noEdgeMeets (sizes s) (graph κ s) (programBudgeted κ s budget m .final))
 
 -- the same of every memory whose record is in the start list, every list of calls and every budget
-unfoldable pub Sound : List ℕ → List ℕ → List ℕ → Mark → Type 0
-Sound s initial solution mark =
+unfoldable pub Sound : Construction → List ℕ → List ℕ → List ℕ → Mark → Type 0
+Sound κ s initial solution mark =
     (m : List ℤ) →
     T (hasInitial (sizes s) initial (abstractMemory (sizes s) m)) →
     (calls : List ℕ) (budget : ℕ) →
-    Kept s solution mark m calls budget
+    Kept κ s solution mark m calls budget
 
--- the third term for an answer to a program file, a start list and a solution: where the answer is that the solution is accepted, with a mark, all that
+-- the third term for an answer to a program file, a start list and a solution, on the graph by the construction that was judged for: where the answer is that the
+-- solution is accepted, with a mark, all that
 -- is so kept
-unfoldable pub ThirdTermFor : List ℕ → List ℕ → List ℕ → Verdict → Type 0
-ThirdTermFor s initial solution answer = (mark : Mark) → answer ≡ Accepted mark → Sound s initial solution mark
+unfoldable pub ThirdTermFor : Construction → List ℕ → List ℕ → List ℕ → Verdict → Type 0
+ThirdTermFor κ s initial solution answer = (mark : Mark) → answer ≡ Accepted mark → Sound κ s initial solution mark

@@ -9,6 +9,8 @@ use Rattle.program.specs.File.{sizes}
 use Rattle.program.specs.FirstSuch.{firstOf, firstSuch}
 use Rattle.program.specs.Graph.{Graph, graph, edgeAt}
 use Rattle.program.specs.Questions.{validity}
+use Rattle.program.specs.declared.Construction.{Construction}
+use Rattle.program.specs.declared.Construction.the-variants.{Nondeterministic}
 use Rattle.program.specs.declared.First.{First}
 use Rattle.program.specs.declared.First.the-variants.{At, Nothing}
 use Rattle.program.specs.declared.Validity.{Validity}
@@ -90,9 +92,9 @@ verdictOver ns g initial solution =
     (unlessMalformed Solution (solutionFormed ns g solution)
     (verdictBy (missingInitial ns initial solution) (missingResult ns g solution) (indexMark ns g solution))))
 
--- the verdict for a program file, of which the file's questions are asked first
-unfoldable pub verdict : List ℕ → List ℕ → List ℕ → Verdict
-verdict s initial solution = verdictUnlessRefused (validity s) (verdictOver (sizes s) (graph s) initial solution)
+-- the verdict for a program file and a construction of its graph, of which the file's questions are asked first
+unfoldable pub verdict : Construction → List ℕ → List ℕ → List ℕ → Verdict
+verdict κ s initial solution = verdictUnlessRefused (validity s) (verdictOver (sizes s) (graph κ s) initial solution)
 
 -- the index mark of a list of records by itself, of which 16 and 17 are asked after the questions of the program file
 unfoldable pub solutionValidity : List ℕ → List ℕ → Validity
@@ -103,9 +105,12 @@ markingBy Fit Fit mark = Marked mark
 markingBy Fit (Refused x) mark = Misshapen (wrongByte Solution x)
 markingBy (Refused x) formed mark = Declined x
 
+-- over document 01's graph: the mark is the same for every construction (law `mark-same`), and so it takes none
 unfoldable pub marking : List ℕ → List ℕ → Marking
 marking s solution =
-    markingBy (solutionValidity s solution) (solutionFormed (sizes s) (graph s) solution) (indexMark (sizes s) (graph s) solution)
+    markingBy (solutionValidity s solution)
+    (solutionFormed (sizes s) (graph Nondeterministic s) solution)
+    (indexMark (sizes s) (graph Nondeterministic s) solution)
 
 -- "With 41 or 42 comes the offending record itself, as a part of whichever of the two lists it lies in; otherwise that part is empty."
 unfoldable pub offending : List ℕ → List ℕ → List ℕ → Verdict → List ℕ
@@ -136,8 +141,8 @@ markingNumbers (Misshapen w) = wrongByteNumbers w
 markingNumbers (Marked mark) = 0 ∷ markNumbers mark
 
 -- the rows that judging a candidate solution and marking a list of records answer
-unfoldable pub verdictRow : List ℕ → List ℕ → List ℕ → List ℕ
-verdictRow s initial solution = verdictNumbers (verdict s initial solution)
+unfoldable pub verdictRow : Construction → List ℕ → List ℕ → List ℕ → List ℕ
+verdictRow κ s initial solution = verdictNumbers (verdict κ s initial solution)
 
 unfoldable pub markRow : List ℕ → List ℕ → List ℕ
 markRow s solution = markingNumbers (marking s solution)

@@ -1,6 +1,6 @@
 // The sign analysis over a prepared program, in an abstract memory that is lent as an array: zeros after the last name's set.
 mod arithmetic;
-mod condition;
+pub(crate) mod condition;
 pub(crate) mod index;
 pub(crate) mod results;
 

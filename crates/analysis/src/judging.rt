@@ -1,13 +1,14 @@
 // A candidate solution judged.
 
 ghost use mathlib.Core.Path.{_≡_};
-ghost use mathlib.Core.Bool.{true, false, _&&_};
-ghost use mathlib.Core.List.{List, map};
+ghost use mathlib.Core.Bool.{true, false, cond, _&&_};
+ghost use mathlib.Core.List.{List, [], _∷_, map};
 ghost use Prim.Native.Nat.{ℕ, _+_, _/_, _%_, _≤_, _<_};
 ghost use lib.ListN.{length, set, getD};
 ghost use Rattle.program.specs.File;
 ghost use Rattle.program.specs.Graph;
 ghost use Rattle.program.specs.Parts.Prepared;
+ghost use Rattle.semantics.specs.Parts.Selecting;
 ghost use Rattle.analysis.specs.Parts.Changing;
 ghost use Rattle.analysis.specs.Parts.Judging as parts;
 ghost use Rattle.analysis.specs.Records;
@@ -21,15 +22,19 @@ use crate::RecordList;
 use crate::Spot;
 use crate::Verdict;
 use crate::WrongByte;
+use crate::evaluator::condition;
 use crate::evaluator::index as indices;
 use crate::evaluator::results;
 use crate::lists;
 use crate::membership;
 use crate::membership::INDEX;
 use crate::set_table;
+use program::ActionNode;
+use program::Construction;
 use program::First;
 use program::Refusal;
 use program::Validity;
+use program::drawing;
 use program::file;
 use program::prepared;
 use program::prepared::CODE;
@@ -90,7 +95,17 @@ fn any_missing(
     false
 }
 
-// Whether a query picks an abstract memory and an edge.
+// Whether a query is handed over at an edge of this action: 42 is, at a guard's of the deterministic graph, whose results depend on the guards before it.
+fn handed_over(query: Query, action: ActionNode) -> bool
+    ensures { λ r. ⌜ r ≡ parts.handedOver query action ⌝ }
+{
+    match query {
+        Query::MissingResult => prepared::is_guard(action),
+        Query::NegativeIndex => false,
+    }
+}
+
+// Whether a query picks an abstract memory and an edge, at which it is not handed over.
 fn picked(
     query: Query,
     code: &[u16; CODE],
@@ -100,13 +115,14 @@ fn picked(
     rho: &[u8; 32],
     weight: u32,
     e: u16,
+    action: ActionNode,
 ) -> bool
     requires { ⌜ parts.Ordered (parts.namesIn (now code)) (now solution) (now index) (now rho) weight × Tabled.Tabled (now code) ⌝ }
     ensures { λ r. ⌜ ((ns : List ℕ) (g : Graph.Graph) (ρ : List ℕ)
         → parts.Searched ns g (now (code .entry)) (now (graph .entry)) query (now (solution .entry)) (now (index .entry))
-        → parts.ReadInto ρ (now (rho .entry)) (length ns) → e < length (g .edges) → r ≡ parts.picks ns g (now (solution .entry)) query ρ e) ⌝ }
+        → parts.ReadInto ρ (now (rho .entry)) (length ns) → e < length (g .edges) → action ≡ Prepared.actionIn (now (graph .entry)) e → parts.handedOver query action ≡ false
+        → r ≡ parts.picks ns g (now (solution .entry)) query ρ e) ⌝ }
 {
-    let action = prepared::action(graph, e);
     match query {
         Query::MissingResult => {
             let found = results::results(code, graph, rho, action);
@@ -116,6 +132,61 @@ fn picked(
         }
         Query::NegativeIndex => indices::may_be_negative(code, graph, rho, action),
     }
+}
+
+// Whether the abstract memory itself is missing at the target of an edge, where the edge's own guard may hold.
+fn guard_missing(
+    code: &[u16; CODE],
+    graph: &[u16; GRAPH],
+    index: &[u16; INDEX],
+    solution: &[u8],
+    rho: &[u8; 32],
+    weight: u32,
+    e: u16,
+    holds: bool,
+) -> bool
+    requires { ⌜ parts.Ordered (parts.namesIn (now code)) (now solution) (now index) (now rho) weight ⌝ }
+    ensures { λ r. ⌜ ((ns : List ℕ) (g : Graph.Graph) (ρ : List ℕ)
+        → parts.Searched ns g (now (code .entry)) (now (graph .entry)) Query.MissingResult (now (solution .entry)) (now (index .entry))
+        → parts.ReadInto ρ (now (rho .entry)) (length ns) → e < length (g .edges)
+        → r ≡ parts.anyMissing ns (now (solution .entry)) (Graph.edgeAt g e .target) (cond holds (ρ ∷ []) [])) ⌝ }
+{
+    let names = prepared::name_count(code);
+    let node = prepared::edge_target(graph, e);
+    let found = results::unchanged(holds);
+    any_missing(index, solution, names, rho, weight, node, found)
+}
+
+// 42 at a node of the deterministic graph whose lowest edge is a guard's: the first edge along which a result is missing. An edge has its own guard's results where
+// each guard before it may fail, and none where one may not; so each guard is worked out once.
+fn first_missing(
+    code: &[u16; CODE],
+    graph: &[u16; GRAPH],
+    index: &[u16; INDEX],
+    solution: &[u8],
+    rho: &[u8; 32],
+    weight: u32,
+    first: u16,
+) -> First
+    requires { ⌜ parts.Ordered (parts.namesIn (now code)) (now solution) (now index) (now rho) weight × Prepared.Linked (now graph) × Tabled.Tabled (now code) ⌝ }
+    ensures { λ r. ⌜ ((ns : List ℕ) (g : Graph.Graph) (ρ : List ℕ) (node : ℕ)
+        → parts.Searched ns g (now (code .entry)) (now (graph .entry)) Query.MissingResult (now (solution .entry)) (now (index .entry))
+        → parts.ReadInto ρ (now (rho .entry)) (length ns) → Selecting.Opens (now (graph .entry)) node first
+        → r ≡ parts.firstPicked ns g (now (solution .entry)) Query.MissingResult node ρ) ⌝ }
+{
+    let count = prepared::edge_count(graph);
+    let mut e = first;
+    while e < count {
+        let t = condition::own_truths(code, graph, rho, e);
+        if guard_missing(code, graph, index, solution, rho, weight, e, t.holds) {
+            return First::At(e);
+        }
+        if !t.fails {
+            return First::Nothing;
+        }
+        e = prepared::next_edge(graph, e);
+    }
+    First::Nothing
 }
 
 // The first edge out of a node that a query picks.
@@ -137,7 +208,11 @@ fn first_picked(
     let count = prepared::edge_count(graph);
     let mut e = prepared::first_edge(graph, node);
     while e < count {
-        if picked(query, code, graph, index, solution, rho, weight, e) {
+        let action = prepared::action(graph, e);
+        if handed_over(query, action) {
+            return first_missing(code, graph, index, solution, rho, weight, e);
+        }
+        if picked(query, code, graph, index, solution, rho, weight, e, action) {
             return First::At(e);
         }
         e = prepared::next_edge(graph, e);
@@ -413,15 +488,20 @@ fn mark_prepared(code: &[u16; CODE], graph: &[u16; GRAPH], solution: &[u8]) -> M
     }
 }
 
-// The verdict on a candidate solution.
-pub fn judge(program: &[u8], initial: &[u8], solution: &[u8]) -> Verdict
-    ensures { λ r. ⌜ r ≡ spec.verdict (now (program .entry)) (now (initial .entry)) (now (solution .entry)) ⌝ }
-    ensures numbers { λ r. ⌜ spec.verdictNumbers r ≡ spec.verdictRow (now (program .entry)) (now (initial .entry)) (now (solution .entry)) ⌝ }
-    ensures third { λ r. ⌜ Soundness.ThirdTermFor (now (program .entry)) (now (initial .entry)) (now (solution .entry)) r ⌝ }
+// The verdict on a candidate solution, on the graph by a construction.
+pub fn judge_on(
+    construction: Construction,
+    program: &[u8],
+    initial: &[u8],
+    solution: &[u8],
+) -> Verdict
+    ensures { λ r. ⌜ r ≡ spec.verdict construction (now (program .entry)) (now (initial .entry)) (now (solution .entry)) ⌝ }
+    ensures numbers { λ r. ⌜ spec.verdictNumbers r ≡ spec.verdictRow construction (now (program .entry)) (now (initial .entry)) (now (solution .entry)) ⌝ }
+    ensures third { λ r. ⌜ Soundness.ThirdTermFor construction (now (program .entry)) (now (initial .entry)) (now (solution .entry)) r ⌝ }
 {
     let mut code = [0u16; CODE];
     let mut graph = [0u16; GRAPH];
-    let v = prepared::prepare_linked(program, &mut code, &mut graph);
+    let v = prepared::prepare_linked(construction, program, &mut code, &mut graph);
     match v {
         Validity::Fit => {
             set_table::put(&mut code);
@@ -431,13 +511,27 @@ pub fn judge(program: &[u8], initial: &[u8], solution: &[u8]) -> Verdict
     }
 }
 
-// The offending record of 41 or 42, a part of the list that it lies in; else an empty part.
-pub fn offending<'a>(program: &[u8], initial: &'a [u8], solution: &'a [u8]) -> &'a [u8]
+// The same, where the caller names no construction.
+pub fn judge(program: &[u8], initial: &[u8], solution: &[u8]) -> Verdict
+    ensures { λ r. ⌜ r ≡ spec.verdict Graph.unnamed (now (program .entry)) (now (initial .entry)) (now (solution .entry)) ⌝ }
+    ensures numbers { λ r. ⌜ spec.verdictNumbers r ≡ spec.verdictRow Graph.unnamed (now (program .entry)) (now (initial .entry)) (now (solution .entry)) ⌝ }
+    ensures third { λ r. ⌜ Soundness.ThirdTermFor Graph.unnamed (now (program .entry)) (now (initial .entry)) (now (solution .entry)) r ⌝ }
+{
+    judge_on(drawing::unnamed(), program, initial, solution)
+}
+
+// The offending record of 41 or 42 on the graph by a construction, a part of the list that it lies in; else an empty part.
+pub fn offending_on<'a>(
+    construction: Construction,
+    program: &[u8],
+    initial: &'a [u8],
+    solution: &'a [u8],
+) -> &'a [u8]
     ensures { λ r. ⌜ now r ≡ spec.offending (File.sizes (now (program .entry))) (now (initial .entry)) (now (solution .entry))
-        (spec.verdict (now (program .entry)) (now (initial .entry)) (now (solution .entry))) ⌝ }
+        (spec.verdict construction (now (program .entry)) (now (initial .entry)) (now (solution .entry))) ⌝ }
 {
     let names = file::name_count(program) as usize;
-    let v = judge(program, initial, solution);
+    let v = judge_on(construction, program, initial, solution);
     match v {
         Verdict::InitialMissing { record } => {
             validation::part(initial, names * record as usize, names)
@@ -451,14 +545,27 @@ pub fn offending<'a>(program: &[u8], initial: &'a [u8], solution: &'a [u8]) -> &
     }
 }
 
-// The index mark of a list of records by itself.
+// The same, where the caller names no construction.
+pub fn offending<'a>(program: &[u8], initial: &'a [u8], solution: &'a [u8]) -> &'a [u8]
+    ensures { λ r. ⌜ now r ≡ spec.offending (File.sizes (now (program .entry))) (now (initial .entry)) (now (solution .entry))
+        (spec.verdict Graph.unnamed (now (program .entry)) (now (initial .entry)) (now (solution .entry))) ⌝ }
+{
+    offending_on(drawing::unnamed(), program, initial, solution)
+}
+
+// The index mark of a list of records by itself, which is the same for every construction.
 pub fn index_mark(program: &[u8], solution: &[u8]) -> Marking
     ensures { λ r. ⌜ r ≡ spec.marking (now (program .entry)) (now (solution .entry)) ⌝ }
     ensures numbers { λ r. ⌜ spec.markingNumbers r ≡ spec.markRow (now (program .entry)) (now (solution .entry)) ⌝ }
 {
     let mut code = [0u16; CODE];
     let mut graph = [0u16; GRAPH];
-    let v = prepared::prepare_linked(program, &mut code, &mut graph);
+    let v = prepared::prepare_linked(
+        Construction::Nondeterministic,
+        program,
+        &mut code,
+        &mut graph,
+    );
     match v {
         Validity::Fit => {
             set_table::put(&mut code);

@@ -1,13 +1,14 @@
 // A solution computed.
 
 ghost use mathlib.Core.Path.{_≡_};
-ghost use mathlib.Core.Bool.{false};
-ghost use mathlib.Core.List.{List, [], foldl, map};
+ghost use mathlib.Core.Bool.{false, cond};
+ghost use mathlib.Core.List.{List, [], _∷_, foldl, map};
 ghost use Prim.Native.Nat.{ℕ, _+_, _/_, _%_, _<_, _≤_, min};
 ghost use lib.ListN.{length, getD, set};
-ghost use Rattle.program.specs.Graph.{Graph};
-ghost use Rattle.program.specs.Parts.Prepared.{Prepared, Linked};
+ghost use Rattle.program.specs.Graph.{Graph, edgeAt, unnamed};
+ghost use Rattle.program.specs.Parts.Prepared.{Prepared, Linked, actionIn, isGuardNode};
 ghost use Rattle.program.specs.declared.Validity.the-variants.{Fit};
+ghost use Rattle.semantics.specs.Parts.Selecting.{Opens};
 ghost use Rattle.analysis.specs.Parts.Changing.{digitsEnd, setsOf};
 ghost use Rattle.analysis.specs.Parts.Judging.{ReadInto, namesIn};
 ghost use Rattle.analysis.specs.Parts.Membership.{Weighed};
@@ -20,13 +21,17 @@ use crate::RecordList;
 use crate::Solved;
 use crate::Solving;
 use crate::WrongByte;
+use crate::evaluator::condition;
 use crate::evaluator::results;
 use crate::lists;
 use crate::membership;
 use crate::membership::INDEX;
 use crate::set_table;
+use program::ActionNode;
+use program::Construction;
 use program::Refusal;
 use program::Validity;
+use program::drawing;
 use program::file;
 use program::prepared;
 use program::prepared::CODE;
@@ -112,7 +117,7 @@ fn offer_results(
     progress
 }
 
-// What follows an abstract memory along an edge, offered.
+// What follows an abstract memory along an edge that is no guard's of the deterministic graph, offered.
 fn offer_edge(
     code: &[u16; CODE],
     graph: &[u16; GRAPH],
@@ -121,16 +126,17 @@ fn offer_edge(
     rho: &[u8; 32],
     weight: u32,
     e: u16,
+    action: ActionNode,
     p: Progress,
 ) -> Progress
     requires { ⌜ parts.Growing (2 + namesIn (now code)) (now buffer) (now index) p × Weighed (namesIn (now code)) (now rho) weight × Tabled (now code) ⌝ }
     ensures { λ r. ⌜ parts.Extended (2 + namesIn (now (code .entry))) (now (buffer .entry)) p (now (buffer .exit)) (now (index .exit)) r ⌝ }
     ensures { λ r. ⌜ ((ns : List ℕ) (g : Graph) (ρ : List ℕ) (room : ℕ) → Prepared ns g (now (code .entry)) (now (graph .entry)) → ReadInto ρ (now (rho .entry)) (length ns)
-        → p .room ≡ room → e < length (g .edges)
+        → p .room ≡ room → e < length (g .edges) → action ≡ actionIn (now (graph .entry)) e → isGuardNode action ≡ false
         → parts.foundIn (2 + namesIn (now (code .entry))) (now (buffer .exit)) r ≡ spec.offerResults ns g room ρ (parts.foundIn (2 + namesIn (now (code .entry))) (now (buffer .entry)) p) e) ⌝ }
 {
     let names = prepared::name_count(code);
-    let found = results::results(code, graph, rho, prepared::action(graph, e));
+    let found = results::results(code, graph, rho, action);
     offer_results(
         index,
         buffer,
@@ -141,6 +147,74 @@ fn offer_edge(
         found,
         p,
     )
+}
+
+// The abstract memory itself offered at the target of an edge, where the edge's own guard may hold.
+fn offer_guard(
+    code: &[u16; CODE],
+    graph: &[u16; GRAPH],
+    index: &mut [u16; INDEX],
+    buffer: &mut [u8],
+    rho: &[u8; 32],
+    weight: u32,
+    e: u16,
+    holds: bool,
+    p: Progress,
+) -> Progress
+    requires { ⌜ parts.Growing (2 + namesIn (now code)) (now buffer) (now index) p × Weighed (namesIn (now code)) (now rho) weight ⌝ }
+    ensures { λ r. ⌜ parts.Extended (2 + namesIn (now (code .entry))) (now (buffer .entry)) p (now (buffer .exit)) (now (index .exit)) r ⌝ }
+    ensures { λ r. ⌜ ((ns : List ℕ) (g : Graph) (ρ : List ℕ) (room : ℕ) → Prepared ns g (now (code .entry)) (now (graph .entry)) → ReadInto ρ (now (rho .entry)) (length ns)
+        → p .room ≡ room → e < length (g .edges)
+        → parts.foundIn (2 + namesIn (now (code .entry))) (now (buffer .exit)) r
+        ≡ foldl (spec.offer ns room (edgeAt g e .target)) (parts.foundIn (2 + namesIn (now (code .entry))) (now (buffer .entry)) p) (cond holds (ρ ∷ []) [])) ⌝ }
+{
+    let names = prepared::name_count(code);
+    let node = prepared::edge_target(graph, e);
+    let found = results::unchanged(holds);
+    offer_results(index, buffer, names, rho, weight, node, found, p)
+}
+
+// What follows an abstract memory at a node of the deterministic graph whose lowest edge is a guard's, offered edge by edge: along an edge where its own guard may
+// hold, up to a guard that may not fail.
+fn offer_guarded(
+    code: &[u16; CODE],
+    graph: &[u16; GRAPH],
+    index: &mut [u16; INDEX],
+    buffer: &mut [u8],
+    rho: &[u8; 32],
+    weight: u32,
+    first: u16,
+    p: Progress,
+) -> Progress
+    requires { ⌜ Linked (now graph) × parts.Growing (2 + namesIn (now code)) (now buffer) (now index) p × Weighed (namesIn (now code)) (now rho) weight × Tabled (now code) ⌝ }
+    ensures { λ r. ⌜ parts.Extended (2 + namesIn (now (code .entry))) (now (buffer .entry)) p (now (buffer .exit)) (now (index .exit)) r ⌝ }
+    ensures { λ r. ⌜ ((ns : List ℕ) (g : Graph) (ρ : List ℕ) (room node : ℕ) → Prepared ns g (now (code .entry)) (now (graph .entry)) → ReadInto ρ (now (rho .entry)) (length ns)
+        → p .room ≡ room → Opens (now (graph .entry)) node first
+        → parts.foundIn (2 + namesIn (now (code .entry))) (now (buffer .exit)) r
+        ≡ parts.along (spec.offerResults ns g room ρ) g node (length (g .edges)) (parts.foundIn (2 + namesIn (now (code .entry))) (now (buffer .entry)) p)) ⌝ }
+{
+    let count = prepared::edge_count(graph);
+    let mut progress = p;
+    let mut e = first;
+    while e < count {
+        let t = condition::own_truths(code, graph, rho, e);
+        progress = offer_guard(
+            code,
+            graph,
+            index,
+            buffer,
+            rho,
+            weight,
+            e,
+            t.holds,
+            progress,
+        );
+        if !t.fails {
+            return progress;
+        }
+        e = prepared::next_edge(graph, e);
+    }
+    progress
 }
 
 // What follows an abstract memory along the edges out of a node, offered edge by edge.
@@ -165,7 +239,11 @@ fn offer_successors(
     let mut progress = p;
     let mut e = prepared::first_edge(graph, node);
     while e < count {
-        progress = offer_edge(code, graph, index, buffer, rho, weight, e, progress);
+        let action = prepared::action(graph, e);
+        if prepared::is_guard(action) {
+            return offer_guarded(code, graph, index, buffer, rho, weight, e, progress);
+        }
+        progress = offer_edge(code, graph, index, buffer, rho, weight, e, action, progress);
         e = prepared::next_edge(graph, e);
     }
     progress
@@ -353,15 +431,20 @@ fn solve_prepared(
     }
 }
 
-// A solution of a program and a start list: through the start records at node 0, then down the list, appending what isn't listed yet.
-pub fn solve(program: &[u8], initial: &[u8], buffer: &mut [u8]) -> Solved
-    ensures { λ r. ⌜ (r ≡ spec.solved (now (program .entry)) (now (initial .entry)) (now (buffer .entry)))
-        × (now (buffer .exit) ≡ spec.solvedBuffer (now (program .entry)) (now (initial .entry)) (now (buffer .entry))) ⌝ }
-    ensures numbers { λ r. ⌜ spec.solvedNumbers r ≡ spec.solverRow (now (program .entry)) (now (initial .entry)) (now (buffer .entry)) ⌝ }
+// A solution of a program and a start list on the graph by a construction: through the start records at node 0, then down the list, appending what isn't listed yet.
+pub fn solve_on(
+    construction: Construction,
+    program: &[u8],
+    initial: &[u8],
+    buffer: &mut [u8],
+) -> Solved
+    ensures { λ r. ⌜ (r ≡ spec.solved construction (now (program .entry)) (now (initial .entry)) (now (buffer .entry)))
+        × (now (buffer .exit) ≡ spec.solvedBuffer construction (now (program .entry)) (now (initial .entry)) (now (buffer .entry))) ⌝ }
+    ensures numbers { λ r. ⌜ spec.solvedNumbers r ≡ spec.solverRow construction (now (program .entry)) (now (initial .entry)) (now (buffer .entry)) ⌝ }
 {
     let mut code = [0u16; CODE];
     let mut graph = [0u16; GRAPH];
-    let v = prepared::prepare_linked(program, &mut code, &mut graph);
+    let v = prepared::prepare_linked(construction, program, &mut code, &mut graph);
     match v {
         Validity::Fit => {
             set_table::put(&mut code);
@@ -369,4 +452,13 @@ pub fn solve(program: &[u8], initial: &[u8], buffer: &mut [u8]) -> Solved
         }
         Validity::Refused(x) => refused(x),
     }
+}
+
+// The same, where the caller names no construction.
+pub fn solve(program: &[u8], initial: &[u8], buffer: &mut [u8]) -> Solved
+    ensures { λ r. ⌜ (r ≡ spec.solved unnamed (now (program .entry)) (now (initial .entry)) (now (buffer .entry)))
+        × (now (buffer .exit) ≡ spec.solvedBuffer unnamed (now (program .entry)) (now (initial .entry)) (now (buffer .entry))) ⌝ }
+    ensures numbers { λ r. ⌜ spec.solvedNumbers r ≡ spec.solverRow unnamed (now (program .entry)) (now (initial .entry)) (now (buffer .entry)) ⌝ }
+{
+    solve_on(drawing::unnamed(), program, initial, buffer)
 }

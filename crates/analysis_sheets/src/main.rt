@@ -12,9 +12,12 @@
 // 4. places split, which are the further numbers, four bytes each;
 // 5. the third term tried: the further numbers are as many cells of a memory as the number says, four bytes each, and then step calls, two bytes each. It prints what the solver
 //    answers and, for the run before the first call and after each, whether the sheet has the memory's record at the run's node; then the sheet's index mark.
+//
+// 16 more asks modes 1, 3 and 5 for document 01's graph by name, 32 more for the deterministic one.
 use analysis::Mark;
 use analysis::Marking;
 use analysis::RecordList;
+use analysis::Solved;
 use analysis::Solving;
 use analysis::Split;
 use analysis::Verdict;
@@ -22,10 +25,13 @@ use analysis::WrongByte;
 use analysis::judging;
 use analysis::solver;
 use analysis::splitting;
+use program::Construction;
 use program::Refusal;
 use program::Validity;
+use program::drawing;
 use program::file;
 use semantics::Run;
+use semantics::Stepped;
 
 // What the first twelve bytes of a case say: lengths are in bytes.
 struct Head {
@@ -153,23 +159,45 @@ fn print_records(list: &[u8], width: usize) {
 
 // The calls of the library that are asked about, each in a function of its own.
 
-fn answer_judge(s: &[u8], initial: &[u8], sheet: &[u8]) {
-    print_verdict(judging::judge(s, initial, sheet));
+// Each asks for the graph by the construction that a number names; 0 names none.
+
+fn named(on: u8) -> Construction {
+    drawing::named(on as u32)
+}
+
+fn answer_judge(on: u8, s: &[u8], initial: &[u8], sheet: &[u8]) {
+    if on == 0 {
+        print_verdict(judging::judge(s, initial, sheet));
+    } else {
+        print_verdict(judging::judge_on(named(on), s, initial, sheet));
+    }
 }
 
 // The offending record is a part of either list, so that here and above the two have one lifetime.
-fn answer_offending<'a>(s: &[u8], initial: &'a [u8], sheet: &'a [u8]) {
+fn answer_offending<'a>(on: u8, s: &[u8], initial: &'a [u8], sheet: &'a [u8]) {
     printing::text(b"; offending");
-    print_records(judging::offending(s, initial, sheet), 0);
+    if on == 0 {
+        print_records(judging::offending(s, initial, sheet), 0);
+    } else {
+        print_records(judging::offending_on(named(on), s, initial, sheet), 0);
+    }
 }
 
 fn answer_mark(s: &[u8], sheet: &[u8]) {
     print_marking(judging::index_mark(s, sheet));
 }
 
+fn solve_by(on: u8, s: &[u8], initial: &[u8], buffer: &mut [u8]) -> Solved {
+    if on == 0 {
+        solver::solve(s, initial, buffer)
+    } else {
+        solver::solve_on(named(on), s, initial, buffer)
+    }
+}
+
 // Says what the solver answers, and gives the number of records that it wrote.
-fn answer_solve(s: &[u8], initial: &[u8], buffer: &mut [u8]) -> u16 {
-    let solved = solver::solve(s, initial, buffer);
+fn answer_solve(on: u8, s: &[u8], initial: &[u8], buffer: &mut [u8]) -> u16 {
+    let solved = solve_by(on, s, initial, buffer);
     let answer = solved.solving;
     print_solving(answer);
     printing::text(b" with ");
@@ -182,9 +210,9 @@ fn answer_split(s: &[u8], at: u32) {
 }
 
 // Mode 1: the verdict, and the offending record.
-fn answer_verdict<'a>(s: &[u8], initial: &'a [u8], sheet: &'a [u8]) {
-    answer_judge(s, initial, sheet);
-    answer_offending(s, initial, sheet);
+fn answer_verdict<'a>(on: u8, s: &[u8], initial: &'a [u8], sheet: &'a [u8]) {
+    answer_judge(on, s, initial, sheet);
+    answer_offending(on, s, initial, sheet);
 }
 
 // The width of a record of a sheet. A file that is not well formed may say anything of its names.
@@ -217,36 +245,36 @@ fn print_solved(buffer: &[u8], n: usize, width: u16) {
     }
 }
 
-fn judge_solved(s: &[u8], initial: &[u8], buffer: &[u8], n: usize) {
+fn judge_solved(on: u8, s: &[u8], initial: &[u8], buffer: &[u8], n: usize) {
     if n <= buffer.len() {
-        answer_judge(s, initial, &buffer[..n]);
+        answer_judge(on, s, initial, &buffer[..n]);
     }
 }
 
 // A solved part of a buffer, a checksum of the whole, and the verdict on the part.
-fn print_buffer(s: &[u8], initial: &[u8], buffer: &[u8], n: usize) {
+fn print_buffer(on: u8, s: &[u8], initial: &[u8], buffer: &[u8], n: usize) {
     print_solved(buffer, n, width_of(s));
     printing::text(b" sum ");
     printing::number(cases::mix_bytes(buffer));
     printing::text(b"; ");
-    judge_solved(s, initial, buffer, n);
+    judge_solved(on, s, initial, buffer, n);
 }
 
-fn answer_room(s: &[u8], initial: &[u8], buffer: &mut [u8]) {
-    let count = answer_solve(s, initial, buffer);
-    print_buffer(s, initial, buffer, end_of(count, width_of(s)));
+fn answer_room(on: u8, s: &[u8], initial: &[u8], buffer: &mut [u8]) {
+    let count = answer_solve(on, s, initial, buffer);
+    print_buffer(on, s, initial, buffer, end_of(count, width_of(s)));
 }
 
-fn solve_part(s: &[u8], initial: &[u8], buffer: &mut [u8], room: usize) {
+fn solve_part(on: u8, s: &[u8], initial: &[u8], buffer: &mut [u8], room: usize) {
     if room <= buffer.len() {
-        answer_room(s, initial, &mut buffer[..room]);
+        answer_room(on, s, initial, &mut buffer[..room]);
     }
 }
 
 // Mode 3: the solver, with so many bytes of room.
-fn answer_solver(s: &[u8], initial: &[u8], room: usize) {
+fn answer_solver(on: u8, s: &[u8], initial: &[u8], room: usize) {
     let mut buffer = [170u8; 140000];
-    solve_part(s, initial, &mut buffer, room);
+    solve_part(on, s, initial, &mut buffer, room);
 }
 
 // Mode 4: the places, four bytes each.
@@ -368,17 +396,25 @@ fn print_has(run: Run, s: &[u8], sheet: &[u8], memory: &[i32]) {
     }
 }
 
+fn step_by(run: Run, on: u8, s: &[u8], edge: u16, memory: &mut [i32]) -> Stepped {
+    if on == 0 {
+        run.step(s, edge, memory)
+    } else {
+        run.step_on(named(on), s, edge, memory)
+    }
+}
+
 // A step call, and its outcome printed.
-fn step_told(run: Run, s: &[u8], edge: u16, memory: &mut [i32]) -> Run {
-    let stepped = run.step(s, edge, memory);
+fn step_told(run: Run, on: u8, s: &[u8], edge: u16, memory: &mut [i32]) -> Run {
+    let stepped = step_by(run, on, s, edge, memory);
     let outcome = stepped.outcome;
     printing::outcome(outcome);
     printing::text(b" ");
     stepped.run
 }
 
-fn step_looked_up(run: Run, s: &[u8], edge: u16, sheet: &[u8], memory: &mut [i32]) -> Run {
-    let next = step_told(run, s, edge, memory);
+fn step_looked_up(run: Run, on: u8, s: &[u8], edge: u16, sheet: &[u8], memory: &mut [i32]) -> Run {
+    let next = step_told(run, on, s, edge, memory);
     print_has(next, s, sheet, memory);
     next
 }
@@ -392,62 +428,63 @@ fn call_count(further: &[u8], from: usize) -> usize {
 }
 
 // The step calls are the words of a list from a place on.
-fn follow(s: &[u8], further: &[u8], from: usize, sheet: &[u8], memory: &mut [i32]) {
+fn follow(on: u8, s: &[u8], further: &[u8], from: usize, sheet: &[u8], memory: &mut [i32]) {
     let count = call_count(further, from);
     let mut run = Run::fresh();
     let mut at = from;
     let mut i: usize = 0;
     while i < count {
-        run = step_looked_up(run, s, file::word_at(further, at), sheet, memory);
+        run = step_looked_up(run, on, s, file::word_at(further, at), sheet, memory);
         at = farther(at, 2);
         i += 1;
     }
 }
 
-fn follow_sheet(s: &[u8], further: &[u8], sheet: &[u8], memory: &mut [i32]) {
+fn follow_sheet(on: u8, s: &[u8], further: &[u8], sheet: &[u8], memory: &mut [i32]) {
     print_has(Run::fresh(), s, sheet, memory);
-    follow(s, further, memory.len() * 4, sheet, memory);
+    follow(on, s, further, memory.len() * 4, sheet, memory);
     answer_mark(s, sheet);
 }
 
-fn follow_solved(s: &[u8], further: &[u8], buffer: &[u8], n: usize, memory: &mut [i32]) {
+fn follow_solved(on: u8, s: &[u8], further: &[u8], buffer: &[u8], n: usize, memory: &mut [i32]) {
     if n <= buffer.len() {
-        follow_sheet(s, further, &buffer[..n], memory);
+        follow_sheet(on, s, further, &buffer[..n], memory);
     }
 }
 
-fn follow_from(s: &[u8], initial: &[u8], further: &[u8], memory: &mut [i32]) {
+fn follow_from(on: u8, s: &[u8], initial: &[u8], further: &[u8], memory: &mut [i32]) {
     let mut buffer = [170u8; 140000];
-    let count = answer_solve(s, initial, &mut buffer);
+    let count = answer_solve(on, s, initial, &mut buffer);
     printing::text(b"; ");
-    follow_solved(s, further, &buffer, end_of(count, width_of(s)), memory);
+    follow_solved(on, s, further, &buffer, end_of(count, width_of(s)), memory);
 }
 
-fn answer_lent(s: &[u8], initial: &[u8], further: &[u8], memory: &mut [i32]) {
+fn answer_lent(on: u8, s: &[u8], initial: &[u8], further: &[u8], memory: &mut [i32]) {
     cases::set_cells(memory, further);
-    follow_from(s, initial, further, memory);
+    follow_from(on, s, initial, further, memory);
 }
 
-fn answer_cells(s: &[u8], initial: &[u8], further: &[u8], memory: &mut [i32], n: usize) {
+fn answer_cells(on: u8, s: &[u8], initial: &[u8], further: &[u8], memory: &mut [i32], n: usize) {
     if n <= memory.len() {
-        answer_lent(s, initial, further, &mut memory[..n]);
+        answer_lent(on, s, initial, further, &mut memory[..n]);
     }
 }
 
 // Mode 5: step calls from a memory of so many cells, looked up in the sheet that is solved.
-fn answer_calls(s: &[u8], initial: &[u8], further: &[u8], cells: usize) {
+fn answer_calls(on: u8, s: &[u8], initial: &[u8], further: &[u8], cells: usize) {
     let mut memory = [0i32; 512];
-    answer_cells(s, initial, further, &mut memory, cells);
+    answer_cells(on, s, initial, further, &mut memory, cells);
 }
 
 fn answer<'a>(h: Head, s: &[u8], initial: &'a [u8], sheet: &'a [u8], further: &[u8]) {
-    let mode = h.mode;
-    match mode {
-        1 => answer_verdict(s, initial, sheet),
+    let on = h.mode / 16;
+    let asked = h.mode % 16;
+    match asked {
+        1 => answer_verdict(on, s, initial, sheet),
         2 => answer_mark(s, sheet),
-        3 => answer_solver(s, initial, long_place(h.number)),
+        3 => answer_solver(on, s, initial, long_place(h.number)),
         4 => answer_splits(s, further),
-        5 => answer_calls(s, initial, further, long_place(h.number)),
+        5 => answer_calls(on, s, initial, further, long_place(h.number)),
         _ => printing::text(b"unknown mode"),
     }
     printing::text(b"\n");

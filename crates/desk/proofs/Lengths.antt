@@ -22,6 +22,7 @@ use Rattle.desk.specs.Rows.{_!_, validationTold, validated, inputValidat
 use Rattle.desk.specs.declared.Head.{Head}
 use Rattle.desk.specs.declared.Head.the-variants.{Answered, Refused, Malformed}
 use Rattle.desk.proofs.Heads.{figures-head}
+use Rattle.program.specs.declared.Construction.{Construction}
 
 abbrev pub Long : ℕ → Told → Type 0
 Long n t = length (t .row) ≡ n
@@ -51,36 +52,36 @@ pub parts-long : (s : List ℕ) → Long 6 (parts s)
 unfolding parts partsTold answeredWith refusedWith
 parts-long s = choice 6 (eqb (length (inputRow s)) 1) _ _ refl refl
 
-pub drew-long : (s buffer : List ℕ) → Long 5 (drew s buffer)
+pub drew-long : (κ : Construction) (s buffer : List ℕ) → Long 5 (drew κ s buffer)
 unfolding drew
-drew-long s buffer = two-long (drawingRow s buffer)
+drew-long κ s buffer = two-long (drawingRow κ s buffer)
 
-pub stepped-long : (s : List ℕ) (c : Configuration) (e : ℕ) → Long 5 (stepped s c e)
+pub stepped-long : (κ : Construction) (s : List ℕ) (c : Configuration) (e : ℕ) → Long 5 (stepped κ s c e)
 unfolding stepped
-stepped-long s c e = two-long (stepRow s c e)
+stepped-long κ s c e = two-long (stepRow κ s c e)
 
-pub ran-long : (s : List ℕ) (budget : ℕ) (m : List ℤ) → Long 5 (ran s budget m)
+pub ran-long : (κ : Construction) (s : List ℕ) (budget : ℕ) (m : List ℤ) → Long 5 (ran κ s budget m)
 unfolding ran
-ran-long s budget m = two-long (runRow s budget m)
+ran-long κ s budget m = two-long (runRow κ s budget m)
 
 pub split-long : (s : List ℕ) (place : ℕ) → Long 5 (split s place)
 unfolding split
 split-long s place = two-long (splitRow s place)
 
-pub judged-long : (s initial solution : List ℕ) → Long 10 (judged s initial solution)
+pub judged-long : (κ : Construction) (s initial solution : List ℕ) → Long 10 (judged κ s initial solution)
 unfolding judged verdictTold answeredWith refusedWith malformedWith
-judged-long s initial solution =
-    let xs = verdictRow s initial solution in
+judged-long κ s initial solution =
+    let xs = verdictRow κ s initial solution in
     choice 10 (eqb (xs ! 0) 0) _ _ refl (choice 10 (eqb (xs ! 0) 41) _ _ refl (choice 10 (eqb (xs ! 0) 42) _ _ refl (choice 10 (eqb (length xs) 3) _ _ refl refl)))
 
 pub marked-long : (s solution : List ℕ) → Long 5 (marked s solution)
 unfolding marked markTold answeredWith refusedWith malformedWith
 marked-long s solution = let xs = markRow s solution in choice 5 (eqb (xs ! 0) 0) _ _ refl (choice 5 (eqb (length xs) 3) _ _ refl refl)
 
-pub solved-long : (s initial buffer : List ℕ) → Long 4 (solved s initial buffer)
+pub solved-long : (κ : Construction) (s initial buffer : List ℕ) → Long 4 (solved κ s initial buffer)
 unfolding solved solverTold answeredWith refusedWith malformedWith
-solved-long s initial buffer =
-    let xs = solverRow s initial buffer in
+solved-long κ s initial buffer =
+    let xs = solverRow κ s initial buffer in
     choice 4 (eqb (length xs) 4) _ _ refl (choice 4 (eqb (length xs) 3) _ _ refl (choice 4 (eqb (xs ! 0) 0) _ _ refl refl))
 
 tell-long : (h : Head) (rest : List ℤ) → length rest ≡ 7 → Long 10 (tell h rest)

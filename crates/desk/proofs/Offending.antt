@@ -8,6 +8,7 @@ use lib.IntN.{pos}
 use lib.ListN.{length}
 use Rattle.program.specs.File.{sizes}
 use Rattle.program.specs.Graph.{Graph, graph}
+use Rattle.program.specs.declared.Construction.{Construction}
 use Rattle.program.specs.declared.First.{First}
 use Rattle.program.specs.declared.First.the-variants.{At, Nothing}
 use Rattle.program.specs.declared.Validity.{Validity}
@@ -31,15 +32,15 @@ use Rattle.desk.proofs.Heads.{verdict-head}
 use Rattle.desk.proofs.Places.{record-inside, verdict-told}
 
 -- what the verdict's call tells, by the verdict
-told-as-verdict : (s initial solution : List ℕ)
-    → judged s initial solution ≡ tell (verdictHead (verdict s initial solution)) (map pos (verdictBehind (length (sizes s)) (verdict s initial solution)))
+told-as-verdict : (κ : Construction) (s initial solution : List ℕ)
+    → judged κ s initial solution ≡ tell (verdictHead (verdict κ s initial solution)) (map pos (verdictBehind (length (sizes s)) (verdict κ s initial solution)))
 unfolding judged verdictRow
-told-as-verdict s initial solution = rw (← sizes-length s) (verdict-head _ _ (verdict-told s initial solution))
+told-as-verdict κ s initial solution = rw (← sizes-length s) (verdict-head _ _ (verdict-told κ s initial solution))
 
 -- a row names the record itself
-pub offending-part : (s initial solution : List ℕ) → partNamed initial solution (judged s initial solution) ≡ offending (sizes s) initial solution (verdict s initial solution)
+pub offending-part : (κ : Construction) (s initial solution : List ℕ) → partNamed initial solution (judged κ s initial solution) ≡ offending (sizes s) initial solution (verdict κ s initial solution)
 unfolding partNamed listNamed offending recordAt initialWidth recordWidth tell answeredWith refusedWith malformedWith verdictHead verdictBehind
-offending-part s initial solution = rw (told-as-verdict s initial solution) (by (verdict s initial solution))
+offending-part κ s initial solution = rw (told-as-verdict κ s initial solution) (by (verdict κ s initial solution))
   where
     by : (v : Verdict) → partNamed initial solution (tell (verdictHead v) (map pos (verdictBehind (length (sizes s)) v))) ≡ offending (sizes s) initial solution v
     by (Refuses x) = refl
@@ -120,13 +121,13 @@ over-named ns g initial solution =
     (formed-named _ _ _ _ _ (found-named _ _ _ _ _ (λ k e. such-first _ _ k e .below) (λ k e p. spot-there ns g solution _ k e p))))
 
 -- so the part that a row names lies inside its list
-pub offending-inside : (s initial solution : List ℕ) → let t = judged s initial solution in toldAt t 5 + toldAt t 6 ≤ length (listNamed initial solution (toldAt t 0))
+pub offending-inside : (κ : Construction) (s initial solution : List ℕ) → let t = judged κ s initial solution in toldAt t 5 + toldAt t 6 ≤ length (listNamed initial solution (toldAt t 0))
 unfolding listNamed verdict recordCount initialWidth recordWidth tell answeredWith refusedWith malformedWith verdictHead verdictBehind
-offending-inside s initial solution =
-    rw (told-as-verdict s initial solution)
-    (by (verdict s initial solution) refl (unless-named _ _ (validity s) _ (over-named (sizes s) (graph s) initial solution)))
+offending-inside κ s initial solution =
+    rw (told-as-verdict κ s initial solution)
+    (by (verdict κ s initial solution) refl (unless-named _ _ (validity s) _ (over-named (sizes s) (graph κ s) initial solution)))
   where
-    by : (v : Verdict) → verdict s initial solution ≡ v → Named (length initial / length (sizes s)) (length solution / (2 + length (sizes s))) (verdict s initial solution)
+    by : (v : Verdict) → verdict κ s initial solution ≡ v → Named (length initial / length (sizes s)) (length solution / (2 + length (sizes s))) (verdict κ s initial solution)
         → (let t = tell (verdictHead v) (map pos (verdictBehind (length (sizes s)) v)) in toldAt t 5 + toldAt t 6 ≤ length (listNamed initial solution (toldAt t 0)))
     by (Refuses x) e named = omega arith
     by (Malformed w) e named = omega arith

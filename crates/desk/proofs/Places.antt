@@ -14,6 +14,8 @@ use Rattle.program.specs.Drawing.{drawValidity, drawnBy, drawn}
 use Rattle.program.specs.File.{sizes}
 use Rattle.program.specs.Graph.{Graph, graph}
 use Rattle.program.specs.Questions.{validity, inputValidity}
+use Rattle.program.specs.declared.Construction.{Construction}
+use Rattle.program.specs.declared.Construction.the-variants.{Nondeterministic}
 use Rattle.program.specs.declared.Drawn.{Drawn}
 use Rattle.program.specs.declared.First.{First}
 use Rattle.program.specs.declared.First.the-variants.{At, Nothing}
@@ -60,11 +62,11 @@ use Rattle.program.proofs.Never.{never}
 
 -- ---- Drawing and splitting
 
-pub drawn-placed : (s buffer : List ℕ) → Placed 7244 (drawn s buffer .validity)
+pub drawn-placed : (κ : Construction) (s buffer : List ℕ) → Placed 7244 (drawn κ s buffer .validity)
 unfolding drawn drawValidity drawnBy
-drawn-placed s buffer = by (drawValidity s buffer) (placed-then _ _ (validity-placed s) (λ _. placed-ask _ 13 0 tt (omega arith)))
+drawn-placed κ s buffer = by (drawValidity κ s buffer) (placed-then _ _ (validity-placed s) (λ _. placed-ask _ 13 0 tt (omega arith)))
   where
-    by : (v : Validity) → Placed 7244 v → Placed 7244 (drawnBy s v .validity)
+    by : (v : Validity) → Placed 7244 v → Placed 7244 (drawnBy κ s v .validity)
     by Fit p = p
     by (Refused x) p = p
 
@@ -98,9 +100,9 @@ step-placed ns g node m e =
     placed-then _ _ (placed-ask _ 12 0 tt (omega arith))
     (λ _. placed-then _ _ (placed-ask _ 14 0 tt (omega arith)) (λ _. placed-then _ _ (placed-ask _ 15 0 tt (omega arith)) (λ _. placed-fit)))
 
-pub step-told : (s : List ℕ) (c : Configuration) (e : ℕ) → OutcomeTold (stepReply s c e .outcome)
+pub step-told : (κ : Construction) (s : List ℕ) (c : Configuration) (e : ℕ) → OutcomeTold (stepReply κ s c e .outcome)
 unfolding stepReply programOutcome outcome
-step-told s c e = outcome-unless _ _ (validity-placed s) (outcome-unless _ _ (step-placed _ _ _ _ _) (effect-outcome _))
+step-told κ s c e = outcome-unless _ _ (validity-placed s) (outcome-unless _ _ (step-placed _ _ _ _ _) (effect-outcome _))
 
 abbrev EndingTold : Ending → Type 0
 EndingTold e = (x : Refusal) → e ≡ Halts x → Told 7244 x
@@ -127,10 +129,10 @@ unfolding endsUnlessRefused
 ends-told Fit m r p q = q
 ends-told (Refused y) m r p q = λ x e. let same : y ≡ x = cc in p x (ap Refused same)
 
-pub budget-told : (s : List ℕ) (budget : ℕ) (m : List ℤ) → EndingTold (budgetReply s budget m .ending)
+pub budget-told : (κ : Construction) (s : List ℕ) (budget : ℕ) (m : List ℤ) → EndingTold (budgetReply κ s budget m .ending)
 unfolding budgetReply programBudgeted budgeted memoryValidity
-budget-told s budget m =
-    ends-told _ m _ (validity-placed s) (ends-told _ m _ (placed-ask _ 12 0 tt (omega arith)) (run-told budget (sizes s) (graph s) (begun m)))
+budget-told κ s budget m =
+    ends-told _ m _ (validity-placed s) (ends-told _ m _ (placed-ask _ 12 0 tt (omega arith)) (run-told budget (sizes s) (graph κ s) (begun m)))
 
 -- ---- Lists of records
 
@@ -214,10 +216,10 @@ over-told ns g initial solution l =
     verdict-formed Initial _ _ (further (short .0) (initial-placed ns initial))
     (verdict-formed Solution _ _ (further (short .1) (solution-placed ns g solution)) (verdict-found _ _ _)))
 
-pub verdict-told : (s initial solution : List ℕ) → VerdictTold (verdict s initial solution)
+pub verdict-told : (κ : Construction) (s initial solution : List ℕ) → VerdictTold (verdict κ s initial solution)
 unfolding verdict
-verdict-told s initial solution =
-    verdict-unless _ _ (validity-placed s) (λ fit. over-told (sizes s) (graph s) initial solution (few-names s fit))
+verdict-told κ s initial solution =
+    verdict-unless _ _ (validity-placed s) (λ fit. over-told (sizes s) (graph κ s) initial solution (few-names s fit))
 
 -- ---- The index mark by itself
 
@@ -245,7 +247,7 @@ marking-told s solution =
     marking-by _ _ _ (placed-then _ _ (validity-placed s) (λ _. placed-ask _ 16 0 tt (omega arith)))
     (λ e.
     let few = few-names s (then-first _ _ e) in
-    further (whole-short (2 + length (sizes s)) solution (ask-fit _ 16 0 (then-second _ _ e)) (omega arith)) (solution-placed (sizes s) (graph s) solution))
+    further (whole-short (2 + length (sizes s)) solution (ask-fit _ 16 0 (then-second _ _ e)) (omega arith)) (solution-placed (sizes s) (graph Nondeterministic s) solution))
 
 -- ---- The solver
 
@@ -272,9 +274,9 @@ solved-with (Refused y) f found p q =
       wrong = λ w e. never (cc);
     }
 
-pub solved-told : (s initial buffer : List ℕ) → SolvingTold (solved s initial buffer .solving)
+pub solved-told : (κ : Construction) (s initial buffer : List ℕ) → SolvingTold (solved κ s initial buffer .solving)
 unfolding solved initialValidity initialWhole initialWidth
-solved-told s initial buffer =
+solved-told κ s initial buffer =
     solved-with _ _ _ (placed-then _ _ (validity-placed s) (λ _. placed-ask _ 16 0 tt (omega arith)))
     (λ e.
     let few = few-names s (then-first _ _ e) in
@@ -291,22 +293,22 @@ program-narrow s = validity-narrow (omega arith) (validity-placed s)
 pub input-narrow : (s : List ℕ) {v : Validity} → v ≡ inputValidity s → (x : Refusal) → v ≡ Refused x → Narrow (x .offset)
 input-narrow s = validity-narrow (omega arith) (input-placed s)
 
-pub drawn-narrow : (s buffer : List ℕ) {d : Drawn} → d ≡ drawn s buffer → (x : Refusal) → d .validity ≡ Refused x → Narrow (x .offset)
-drawn-narrow s buffer same = validity-narrow (omega arith) (drawn-placed s buffer) (ap (λ (d : Drawn). d .validity) same)
+pub drawn-narrow : (κ : Construction) (s buffer : List ℕ) {d : Drawn} → d ≡ drawn κ s buffer → (x : Refusal) → d .validity ≡ Refused x → Narrow (x .offset)
+drawn-narrow κ s buffer same = validity-narrow (omega arith) (drawn-placed κ s buffer) (ap (λ (d : Drawn). d .validity) same)
 
 pub split-narrow : (s : List ℕ) (place : ℕ) {r : Split} → r ≡ split s place → (x : Refusal) → r .validity ≡ Refused x → Narrow (x .offset)
 split-narrow s place same = validity-narrow (omega arith) (split-placed s place) (ap (λ (r : Split). r .validity) same)
 
-pub stepped-narrow : (s : List ℕ) (c : Configuration) (e : ℕ) {r : Stepped} → r ≡ stepReply s c e → (x : Refusal) → r .outcome ≡ Refuses x → Narrow (x .offset)
-stepped-narrow s c e same x p = omega (arith, step-told s c e x (ap (λ (r : Stepped). r .outcome) (sym same) ∙ p) .near)
+pub stepped-narrow : (κ : Construction) (s : List ℕ) (c : Configuration) (e : ℕ) {r : Stepped} → r ≡ stepReply κ s c e → (x : Refusal) → r .outcome ≡ Refuses x → Narrow (x .offset)
+stepped-narrow κ s c e same x p = omega (arith, step-told κ s c e x (ap (λ (r : Stepped). r .outcome) (sym same) ∙ p) .near)
 
-pub ended-narrow : (s : List ℕ) (budget : ℕ) (m : List ℤ) {r : Ended} → r ≡ budgetReply s budget m → (x : Refusal) → r .ending ≡ Halts x → Narrow (x .offset)
-ended-narrow s budget m same x p = omega (arith, budget-told s budget m x (ap (λ (r : Ended). r .ending) (sym same) ∙ p) .near)
+pub ended-narrow : (κ : Construction) (s : List ℕ) (budget : ℕ) (m : List ℤ) {r : Ended} → r ≡ budgetReply κ s budget m → (x : Refusal) → r .ending ≡ Halts x → Narrow (x .offset)
+ended-narrow κ s budget m same x p = omega (arith, budget-told κ s budget m x (ap (λ (r : Ended). r .ending) (sym same) ∙ p) .near)
 
-pub verdict-narrow : (s initial solution : List ℕ) {v : Verdict} → v ≡ verdict s initial solution
+pub verdict-narrow : (κ : Construction) (s initial solution : List ℕ) {v : Verdict} → v ≡ verdict κ s initial solution
     → ((x : Refusal) → v ≡ Declines x → Narrow (x .offset)) × ((w : WrongByte) → v ≡ Malformed w → Narrow (w .offset))
-verdict-narrow s initial solution same =
-    let told = verdict-told s initial solution in
+verdict-narrow κ s initial solution same =
+    let told = verdict-told κ s initial solution in
     (λ x e. omega (arith, told .refused x (sym same ∙ e) .near), λ w e. omega (arith, told .wrong w (sym same ∙ e)))
 
 pub marking-narrow : (s solution : List ℕ) {m : Marking} → m ≡ marking s solution
@@ -315,10 +317,10 @@ marking-narrow s solution same =
     let told = marking-told s solution in
     (λ x e. omega (arith, told .refused x (sym same ∙ e) .near), λ w e. omega (arith, told .wrong w (sym same ∙ e)))
 
-pub solved-narrow : (s initial buffer : List ℕ) {r : Solved} → r ≡ solved s initial buffer
+pub solved-narrow : (κ : Construction) (s initial buffer : List ℕ) {r : Solved} → r ≡ solved κ s initial buffer
     → ((x : Refusal) → r .solving ≡ SolveRefused x → Narrow (x .offset)) × ((w : WrongByte) → r .solving ≡ SolveMalformed w → Narrow (w .offset))
-solved-narrow s initial buffer same =
-    let told = solved-told s initial buffer in
+solved-narrow κ s initial buffer same =
+    let told = solved-told κ s initial buffer in
     let solving = ap (λ (r : Solved). r .solving) (sym same) in
     (λ x e. omega (arith, told .refused x (solving ∙ e) .near), λ w e. omega (arith, told .wrong w (solving ∙ e)))
 

@@ -10,6 +10,7 @@ use lib.ListN.{length, getD, take, drop}
 use Rattle.program.specs.Drawing.{drawingRow}
 use Rattle.program.specs.File.{nameCount}
 use Rattle.program.specs.Questions.{validationRow, inputRow, programPart, initialPart}
+use Rattle.program.specs.declared.Construction.{Construction}
 use Rattle.semantics.specs.Budget.{runRow}
 use Rattle.semantics.specs.Step.{Configuration, stepRow}
 use Rattle.analysis.specs.Solver.{solverRow}
@@ -52,7 +53,7 @@ partsTold program initial xs =
 unfoldable pub parts : List ℕ → Told
 parts s = partsTold (programPart s) (initialPart s) (inputRow s)
 
--- ---- the graph drawn into a buffer: nodes, edges
+-- ---- the graph by a construction, drawn into a buffer: nodes, edges. Of this and of all that follow a graph, a call's number names the construction
 
 abbrev pub drawingRoom : ℕ
 drawingRoom = 5
@@ -61,8 +62,8 @@ drawingRoom = 5
 unfoldable pub twoTold : List ℕ → Told
 twoTold xs = cond (eqb (length xs) 3) (answered (xs ! 0) ((xs ! 1) ∷ (xs ! 2) ∷ [])) (refused (xs ! 0) (xs ! 1) ((xs ! 2) ∷ (xs ! 3) ∷ []))
 
-unfoldable pub drew : List ℕ → List ℕ → Told
-drew s buffer = twoTold (drawingRow s buffer)
+unfoldable pub drew : Construction → List ℕ → List ℕ → Told
+drew κ s buffer = twoTold (drawingRow κ s buffer)
 
 -- ---- a step along an edge, answered 0 or the reason's number, and a budgeted run, answered 0, 1 or 2: node, count
 
@@ -73,11 +74,11 @@ runRoom = 5
 abbrev pub standing : ℕ → ℕ → List ℤ → Configuration
 standing node count m = record { run = record { node = node; count = count }; memory = m }
 
-unfoldable pub stepped : List ℕ → Configuration → ℕ → Told
-stepped s c e = twoTold (stepRow s c e)
+unfoldable pub stepped : Construction → List ℕ → Configuration → ℕ → Told
+stepped κ s c e = twoTold (stepRow κ s c e)
 
-unfoldable pub ran : List ℕ → ℕ → List ℤ → Told
-ran s budget m = twoTold (runRow s budget m)
+unfoldable pub ran : Construction → List ℕ → ℕ → List ℤ → Told
+ran κ s budget m = twoTold (runRow κ s budget m)
 
 -- ---- the verdict on a sheet, answered 0, 41 or 42: the record and the edge of 41 or 42; "the offending record itself, as a part of whichever of the two lists it lies in",
 -- by its offset and length, in the start list after 41 and in the sheet after 42; and of an accepted sheet its index mark, 1 for clean and 2 otherwise, with its record and edge
@@ -104,8 +105,8 @@ verdictTold names xs =
     (cond (eqb (length xs) 3) (malformed (xs ! 1) (xs ! 2) (0 ∷ 0 ∷ 0 ∷ 0 ∷ 0 ∷ 0 ∷ 0 ∷ []))
     (refused (xs ! 0) (xs ! 1) (0 ∷ 0 ∷ 0 ∷ 0 ∷ 0 ∷ 0 ∷ 0 ∷ [])))))
 
-unfoldable pub judged : List ℕ → List ℕ → List ℕ → Told
-judged s initial solution = verdictTold (nameCount s) (verdictRow s initial solution)
+unfoldable pub judged : Construction → List ℕ → List ℕ → List ℕ → Told
+judged κ s initial solution = verdictTold (nameCount s) (verdictRow κ s initial solution)
 
 -- the number at a place of a row that is told
 abbrev pub toldAt : Told → ℕ → ℕ
@@ -142,8 +143,8 @@ solverTold xs =
     (cond (eqb (length xs) 3) (refused (xs ! 0) (xs ! 1) ((xs ! 2) ∷ []))
     (cond (eqb (xs ! 0) 0) (answered 0 ((xs ! 1) ∷ [])) (refused (xs ! 0) 0 ((xs ! 1) ∷ []))))
 
-unfoldable pub solved : List ℕ → List ℕ → List ℕ → Told
-solved s initial buffer = solverTold (solverRow s initial buffer)
+unfoldable pub solved : Construction → List ℕ → List ℕ → List ℕ → Told
+solved κ s initial buffer = solverTold (solverRow κ s initial buffer)
 
 -- ---- a place in a sheet: record, column
 
@@ -173,4 +174,4 @@ joined a b = figuresTold (joinRow a b)
 -- ---- the number of the version, as the pkg-config file has it
 
 unfoldable pub version : ℕ
-version = 2
+version = 3

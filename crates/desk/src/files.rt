@@ -1,6 +1,7 @@
 // Program files: validated, taken apart and drawn. A place is narrowed to 32 bits: that it fits is a condition of a head, which holds of every answer.
 
 ghost use mathlib.Core.Path.{_≡_};
+ghost use Rattle.program.specs.Graph;
 ghost use Rattle.program.specs.Drawing;
 ghost use Rattle.program.specs.declared.Refusal.{Refusal};
 ghost use Rattle.desk.specs.Parts.Heads as heads;
@@ -77,17 +78,22 @@ pub extern "C" fn pizwoter_input_parts(input: &[u8], reply: &mut [i64]) -> i32
     }
 }
 
-// The graph into a buffer.
+// The graph by the construction that a number names, into a buffer.
 #[no_mangle]
-pub extern "C" fn pizwoter_draw(program: &[u8], buffer: &mut [u8], reply: &mut [i64]) -> i32
-    ensures { λ r. ⌜ spec.Tells row.drawingRoom (row.drew (now (program .entry)) (now (buffer .entry))) (now (reply .entry)) r (now (reply .exit)) ⌝ }
+pub extern "C" fn pizwoter_draw(
+    program: &[u8],
+    construction: u32,
+    buffer: &mut [u8],
+    reply: &mut [i64],
+) -> i32
+    ensures { λ r. ⌜ spec.Tells row.drawingRoom (row.drew (Graph.named construction) (now (program .entry)) (now (buffer .entry))) (now (reply .entry)) r (now (reply .exit)) ⌝ }
     ensures buffer { λ _. ⌜ now (buffer .exit)
-        ≡ spec.unlessShort row.drawingRoom (now (reply .entry)) (Drawing.drawnBuffer (now (program .entry)) (now (buffer .entry))) (now (buffer .entry)) ⌝ }
+        ≡ spec.unlessShort row.drawingRoom (now (reply .entry)) (Drawing.drawnBuffer (Graph.named construction) (now (program .entry)) (now (buffer .entry))) (now (buffer .entry)) ⌝ }
 {
     if reply.len() < DRAWING {
         return reply::SHORT;
     }
-    let drawn = drawing::draw(program, buffer);
+    let drawn = drawing::draw_on(drawing::named(construction), program, buffer);
     let v = drawn.validity;
     reply::put(
         of_validity(v),

@@ -22,5 +22,5 @@ pub(crate) enum Head {
 pub extern "C" fn pizwoter_version() -> u32
     ensures { λ r. ⌜ r ≡ row.version ⌝ }
 {
-    2
+    3
 }

@@ -1,6 +1,7 @@
 // Sheets judged, and the index mark of one.
 
 ghost use mathlib.Core.Path.{_≡_};
+ghost use Rattle.program.specs.Graph;
 ghost use Rattle.program.specs.declared.Refusal.{Refusal};
 ghost use Rattle.analysis.specs.Records;
 ghost use Rattle.desk.specs.Accepting;
@@ -15,6 +16,7 @@ use analysis::RecordList;
 use analysis::Verdict;
 use analysis::WrongByte;
 use analysis::judging;
+use program::drawing;
 use program::file;
 
 // The numbers of each row.
@@ -85,21 +87,22 @@ fn behind(names: u16, v: Verdict) -> [u32; 7]
     }
 }
 
-// The verdict on a sheet. Where the row written says that it is accepted, the third term holds of it.
+// The verdict on a sheet, for the graph by the construction that a number names. Where the row written says that it is accepted, the third term holds of it.
 #[no_mangle]
 pub extern "C" fn pizwoter_judge(
     program: &[u8],
+    construction: u32,
     initial: &[u8],
     solution: &[u8],
     reply: &mut [i64],
 ) -> i32
-    ensures { λ r. ⌜ spec.Tells row.verdictRoom (row.judged (now (program .entry)) (now (initial .entry)) (now (solution .entry))) (now (reply .entry)) r (now (reply .exit)) ⌝ }
-    ensures third { λ r. ⌜ Accepting.ThirdTermTold (now (program .entry)) (now (initial .entry)) (now (solution .entry)) r (now (reply .exit)) ⌝ }
+    ensures { λ r. ⌜ spec.Tells row.verdictRoom (row.judged (Graph.named construction) (now (program .entry)) (now (initial .entry)) (now (solution .entry))) (now (reply .entry)) r (now (reply .exit)) ⌝ }
+    ensures third { λ r. ⌜ Accepting.ThirdTermTold (Graph.named construction) (now (program .entry)) (now (initial .entry)) (now (solution .entry)) r (now (reply .exit)) ⌝ }
 {
     if reply.len() < VERDICT {
         return reply::SHORT;
     }
-    let verdict = judging::judge(program, initial, solution);
+    let verdict = judging::judge_on(drawing::named(construction), program, initial, solution);
     let numbers = behind(file::name_count(program), verdict);
     reply::put(of_verdict(verdict), &numbers, reply)
 }

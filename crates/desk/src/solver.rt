@@ -1,6 +1,7 @@
 // The solver's list, and a place in a sheet split.
 
 ghost use mathlib.Core.Path.{_≡_};
+ghost use Rattle.program.specs.Graph;
 ghost use Rattle.program.specs.declared.Refusal.{Refusal};
 ghost use Rattle.analysis.specs.Solver;
 ghost use Rattle.desk.specs.Parts.Heads as heads;
@@ -14,6 +15,7 @@ use analysis::Solving;
 use analysis::WrongByte;
 use analysis::solver;
 use analysis::splitting;
+use program::drawing;
 
 // The numbers of each row.
 const SOLVER: usize = 4;
@@ -34,22 +36,23 @@ fn of_solving(solving: Solving) -> Head
     }
 }
 
-// The solver's list into a buffer.
+// The solver's list into a buffer, on the graph by the construction that a number names.
 #[no_mangle]
 pub extern "C" fn pizwoter_solve(
     program: &[u8],
+    construction: u32,
     initial: &[u8],
     buffer: &mut [u8],
     reply: &mut [i64],
 ) -> i32
-    ensures { λ r. ⌜ spec.Tells row.solverRoom (row.solved (now (program .entry)) (now (initial .entry)) (now (buffer .entry))) (now (reply .entry)) r (now (reply .exit)) ⌝ }
+    ensures { λ r. ⌜ spec.Tells row.solverRoom (row.solved (Graph.named construction) (now (program .entry)) (now (initial .entry)) (now (buffer .entry))) (now (reply .entry)) r (now (reply .exit)) ⌝ }
     ensures buffer { λ _. ⌜ now (buffer .exit)
-        ≡ spec.unlessShort row.solverRoom (now (reply .entry)) (Solver.solvedBuffer (now (program .entry)) (now (initial .entry)) (now (buffer .entry))) (now (buffer .entry)) ⌝ }
+        ≡ spec.unlessShort row.solverRoom (now (reply .entry)) (Solver.solvedBuffer (Graph.named construction) (now (program .entry)) (now (initial .entry)) (now (buffer .entry))) (now (buffer .entry)) ⌝ }
 {
     if reply.len() < SOLVER {
         return reply::SHORT;
     }
-    let solved = solver::solve(program, initial, buffer);
+    let solved = solver::solve_on(drawing::named(construction), program, initial, buffer);
     let solving = solved.solving;
     reply::put(of_solving(solving), &[solved.count as u32], reply)
 }

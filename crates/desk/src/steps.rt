@@ -2,6 +2,7 @@
 
 ghost use mathlib.Core.Path.{_≡_};
 ghost use Rattle.signs.specs.Number;
+ghost use Rattle.program.specs.Graph;
 ghost use Rattle.program.specs.declared.Refusal.{Refusal};
 ghost use Rattle.semantics.specs.Budget;
 ghost use Rattle.semantics.specs.Step;
@@ -10,6 +11,7 @@ ghost use Rattle.desk.specs.Reply as spec;
 ghost use Rattle.desk.specs.Rows as row;
 use crate::Head;
 use crate::reply;
+use program::drawing;
 use semantics::Ending;
 use semantics::Outcome;
 use semantics::Run;
@@ -48,25 +50,26 @@ fn of_outcome(outcome: Outcome) -> Head
     }
 }
 
-// A run at a node, with so many edges taken, stepped along an edge.
+// A run at a node, with so many edges taken, stepped along an edge of the graph by the construction that a number names.
 #[no_mangle]
 pub extern "C" fn pizwoter_step(
     program: &[u8],
+    construction: u32,
     node: u16,
     count: u16,
     edge: u16,
     memory: &mut [i32],
     reply: &mut [i64],
 ) -> i32
-    ensures { λ r. ⌜ spec.Tells row.runRoom (row.stepped (now (program .entry)) (row.standing node count (now (memory .entry))) edge) (now (reply .entry)) r (now (reply .exit)) ⌝ }
+    ensures { λ r. ⌜ spec.Tells row.runRoom (row.stepped (Graph.named construction) (now (program .entry)) (row.standing node count (now (memory .entry))) edge) (now (reply .entry)) r (now (reply .exit)) ⌝ }
     ensures memory { λ _. ⌜ now (memory .exit)
-        ≡ spec.unlessShort row.runRoom (now (reply .entry)) (Step.programStep (now (program .entry)) (row.standing node count (now (memory .entry))) edge .memory) (now (memory .entry)) ⌝ }
+        ≡ spec.unlessShort row.runRoom (now (reply .entry)) (Step.programStep (Graph.named construction) (now (program .entry)) (row.standing node count (now (memory .entry))) edge .memory) (now (memory .entry)) ⌝ }
 {
     if reply.len() < RUN {
         return reply::SHORT;
     }
     let run = Run { node, count };
-    let stepped = run.step(program, edge, memory);
+    let stepped = run.step_on(drawing::named(construction), program, edge, memory);
     let outcome = stepped.outcome;
     reply::put(
         of_outcome(outcome),
@@ -88,22 +91,23 @@ fn of_ending(ending: Ending) -> Head
     }
 }
 
-// A run from node 0 with a budget.
+// A run from node 0 with a budget, on such a graph.
 #[no_mangle]
 pub extern "C" fn pizwoter_run(
     program: &[u8],
+    construction: u32,
     budget: u16,
     memory: &mut [i32],
     reply: &mut [i64],
 ) -> i32
-    ensures { λ r. ⌜ spec.Tells row.runRoom (row.ran (now (program .entry)) budget (now (memory .entry))) (now (reply .entry)) r (now (reply .exit)) ⌝ }
+    ensures { λ r. ⌜ spec.Tells row.runRoom (row.ran (Graph.named construction) (now (program .entry)) budget (now (memory .entry))) (now (reply .entry)) r (now (reply .exit)) ⌝ }
     ensures memory { λ _. ⌜ now (memory .exit)
-        ≡ spec.unlessShort row.runRoom (now (reply .entry)) (Budget.programBudgeted (now (program .entry)) budget (now (memory .entry)) .final .memory) (now (memory .entry)) ⌝ }
+        ≡ spec.unlessShort row.runRoom (now (reply .entry)) (Budget.programBudgeted (Graph.named construction) (now (program .entry)) budget (now (memory .entry)) .final .memory) (now (memory .entry)) ⌝ }
 {
     if reply.len() < RUN {
         return reply::SHORT;
     }
-    let ended = running::run(program, budget, memory);
+    let ended = running::run_on(drawing::named(construction), program, budget, memory);
     let ending = ended.ending;
     reply::put(
         of_ending(ending),

@@ -10,6 +10,7 @@ use lib.ListN.{length, getD, length-append}
 use Rattle.signs.specs.Lists.{tabulate}
 use Rattle.program.specs.File.{sizes}
 use Rattle.program.specs.Graph.{graph}
+use Rattle.program.specs.declared.Construction.the-variants.{Nondeterministic}
 use Rattle.program.specs.declared.Refusal.{Refusal}
 use Rattle.program.proofs.Lists.{each-at}
 use Rattle.program.proofs.Tests.{two}
@@ -103,4 +104,4 @@ module _ (s : List ℕ) (rs : List (List ℕ)) {nodes room : ℕ} (all : FormedL
   listing-short low few names =
       rw (listing-parts s rs)
       (simp length-append
-      (omega (arith, counts-short (graph s .nodes) (length (graph s .edges)) (length rs), lines-short (recordListed s rs) (length rs) (record-listed low (omega arith) names), index-short (indexMark (sizes s) (graph s) (flatten rs)), all .few)))
+      (omega (arith, counts-short (graph Nondeterministic s .nodes) (length (graph Nondeterministic s .edges)) (length rs), lines-short (recordListed s rs) (length rs) (record-listed low (omega arith) names), index-short (indexMark (sizes s) (graph Nondeterministic s) (flatten rs)), all .few)))

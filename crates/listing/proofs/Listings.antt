@@ -8,6 +8,7 @@ use Rattle.signs.specs.Lists.{tabulate}
 use Rattle.program.specs.Drawing.{over}
 use Rattle.program.specs.File.{nameCount, sizes}
 use Rattle.program.specs.Graph.{graph}
+use Rattle.program.specs.declared.Construction.the-variants.{Nondeterministic}
 use Rattle.program.proofs.Laws.{sizes-length}
 use Rattle.program.proofs.Lists.{concat-append, tabulate-same}
 use Rattle.analysis.specs.Records.{recordWidth, recordAt, nodeOf, memoryOf}
@@ -26,20 +27,20 @@ pub listing-parts : (s : List ℕ) (rs : List (List ℕ)) → flatMap lineText (
     ≡ lineText (countsOf s (length rs)) ++ flatMap lineText (tabulate (length rs) (recordListed s rs)) ++ lineText (indexOf s (flatten rs))
 unfolding listing countsOf indexOf recordListed flatMap lineText
 listing-parts s rs =
-    let counts = countsLine (graph s .nodes) (length (graph s .edges)) (length rs) in
-    let index = indexLine (indexMark (sizes s) (graph s) (flatten rs)) in
+    let counts = countsLine (graph Nondeterministic s .nodes) (length (graph Nondeterministic s .edges)) (length rs) in
+    let index = indexLine (indexMark (sizes s) (graph Nondeterministic s) (flatten rs)) in
     concat-append lineText (counts ∷ tabulate (length rs) (recordListed s rs)) (index ∷ [])
     ∙ ap (λ text. flatMap lineText (counts ∷ tabulate (length rs) (recordListed s rs)) ++ text) (append-nil (lineText index))
 
 -- a buffer that begins with the records, each of them well formed
-module _ (s : List ℕ) (rs : List (List ℕ)) {room : ℕ} (few : room ≤ 4096) (all : FormedList (sizes s) (graph s .nodes) room rs) (before : List ℕ) where
+module _ (s : List ℕ) (rs : List (List ℕ)) {room : ℕ} (few : room ≤ 4096) (all : FormedList (sizes s) (graph Nondeterministic s .nodes) room rs) (before : List ℕ) where
   width-is : recordWidth (sizes s) ≡ 2 + nameCount s
   unfolding recordWidth
   width-is = ap (λ n. 2 + n) (sizes-length s)
 
   read-at : (k : ℕ) → k < length rs → recordAt (2 + nameCount s) (over (flatten rs) before) k ≡ getD rs k []
   unfolding over
-  read-at k h = rw (← width-is) (record-laid rs (sized-each (sizes s) (graph s) room few rs all) _ k h)
+  read-at k h = rw (← width-is) (record-laid rs (sized-each (sizes s) (graph Nondeterministic s) room few rs all) _ k h)
 
   line-read : (k : ℕ) → k < length rs → lineAt (nameCount s) (over (flatten rs) before) k ≡ recordListed s rs k
   unfolding lineAt recordListed
@@ -49,7 +50,7 @@ module _ (s : List ℕ) (rs : List (List ℕ)) {room : ℕ} (few : room ≤ 4096
 
   pub front-is : take ((2 + nameCount s) * length rs) (over (flatten rs) before) ≡ flatten rs
   unfolding over
-  front-is = take-at (flatten rs) _ ((2 + nameCount s) * length rs) (rw (← width-is) (flat-length rs (sized-each (sizes s) (graph s) room few rs all)))
+  front-is = take-at (flatten rs) _ ((2 + nameCount s) * length rs) (rw (← width-is) (flat-length rs (sized-each (sizes s) (graph Nondeterministic s) room few rs all)))
 
   pub listing-read : listingText s (over (flatten rs) before) (length rs) ≡ flatMap lineText (listing s rs)
   unfolding listingText recordsText

@@ -11,6 +11,7 @@ use Rattle.program.specs.Drawing.{over, drawn, drawnBy, drawValidity}
 use Rattle.program.specs.File.{nameCount, sizes}
 use Rattle.program.specs.Graph.{graph, edges, edgeCount, nodeCount}
 use Rattle.program.specs.Questions.{validity, inputValidity, programPart, initialPart}
+use Rattle.program.specs.declared.Construction.the-variants.{Nondeterministic}
 use Rattle.program.specs.declared.Drawn.{Drawn}
 use Rattle.program.specs.declared.Refusal.{Refusal}
 use Rattle.program.specs.declared.Validity.{Validity}
@@ -40,12 +41,12 @@ use Rattle.listing.proofs.Listings.{front-is, listing-read}
 -- ---- Counts and index line
 
 -- the counts as the drawing replies them
-pub drawn-counts : (s buffer : List ℕ) (count : ℕ) → validity s ≡ Fit → length buffer ≡ 1785 → {d : Drawn} → d ≡ drawn s buffer → countsLine (d .nodes) (d .edges) count ≡ countsOf s count
+pub drawn-counts : (s buffer : List ℕ) (count : ℕ) → validity s ≡ Fit → length buffer ≡ 1785 → {d : Drawn} → d ≡ drawn Nondeterministic s buffer → countsLine (d .nodes) (d .edges) count ≡ countsOf s count
 unfolding drawn drawnBy drawValidity thenAsk ask countsOf nodeCount edgeCount edges
-drawn-counts s buffer count fit long e = rw (e, fit, le-leb (7 * length (graph s .edges)) (length buffer) (omega (arith, few-edges s fit)))
+drawn-counts s buffer count fit long e = rw (e, fit, le-leb (7 * length (graph Nondeterministic s .edges)) (length buffer) (omega (arith, few-edges s fit Nondeterministic)))
 
 -- the mark that comes back
-pub mark-told : (s bytes : List ℕ) {m : Marking} {mark : Mark} → WellMarked s bytes → m ≡ marking s bytes → m ≡ Marked mark → mark ≡ indexMark (sizes s) (graph s) bytes
+pub mark-told : (s bytes : List ℕ) {m : Marking} {mark : Mark} → WellMarked s bytes → m ≡ marking s bytes → m ≡ Marked mark → mark ≡ indexMark (sizes s) (graph Nondeterministic s) bytes
 mark-told s bytes well e told = cc
 
 pub never-declined : {A : Type 0} (s bytes : List ℕ) {m : Marking} {x : Refusal} → WellMarked s bytes → m ≡ marking s bytes → m ≡ Declined x → A
@@ -143,9 +144,9 @@ unfolding roomOf
 few input = omega arith
 
 sheet-list : (input : List ℕ) → inputValidity input ≡ Fit → initialFormed (sizes (programPart input)) (initialPart input) ≡ Fit
-    → FormedList (sizes (programPart input)) (graph (programPart input) .nodes) (roomOf (sizes (programPart input)) 65536) (sheetOf input .records)
+    → FormedList (sizes (programPart input)) (graph Nondeterministic (programPart input) .nodes) (roomOf (sizes (programPart input)) 65536) (sheetOf input .records)
 unfolding sheetOf
-sheet-list input fit formed = solution-list (programPart input) (initialPart input) (program-fit input fit) formed _
+sheet-list input fit formed = solution-list Nondeterministic (programPart input) (initialPart input) (program-fit input fit) formed _
 
 -- the reply to an input that passes its own questions, over a buffer of 65,536 bytes
 module _ (input : List ℕ) (fit : inputValidity input ≡ Fit) where
@@ -161,7 +162,7 @@ module _ (input : List ℕ) (fit : inputValidity input ≡ Fit) where
 
   -- the parts as they are handed to the solver
   module _ {program initial : List ℕ} (p : program ≡ programPart input) (q : initial ≡ initialPart input) (buffer : List ℕ) (long : length buffer ≡ 65536) {r : Solved}
-      (e : r ≡ solved program initial buffer) where
+      (e : r ≡ solved Nondeterministic program initial buffer) where
     reply-is : r ≡ solvedWith Fit (initialFormed (sizes (programPart input)) (initialPart input)) (sheetOf input)
     unfolding solved solutionIn sheetOf
     reply-is = e ∙ rw (p, q, long, start-whole)
@@ -192,7 +193,7 @@ module _ (input : List ℕ) (fit : inputValidity input ≡ Fit) where
       unfolding solvedWith
       count-is = ap (λ (x : Solved). x .count) reply-is ∙ rw (answers .0)
 
-      after-is : solvedBuffer program initial buffer ≡ over (flatten (sheetOf input .records)) buffer
+      after-is : solvedBuffer Nondeterministic program initial buffer ≡ over (flatten (sheetOf input .records)) buffer
       unfolding solvedBuffer solutionIn sheetOf bufferWith
       after-is = rw (p, q, long, start-whole, answers .0)
 
@@ -200,16 +201,16 @@ module _ (input : List ℕ) (fit : inputValidity input ≡ Fit) where
       unfolding thenAsk ask
       printed = later input fit (answers .0) (answers .1)
 
-      pub finished-told : {after : List ℕ} → after ≡ solvedBuffer program initial buffer → listingText program after (r .count) ≡ printedText input
+      pub finished-told : {after : List ℕ} → after ≡ solvedBuffer Nondeterministic program initial buffer → listingText program after (r .count) ≡ printedText input
       finished-told same =
           rw (same, after-is, p, count-is, listing-printed input printed)
           (listing-read (programPart input) (sheetOf input .records) (few input) (sheet-list input fit (answers .0)) buffer)
 
-      pub finished-marked : {after : List ℕ} → after ≡ solvedBuffer program initial buffer → WellMarked program (take ((2 + nameCount program) * r .count) after)
+      pub finished-marked : {after : List ℕ} → after ≡ solvedBuffer Nondeterministic program initial buffer → WellMarked program (take ((2 + nameCount program) * r .count) after)
       unfolding sheetOf
       finished-marked same =
           rw (same, after-is, p, count-is, front-is (programPart input) (sheetOf input .records) (few input) (sheet-list input fit (answers .0)) buffer)
-          (solution-marked (programPart input) (initialPart input) (program-fit input fit) (answers .0) _ (few input))
+          (solution-marked Nondeterministic (programPart input) (initialPart input) (program-fit input fit) (answers .0) _ (few input))
 
 -- ---- The room that any text needs
 
@@ -227,7 +228,7 @@ module _ (input : List ℕ) (e : printValidity input (sheetOf input) ≡ Fit) wh
   sheet-short =
       let s = programPart input in
       let fit = program-fit input passed-input in
-      listing-short s (sheetOf input .records) (sheet-list input passed-input passed-start) (omega (arith, few-nodes s fit)) (few input)
+      listing-short s (sheetOf input .records) (sheet-list input passed-input passed-start) (omega (arith, few-nodes s fit Nondeterministic)) (few input)
       (omega (arith, sizes-length s, counts s fit .names))
 
 pub text-short : (input : List ℕ) → length (printedText input) ≤ 300000

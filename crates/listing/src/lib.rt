@@ -14,6 +14,7 @@ use analysis::Solving;
 use analysis::judging;
 use analysis::solver;
 use libc::STDOUT_FILENO;
+use program::Construction;
 use program::Validity;
 use program::drawing;
 use program::file;
@@ -29,7 +30,7 @@ fn put_counts_of(program: &[u8], count: u16, out: &mut [u8]) -> usize
     ensures { λ r. ⌜ parts.Put 0 (spec.lineText (parts.countsOf (now (program .entry)) count)) (now (out .entry)) (now (out .exit)) r ⌝ }
 {
     let mut edges = [0u8; drawing::BYTES];
-    let d = drawing::draw(program, &mut edges);
+    let d = drawing::draw_on(Construction::Nondeterministic, program, &mut edges);
     lines::put_counts(d.nodes, d.edges, count, 0, out)
 }
 
@@ -66,7 +67,12 @@ fn render_fit(input: &[u8], out: &mut [u8]) -> usize
 {
     let program = validation::program_part(input);
     let mut buffer = [0u8; 65536];
-    let solved = solver::solve(program, validation::initial_part(input), &mut buffer);
+    let solved = solver::solve_on(
+        Construction::Nondeterministic,
+        program,
+        validation::initial_part(input),
+        &mut buffer,
+    );
     let solving = solved.solving;
     match solving {
         Solving::Finished => put_listing(program, &buffer, solved.count, out),

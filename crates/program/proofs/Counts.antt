@@ -1,18 +1,19 @@
 -- A well-formed program has at most 129 nodes and 255 edges: its tree has as many commands as its table, since each entry but the last is used once.
 use mathlib.Core.Path.{_≡_, refl, sym, _∙_, ap}
 use mathlib.Core.Bool.{Bool, cond}
-use mathlib.Core.List.{List, [], _∷_}
+use mathlib.Core.List.{List, [], _∷_, _++_}
 use Prim.Native.Nat.{ℕ, zero, suc, _+_, _*_, _≤_, _<_}
 use native.Mathlib.Nat.{zero-mul, one-mul, add-mul}
 use native.Mathlib.Omega.{arith}
 use lib.ListN.{length, length-append}
 use Rattle.program.specs.File.{entryCount, entry}
-use Rattle.program.specs.Graph.{leave, edge, Around, within, part, graph, edges, edgeCount, nodeCount}
+use Rattle.program.specs.Graph.{leave, edge, Around, within, past, guards, part, graph, edges, edgeCount, nodeCount}
 use Rattle.program.specs.Kind.{Role, Unused, Half, Variable, Array, To, Shape, Unknown, Known, kinds, shape, tableOf, commandKind}
 use Rattle.program.specs.Questions.{sameTable, limit, refersTo, shapeUses, entryUses, tableUses, uses, validity}
 use Rattle.program.specs.Parts.Sorted.{commandSize}
 use Rattle.program.specs.Syntax.{Command}
 use Rattle.program.specs.Tree.{commandNode, commandTrees, commandAt, lastCommand, script, commandMade}
+use Rattle.program.specs.declared.Construction.{Construction}
 use Rattle.program.specs.declared.Entry.{Entry}
 use Rattle.program.specs.declared.Sort.the-variants.{Expression, Condition, Command as Commanding, Guarded}
 use Rattle.program.specs.declared.Table.{Table}
@@ -27,31 +28,31 @@ use Rattle.program.proofs.Sums.{total, total-same, total-zero, total-on
 use Rattle.program.proofs.Trees.{command-below}
 
 -- what a command's edges and fresh nodes are bounded by, where a guarded command has nothing to spare
-record Bounded (spare : ℕ) (o : Around) (c : Command) (a b n : ℕ) : Type 0 where
-  edges-bounded : length (part o c a b n .edges) + 2 * n ≤ 2 * part o c a b n .fresh + spare
-  nodes-bounded : 2 * part o c a b n .fresh + spare ≤ 2 * n + commandSize c
+record Bounded (κ : Construction) (spare : ℕ) (o : Around) (c : Command) (a b n : ℕ) : Type 0 where
+  edges-bounded : length (part κ o c a b n .edges) + 2 * n ≤ 2 * part κ o c a b n .fresh + spare
+  nodes-bounded : 2 * part κ o c a b n .fresh + spare ≤ 2 * n + commandSize c
 
-bounded : {s : List ℕ} {g : Bool} {k : ℕ} {c : Command} → Made s g k c → (o : Around) (a b n : ℕ) → Bounded (cond g 0 1) o c a b n
+bounded : {s : List ℕ} {g : Bool} {k : ℕ} {c : Command} → Made s g k c → (κ : Construction) (o : Around) (a b n : ℕ) → Bounded κ (cond g 0 1) o c a b n
 unfolding part commandSize
-bounded (makeSkip e) o a b n = omega arith
-bounded (makeAssign e x v) o a b n = omega arith
-bounded (makeStore e x i v) o a b n = omega arith
-bounded (makeSequence {c = x} {d = y} e l m c d) o a b n =
-    let first = bounded c o a n (n + 1) in
-    let second = bounded d o n b (part o x a n (n + 1) .fresh) in
-    let joined = length-append (part o x a n (n + 1) .edges) (part o y n b (part o x a n (n + 1) .fresh) .edges) in
+bounded (makeSkip e) κ o a b n = omega arith
+bounded (makeAssign e x v) κ o a b n = omega arith
+bounded (makeStore e x i v) κ o a b n = omega arith
+bounded (makeSequence {c = x} {d = y} e l m c d) κ o a b n =
+    let first = bounded c κ o a n (n + 1) in
+    let second = bounded d κ o n b (part κ o x a n (n + 1) .fresh) in
+    let joined = length-append (part κ o x a n (n + 1) .edges) (part κ o y n b (part κ o x a n (n + 1) .fresh) .edges) in
     omega arith
-bounded (makeConditional e l c) o a b n = let body = bounded c o a b n in omega arith
-bounded (makeIteration {c = x} e l c) o a b n =
-    let body = bounded c (within a b) a a n in
-    omega (arith, length-append (part (within a b) x a a n .edges) (edge a (leave x) b ∷ []))
-bounded (makeGuarded e h l c) o a b n = let body = bounded c o n b (n + 1) in omega arith
-bounded (makeChoice {c = x} {d = y} e l m c d) o a b n =
-    let first = bounded c o a b n in
-    let second = bounded d o a b (part o x a b n .fresh) in
-    let joined = length-append (part o x a b n .edges) (part o y a b (part o x a b n .fresh) .edges) in
+bounded (makeConditional e l c) κ o a b n = let body = bounded c κ (past o []) a b n in omega arith
+bounded (makeIteration {c = x} e l c) κ o a b n =
+    let body = bounded c κ (within a b) a a n in
+    omega (arith, length-append (part κ (within a b) x a a n .edges) (edge a (leave x) b ∷ []))
+bounded (makeGuarded e h l c) κ o a b n = let body = bounded c κ o n b (n + 1) in omega arith
+bounded (makeChoice {c = x} {d = y} e l m c d) κ o a b n =
+    let first = bounded c κ o a b n in
+    let second = bounded d κ (past o (o .earlier ++ guards x)) a b (part κ o x a b n .fresh) in
+    let joined = length-append (part κ o x a b n .edges) (part κ (past o (o .earlier ++ guards x)) y a b (part κ o x a b n .fresh) .edges) in
     omega arith
-bounded (makeJump e) o a b n = omega arith
+bounded (makeJump e) κ o a b n = omega arith
 
 -- an entry of the first two tables refers to no command
 no-arith-use : (r k : ℕ) (e : Entry) → shapeUses Commands r (shape Arithmetic k) e ≡ 0
@@ -164,14 +165,14 @@ module _ (s : List ℕ) where
     unfolding script size total
     script-size = omega (arith, all-sizes, ap (total size) (one-last s fit))
 
-    script-bounded : Bounded 1 (within 0 1) (script s) 0 1 2
-    script-bounded = bounded (script-made s fit) (within 0 1) 0 1 2
+    script-bounded : (κ : Construction) → Bounded κ 1 (within 0 1) (script s) 0 1 2
+    script-bounded κ = bounded (script-made s fit) κ (within 0 1) 0 1 2
 
     -- "There are at most 129 nodes and 255 arrows."
-    pub few-nodes : nodeCount s ≤ 129
+    pub few-nodes : (κ : Construction) → nodeCount κ s ≤ 129
     unfolding nodeCount graph
-    few-nodes = omega (arith, script-bounded, script-size, counts s fit .commands)
+    few-nodes κ = omega (arith, script-bounded κ, script-size, counts s fit .commands)
 
-    pub few-edges : edgeCount s ≤ 255
+    pub few-edges : (κ : Construction) → edgeCount κ s ≤ 255
     unfolding edgeCount edges graph
-    few-edges = omega (arith, script-bounded, script-size, counts s fit .commands)
+    few-edges κ = omega (arith, script-bounded κ, script-size, counts s fit .commands)

@@ -12,6 +12,7 @@ use Rattle.program.specs.File.{byteAt, wordAt, entryCount}
 use Rattle.program.specs.Parts.Sorted.{actionTable}
 use Rattle.program.specs.Graph.{Edge, edges, edgeCount, actionKind, actionEntry, wordBytes, edgeBytes, graphBytes}
 use Rattle.program.specs.Questions.{validity}
+use Rattle.program.specs.declared.Construction.{Construction}
 use Rattle.program.specs.declared.Table.{Table}
 use Rattle.program.specs.declared.Table.the-variants.{Arithmetic, Boolean, Commands}
 use Rattle.program.specs.declared.Validity.the-variants.{Fit}
@@ -59,29 +60,29 @@ read-at [] rest k d h small = absurd (not-suc-le-zero h)
 read-at (e ∷ es) rest zero d h small = read-first e (flatMap edgeBytes es ++ rest) small
 read-at (e ∷ es) rest (suc k) d h small = rw (read-next e (flatMap edgeBytes es ++ rest) k) (read-at es rest k d (le-of-suc-le-suc h) small)
 
-module _ (s : List ℕ) (fit : validity s ≡ Fit) where
+module _ (κ : Construction) (s : List ℕ) (fit : validity s ≡ Fit) where
   few-entries : (t : Table) → entryCount s t ≤ 512
   few-entries Arithmetic = counts s fit .arithmetic
   few-entries Boolean = omega (arith, counts s fit .boolean)
   few-entries Commands = omega (arith, counts s fit .commands)
 
-  small-edge : (k : ℕ) (d : Edge) → k < edgeCount s → Small (getD (edges s) k d)
+  small-edge : (k : ℕ) (d : Edge) → k < edgeCount κ s → Small (getD (edges κ s) k d)
   small-edge k d h =
-      let e = edge-inside s k d h in
-      let few = few-nodes s fit in
+      let e = edge-inside κ s k d h in
+      let few = few-nodes s fit κ in
       record {
         source = omega (arith, e .source-inside);
         target = omega (arith, e .target-inside);
-        entry = omega (arith, edge-faithful s fit k d h .exists, few-entries (actionTable (actionKind (getD (edges s) k d .action))));
+        entry = omega (arith, edge-faithful s fit κ k d h .exists, few-entries (actionTable (actionKind (getD (edges κ s) k d .action))));
       }
 
-  module _ (k : ℕ) (d : Edge) (h : k < edgeCount s) where
+  module _ (k : ℕ) (d : Edge) (h : k < edgeCount κ s) where
     -- out of bytes that begin with the graph's
-    pub edge-read : (rest : List ℕ) → edgeRead (graphBytes s ++ rest) k ≡ edgeNumbers (getD (edges s) k d)
+    pub edge-read : (rest : List ℕ) → edgeRead (graphBytes κ s ++ rest) k ≡ edgeNumbers (getD (edges κ s) k d)
     unfolding graphBytes edgeCount
-    edge-read rest = read-at (edges s) rest k d h (small-edge k d h)
+    edge-read rest = read-at (edges κ s) rest k d h (small-edge k d h)
 
     -- out of a buffer that it was drawn into
-    pub drawn-edge-read : (buffer : List ℕ) → edgeRead (over (graphBytes s) buffer) k ≡ edgeNumbers (getD (edges s) k d)
+    pub drawn-edge-read : (buffer : List ℕ) → edgeRead (over (graphBytes κ s) buffer) k ≡ edgeNumbers (getD (edges κ s) k d)
     unfolding over
-    drawn-edge-read buffer = edge-read (drop (length (graphBytes s)) buffer)
+    drawn-edge-read buffer = edge-read (drop (length (graphBytes κ s)) buffer)

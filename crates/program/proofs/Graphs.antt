@@ -14,6 +14,7 @@ use Rattle.program.specs.Parts.Prepared.{edgePlace, nodeCountPlace, edge
 use Rattle.program.specs.Parts.Preparing.{Copied, EdgeWords, GraphIn}
 use Rattle.program.specs.Questions.{validity}
 use Rattle.program.specs.Tree.{lastCommand, script}
+use Rattle.program.specs.declared.Construction.{Construction}
 use Rattle.program.specs.declared.Layout.{Layout}
 use Rattle.program.specs.declared.Span.{Span}
 use Rattle.program.specs.declared.Table.the-variants.{Commands}
@@ -48,7 +49,7 @@ words-at (x ∷ es) (suc e) k d h l =
     ap (λ (i : ℕ). getD (flatMap edgeWords (x ∷ es)) i 0) there
     ∙ getD-append-add (edgeWords x) (flatMap edgeWords es) (4 * e + k) 0 ∙ words-at es e k d (omega arith) l
 
-module _ (s : List ℕ) (fit : validity s ≡ Fit) (l : Layout) (laid : l ≡ layoutOf s) where
+module _ (κ : Construction) (s : List ℕ) (fit : validity s ≡ Fit) (l : Layout) (laid : l ≡ layoutOf s) where
   pub commands-within : Within s (l .commands)
   unfolding spanOf
   commands-within =
@@ -60,7 +61,7 @@ module _ (s : List ℕ) (fit : validity s ≡ Fit) (l : Layout) (laid : l ≡ la
       }
 
   abbrev whole : Strip
-  whole = record { words = flatMap edgeWords (edges s); fresh = nodeCount s }
+  whole = record { words = flatMap edgeWords (edges κ s); fresh = nodeCount κ s }
 
   -- where the commands are copied to the front of the graph
   module _ {old out : List ℕ} (copy : Copied s (l .commands .start) 0 (l .commands .count) old out) where
@@ -74,24 +75,24 @@ module _ (s : List ℕ) (fit : validity s ≡ Fit) (l : Layout) (laid : l ≡ la
     same-command n h = rw (lt-ltb n 256 (omega (arith, commands-within .few))) (copied-command n h)
 
     -- the program is the last of them, as a part of all
-    program-strip : strip (within 0 1) (partAt (entriesIn [] out) (l .commands .count) (l .commands .count - 1)) 0 1 2 ≡ whole
+    program-strip : strip κ (within 0 1) (partAt (entriesIn [] out) (l .commands .count) (l .commands .count - 1)) 0 1 2 ≡ whole
     unfolding strip nodeCount edges graph script lastCommand spanOf
     program-strip =
-        same-strip (entriesIn [] out) (entry s) (l .commands .count) same-command (l .commands .count - 1) (within 0 1) 0 1 2
+        same-strip (entriesIn [] out) (entry s) (l .commands .count) same-command (l .commands .count - 1) κ (within 0 1) 0 1 2
         ∙ rw (laid-count s l laid Commands, command-below (entry s) (entryCount s Commands) (entryCount s Commands - 1) (omega (arith, counts s fit .some-command)))
 
-    whole-length : length (flatMap edgeWords (edges s)) ≡ 4 * edgeCount s
+    whole-length : length (flatMap edgeWords (edges κ s)) ≡ 4 * edgeCount κ s
     unfolding edgeCount
-    whole-length = words-length (edges s)
+    whole-length = words-length (edges κ s)
 
     -- 255 edges have room, and 129 nodes numbers
-    pub program-room : Room (strip (within 0 1) (partAt (entriesIn [] out) (l .commands .count) (l .commands .count - 1)) 0 1 2) 0
+    pub program-room : Room (strip κ (within 0 1) (partAt (entriesIn [] out) (l .commands .count) (l .commands .count - 1)) 0 1 2) 0
     program-room =
         rw program-strip
-        record { words-fit = omega (arith, whole-length, few-edges s fit); nodes-fit = omega (arith, few-nodes s fit) }
+        record { words-fit = omega (arith, whole-length, few-edges s fit κ); nodes-fit = omega (arith, few-nodes s fit κ) }
 
     -- where the edges are drawn and counted
-    module _ {drawn : List ℕ} {r : ℕ} (drew : Drew (strip (within 0 1) (partAt (entriesIn [] out) (l .commands .count) (l .commands .count - 1)) 0 1 2) 0 out drawn r) where
+    module _ {drawn : List ℕ} {r : ℕ} (drew : Drew (strip κ (within 0 1) (partAt (entriesIn [] out) (l .commands .count) (l .commands .count - 1)) 0 1 2) 0 out drawn r) where
       d : Drew whole 0 out drawn r
       d = rw program-strip at drew
 
@@ -99,7 +100,7 @@ module _ (s : List ℕ) (fit : validity s ≡ Fit) (l : Layout) (laid : l ≡ la
       counted = set (set drawn nodeCountPlace (freshOf r)) edgeCountPlace (nextOf r)
 
       drawn-length : length drawn ≡ 2430
-      drawn-length = ap length (d .written) ∙ over-length edgePlace _ out (omega (arith, whole-length, few-edges s fit, d .size)) ∙ d .size
+      drawn-length = ap length (d .written) ∙ over-length edgePlace _ out (omega (arith, whole-length, few-edges s fit κ, d .size)) ∙ d .size
 
       before-counts : (i : ℕ) → i < nodeCountPlace → getD counted i 0 ≡ getD drawn i 0
       before-counts i h =
@@ -109,18 +110,18 @@ module _ (s : List ℕ) (fit : validity s ≡ Fit) (l : Layout) (laid : l ≡ la
       kept : (i : ℕ) → i < edgePlace → getD counted i 0 ≡ getD out i 0
       kept i h = before-counts i (omega arith) ∙ ap (λ (x : List ℕ). getD x i 0) (d .written) ∙ over-before edgePlace _ out i h (omega (arith, d .size))
 
-      drawn-word : (e k : ℕ) → e < edgeCount s → k < 4 → edgeIn counted e k ≡ getD (edgeWords (edgeAt (graph s) e)) k 0
+      drawn-word : (e k : ℕ) → e < edgeCount κ s → k < 4 → edgeIn counted e k ≡ getD (edgeWords (edgeAt (graph κ s) e)) k 0
       unfolding edgeIn edgeCount edges edgeAt
       drawn-word e k h m =
-          let few : e < 255 = omega (arith, few-edges s fit) in
+          let few : e < 255 = omega (arith, few-edges s fit κ) in
           rw (lt-ltb e 255 few)
           (before-counts (edgePlace + 4 * e + k) (omega arith)
           ∙ ap (λ (x : List ℕ). getD x (edgePlace + 4 * e + k) 0) (d .written)
-          ∙ ap (λ (i : ℕ). getD (overAt edgePlace (flatMap edgeWords (edges s)) out) i 0) (omega arith)
+          ∙ ap (λ (i : ℕ). getD (overAt edgePlace (flatMap edgeWords (edges κ s)) out) i 0) (omega arith)
           ∙ over-inside edgePlace _ out (4 * e + k) (omega (arith, d .size)) (omega (arith, whole-length))
-          ∙ words-at (edges s) e k _ h m)
+          ∙ words-at (edges κ s) e k _ h m)
 
-      drawn-edge : (e : ℕ) → e < edgeCount s → EdgeWords s counted e
+      drawn-edge : (e : ℕ) → e < edgeCount κ s → EdgeWords κ s counted e
       unfolding edgeWords
       drawn-edge e h =
           record {
@@ -130,7 +131,7 @@ module _ (s : List ℕ) (fit : validity s ≡ Fit) (l : Layout) (laid : l ≡ la
             entry = drawn-word e 3 h (omega arith);
           }
 
-      pub graph-filled : GraphIn s counted
+      pub graph-filled : GraphIn κ s counted
       unfolding numbersAt spanOf
       graph-filled =
           record {

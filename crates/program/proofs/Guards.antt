@@ -2,8 +2,8 @@
 use mathlib.Core.Path.{_≡_, refl, sym, ap, _∙_}
 use mathlib.Core.List.{List, [], _∷_, _++_, foldl}
 use Prim.Native.Nat.{ℕ}
-use Rattle.program.specs.Graph.{done}
-use Rattle.program.specs.Parts.Guards.{guards, allFalse}
+use Rattle.program.specs.Graph.{guards, done, selected}
+use Rattle.program.specs.Parts.Guards.{allFalse}
 use Rattle.program.specs.Syntax.{Boolean, truth, conjunction, negation, Command, skip, assign, store, sequence, conditional, iteration, guarded, choice, jump}
 
 -- a meaning of booleans: what it makes of ∧, of true, and of ¬, whose entry it does not look at
@@ -17,7 +17,7 @@ pub record Joins {A : Type 0} (h : Boolean → A) (join : A → A → A) (unit :
 
 module _ {A : Type 0} {h : Boolean → A} {join : A → A → A} {unit : A} (j : Joins h join unit) where
   -- the falsehoods of guards joined to what is there
-  abbrev folded : A → List Boolean → A
+  abbrev pub folded : A → List Boolean → A
   folded a bs = foldl (λ x b. join x (h (negation 0 b))) a bs
 
   folded-from : (a : A) (bs : List Boolean) → folded a bs ≡ join a (folded unit bs)
@@ -27,7 +27,7 @@ module _ {A : Type 0} {h : Boolean → A} {join : A → A → A} {unit : A} (j :
       ∙ j .assoc a (h (negation 0 b)) (folded unit bs)
       ∙ ap (join a) (ap (λ x. join x (folded unit bs)) (sym (j .left-unit (h (negation 0 b)))) ∙ sym (folded-from (join unit (h (negation 0 b))) bs))
 
-  folded-append : (a : A) (bs cs : List Boolean) → folded a (bs ++ cs) ≡ folded (folded a bs) cs
+  pub folded-append : (a : A) (bs cs : List Boolean) → folded a (bs ++ cs) ≡ folded (folded a bs) cs
   folded-append a [] cs = refl
   folded-append a (b ∷ bs) cs = folded-append (join a (h (negation 0 b))) bs cs
 
@@ -40,7 +40,7 @@ module _ {A : Type 0} {h : Boolean → A} {join : A → A → A} {unit : A} (j :
   all-false [] = j .yes 0
   all-false (b ∷ bs) = false-folded (negation 0 b) bs ∙ ap (λ a. folded a bs) (sym (j .left-unit (h (negation 0 b))))
 
-  done-folded : (c : Command) → h (done c) ≡ folded unit (guards c)
+  pub done-folded : (c : Command) → h (done c) ≡ folded unit (guards c)
   unfolding done guards
   done-folded (guarded k b c) = j .not-labelled k b ∙ sym (j .left-unit (h (negation 0 b)))
   done-folded (choice k c d) =
@@ -58,3 +58,13 @@ module _ {A : Type 0} {h : Boolean → A} {join : A → A → A} {unit : A} (j :
 
   pub left-to-right : (c : Command) → h (done c) ≡ h (allFalse (guards c))
   left-to-right c = done-folded c ∙ sym (all-false (guards c))
+
+  -- a guard after earlier ones: their falsehoods, left to right, and then its own
+  pub selected-folded : (earlier : List Boolean) (b : Boolean) → h (selected earlier b) ≡ join (folded unit earlier) (h b)
+  unfolding selected
+  selected-folded [] b = sym (j .left-unit (h b))
+  selected-folded (g ∷ earlier) b =
+      j .both 0 (negation 0 g) (selected earlier b)
+      ∙ ap (join (h (negation 0 g))) (selected-folded earlier b)
+      ∙ sym (j .assoc (h (negation 0 g)) (folded unit earlier) (h b))
+      ∙ ap (λ x. join x (h b)) (sym (folded-from (h (negation 0 g)) earlier) ∙ ap (λ x. folded x earlier) (sym (j .left-unit (h (negation 0 g)))))

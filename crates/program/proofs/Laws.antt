@@ -1,31 +1,36 @@
 -- The theorems on programs and their graphs for the crates above, on one page. Their proofs are in the modules that they cite.
-use mathlib.Core.Path.{_≡_}
-use mathlib.Core.Bool.{Bool, true, false, _&&_}
-use mathlib.Core.List.{List}
+use mathlib.Core.Path.{_≡_, refl}
+use mathlib.Core.Bool.{Bool, true, false, _&&_, _||_}
+use mathlib.Core.List.{List, foldl}
 use Prim.Native.Nat.{ℕ, suc, _+_, _*_, _/_, _%_, _≤_, _<_}
-use lib.Dec.{T, leb}
+use lib.Dec.{T, eqb, leb}
 use lib.IntN.{pos}
 use lib.ListN.{length, getD, take, drop}
+use Rattle.signs.specs.Lists.{allOf, anyOf}
 use Rattle.program.specs.Asking.{ask, thenAsk, isRefused, inTurn, askEach, validityNumbers}
 use Rattle.program.specs.Parts.DrawingParts.{edgeNumbers}
 use Rattle.program.specs.Drawing.{over, drawnNumbers, edgeRead}
 use Rattle.program.specs.File.{nameCount, sizeAt, sizes, entryCount, entry, cellsOf, cellCount, firstCell}
 use Rattle.program.specs.FirstSuch.{firstOf, firstSuch}
-use Rattle.program.specs.Graph.{Graph, Action, Edge, Around, within, part, done, graph, edges, edgeCount, nodeCount, graphBytes}
+use Rattle.program.specs.Graph.{Graph, Action, Edge, within, part, guards, done, selected, edgeAt, graph, edges, edgeCount, nodeCount, graphBytes}
 use Rattle.program.specs.Jumps.{loose}
 use Rattle.program.specs.Kind.{isGuarded}
-use Rattle.program.specs.Parts.Guards.{guards, allFalse}
-use Rattle.program.specs.Meaning.{meaning}
+use Rattle.program.specs.Parts.Guards.{allFalse}
+use Rattle.program.specs.Meaning.{condition, meaning}
 use Rattle.program.specs.Parts.Node.{arithForm, arithTree, booleanForm, booleanTree, commandForm, commandTree}
+use Rattle.program.specs.Parts.Preceding.{leaving, before, isTest, Follows, plain, plainGraph}
 use Rattle.program.specs.Parts.Prepared as Prepared
 use Rattle.program.specs.Parts.Prepared.{tablePlace, codeLength, edgeCountPlace, entriesIn, firstIn, nextIn}
 use Rattle.program.specs.Questions.{validity, inputValidity, programPart, initialPart}
 use Rattle.program.specs.Parts.Sorted.{arithNamed, booleanNamed, commandNamed, actionNamed, meaningNamed, arithPoints, booleanPoints, isGuardedTree, commandPoints, arithEntry}
-use Rattle.program.specs.Syntax.{Boolean as BooleanTree, Command, number, truth, booleanEntry, skip, commandEntry}
+use Rattle.program.specs.Syntax.{Boolean as BooleanTree, Command, number, truth, negation, booleanEntry, skip, commandEntry}
 use Rattle.program.specs.Tree.{Entries, arithBelow, booleanBelow, commandBelow, arithNode, arithTrees, arithAt, booleanNode, booleanTrees, booleanAt, commandNode, commandTrees, commandAt, script}
+use Rattle.program.specs.declared.ActionNode.{ActionNode}
 use Rattle.program.specs.declared.ArithNode.{ArithNode}
 use Rattle.program.specs.declared.BooleanNode.{BooleanNode}
 use Rattle.program.specs.declared.CommandNode.{CommandNode}
+use Rattle.program.specs.declared.Construction.{Construction}
+use Rattle.program.specs.declared.Construction.the-variants.{Nondeterministic, Deterministic}
 use Rattle.program.specs.declared.Drawn.{Drawn}
 use Rattle.program.specs.declared.First.the-variants.{At, Nothing}
 use Rattle.program.specs.declared.Refusal.{Refusal}
@@ -51,14 +56,18 @@ use Rattle.program.proofs.Guards.{Joins}
 use Rattle.program.proofs.Inputs
 use Rattle.program.proofs.Loose
 use Rattle.program.proofs.Made.{made}
+use Rattle.program.proofs.Matching
 use Rattle.program.proofs.Nodes
 use Rattle.program.proofs.Nodes.{Inside}
 use Rattle.program.proofs.Places
 use Rattle.program.proofs.Places.{Placed}
+use Rattle.program.proofs.Precedence
 use Rattle.program.proofs.Preparing
 use Rattle.program.proofs.Untouched
 use Rattle.program.proofs.Readback
 use Rattle.program.proofs.Readings
+use Rattle.program.proofs.Selecting
+use Rattle.program.proofs.Selecting.{Guarded}
 use Rattle.program.proofs.Sorting
 use Rattle.program.proofs.Tests.{passed}
 use Rattle.program.proofs.Trees
@@ -170,6 +179,10 @@ module _ (es : Entries) where
 pub meaning-named : (ns : List ℕ) (x : Action) → T (actionNamed ns x) → T (meaningNamed ns (meaning x))
 meaning-named = Preparing.meaning-named
 
+-- without its earlier guards too
+pub own-named : (ns : List ℕ) (x : Action) → T (meaningNamed ns (meaning x)) → T (meaningNamed ns (meaning (plain x)))
+own-named = Preparing.own-named
+
 -- past what a table can have every entry is a leaf, so the tree at an entry is the one below that
 module _ (code graph : List ℕ) where
   pub arith-whole : (n : ℕ) → arithAt (entriesIn code graph) n ≡ arithBelow (arithTrees (entriesIn code graph) 512) n
@@ -205,6 +218,67 @@ module _ {graph : List ℕ} (l : Prepared.Linked graph) where
 -- `done` is "¬b of every guard of the loop, joined by ∧ left to right", in every meaning of ∧ that is associative and has true as its unit
 pub left-to-right : {A : Type 0} {h : BooleanTree → A} {join : A → A → A} {unit : A} → Joins h join unit → (c : Command) → h (done c) ≡ h (allFalse (guards c))
 left-to-right = Guards.left-to-right
+
+-- a guard after earlier ones, in every such meaning
+pub selected-folded : {A : Type 0} {h : BooleanTree → A} {join : A → A → A} {unit : A} → Joins h join unit → (earlier : List BooleanTree) (b : BooleanTree)
+    → h (selected earlier b) ≡ join (foldl (λ x g. join x (h (negation 0 g))) unit earlier) (h b)
+selected-folded = Guards.selected-folded
+
+-- where ∧ makes a test of conditions a test of both: of a guard after earlier ones, and of an exit, each guard fails
+module _ {h : BooleanTree → Bool} (j : Joins h _&&_ true) where
+  pub selected-all : (earlier : List BooleanTree) (b : BooleanTree) → h (selected earlier b) ≡ (allOf (λ g. h (negation 0 g)) earlier && h b)
+  selected-all = Selecting.selected-all j
+
+  pub done-all : (c : Command) → h (done c) ≡ allOf (λ g. h (negation 0 g)) (guards c)
+  done-all = Selecting.done-all j
+
+-- and a test of either
+pub selected-any : {h : BooleanTree → Bool} → Joins h _||_ false → (earlier : List BooleanTree) (b : BooleanTree) → h (selected earlier b) ≡ (anyOf (λ g. h (negation 0 g)) earlier || h b)
+selected-any = Selecting.selected-any
+
+-- what holds of each edge before an edge that leaves a node holds of all, and the other way round
+module _ (g : Graph) (a : ℕ) (q : Action → Bool) (k : ℕ) (h : k ≤ length (g .edges)) where
+  pub all-before : ((i : ℕ) → i < k → edgeAt g i .source ≡ a → q (edgeAt g i .action) ≡ true) → allOf q (leaving a (take k (g .edges))) ≡ true
+  all-before = Selecting.all-before g a q k h
+
+  pub before-all : allOf q (leaving a (take k (g .edges))) ≡ true → (i : ℕ) → i < k → edgeAt g i .source ≡ a → q (edgeAt g i .action) ≡ true
+  before-all = Selecting.before-all g a q k h
+
+-- the same of the guards of lower edges, out of the numbers of a prepared graph
+module _ (es : Entries) (graph : List ℕ) (node : ℕ) (q : BooleanTree → Bool) (k : ℕ) where
+  pub all-lower : ((i : ℕ) → i < k → eqb (Prepared.sourceIn graph i) node ≡ true → q (Prepared.ownIn es (Prepared.actionIn graph i)) ≡ true) → allOf q (Prepared.guardsIn es graph node k) ≡ true
+  all-lower = Selecting.all-lower es graph node q k
+
+  pub lower-all : allOf q (Prepared.guardsIn es graph node k) ≡ true → (i : ℕ) → i < k → eqb (Prepared.sourceIn graph i) node ≡ true → q (Prepared.ownIn es (Prepared.actionIn graph i)) ≡ true
+  lower-all = Selecting.lower-all es graph node q k
+
+-- what a decoded action means after some guards: a guard after these, and any other what it means by itself
+module _ (es : Entries) (earlier : List BooleanTree) where
+  pub after-guard : (x : ActionNode) → Prepared.isGuardNode x ≡ true → Prepared.meaningAfter es earlier x ≡ condition (selected earlier (Prepared.ownIn es x))
+  after-guard = Selecting.after-guard es earlier
+
+  pub after-other : (x : ActionNode) → Prepared.isGuardNode x ≡ false → Prepared.meaningAfter es earlier x ≡ Prepared.decodedMeaning es x
+  after-other = Selecting.after-other es earlier
+
+-- what an edge of a prepared graph means, out of its numbers: its earlier guards are those of the lower edges out of its node, and its own has names that are there. Before a guard of the deterministic graph
+-- there are only such guards; it, and each edge after it at its node, is tested guard by guard
+module _ {ns : List ℕ} {g : Graph} {code graph : List ℕ} (p : Prepared.Prepared ns g code graph) where
+  pub edge-meaning : (f : ℕ) → f < length (g .edges) → Prepared.edgeMeaning (entriesIn code graph) graph f ≡ meaning (edgeAt g f .action)
+  edge-meaning = Selecting.edge-meaning p
+
+  pub own-there : (f : ℕ) → f < length (g .edges) → T (booleanNamed ns (Prepared.ownIn (entriesIn code graph) (Prepared.actionIn graph f)))
+  own-there = Selecting.own-there p
+
+  pub guard-lower : (e k : ℕ) → e < length (g .edges) → k < e → edgeAt g k .source ≡ edgeAt g e .source → Prepared.isGuardNode (Prepared.actionIn graph e) ≡ true → Prepared.isGuardNode (Prepared.actionIn graph k) ≡ true
+  guard-lower = Selecting.guard-lower p
+
+  pub guard-guarded : (f : ℕ) → f < length (g .edges) → Prepared.isGuardNode (Prepared.actionIn graph f) ≡ true
+      → Guarded (meaning (edgeAt g f .action)) (Prepared.guardsIn (entriesIn code graph) graph (Prepared.sourceIn graph f) f) (Prepared.ownIn (entriesIn code graph) (Prepared.actionIn graph f))
+  guard-guarded = Selecting.guard-guarded p
+
+  pub later-guarded : (e f : ℕ) → e < f → f < length (g .edges) → edgeAt g e .source ≡ edgeAt g f .source → Prepared.isGuardNode (Prepared.actionIn graph e) ≡ true
+      → Guarded (meaning (edgeAt g f .action)) (Prepared.guardsIn (entriesIn code graph) graph (Prepared.sourceIn graph f) f) (Prepared.ownIn (entriesIn code graph) (Prepared.actionIn graph f))
+  later-guarded = Selecting.later-guarded p
 
 -- ---- Rows of numbers
 
@@ -337,13 +411,21 @@ validity-placed = Places.validity-placed
 pub input-placed : (s : List ℕ) → Placed 23631 (inputValidity s)
 input-placed = Places.input-placed
 
--- ---- The graph, of every file: each edge leaves and enters a node of the graph, and none leaves node 1 (book, Proposition 2.12)
+-- ---- The graph, of every file and every construction: each edge leaves and enters a node of the graph, and none leaves node 1 (book, Proposition 2.12)
 
-pub two-nodes : (s : List ℕ) → 2 ≤ nodeCount s
+pub two-nodes : (κ : Construction) (s : List ℕ) → 2 ≤ nodeCount κ s
 two-nodes = Nodes.two-nodes
 
-pub edge-inside : (s : List ℕ) (k : ℕ) (d : Edge) → k < edgeCount s → Inside (nodeCount s) (getD (edges s) k d)
+pub edge-inside : (κ : Construction) (s : List ℕ) (k : ℕ) (d : Edge) → k < edgeCount κ s → Inside (nodeCount κ s) (getD (edges κ s) k d)
 edge-inside = Nodes.edge-inside
+
+-- (order 8) "Nodes, arrow order and numbers are unchanged": without its earlier guards, each edge is that of document 01's construction; "action kind 4 … marks every
+-- guard's arrow" in the deterministic one
+pub untested : (s : List ℕ) (e : ℕ) → e < edgeCount Deterministic s → isTest (edgeAt (graph Deterministic s) e .action) ≡ false
+untested = Matching.untested
+
+pub plain-graph : (κ : Construction) (s : List ℕ) → plainGraph (graph κ s) ≡ graph Nondeterministic s
+plain-graph = Matching.plain-graph
 
 -- ---- Of a well-formed file: "A script is well formed if it passes questions 1 to 11", and order 7: "'well formed' takes in 20"
 
@@ -364,10 +446,10 @@ module _ (s : List ℕ) (fit : validity s ≡ Fit) where
   few-bytes = Places.few-bytes s fit
 
   -- "There are at most 129 nodes and 255 arrows."
-  pub few-nodes : nodeCount s ≤ 129
+  pub few-nodes : (κ : Construction) → nodeCount κ s ≤ 129
   few-nodes = Counts.few-nodes s fit
 
-  pub few-edges : edgeCount s ≤ 255
+  pub few-edges : (κ : Construction) → edgeCount κ s ≤ 255
   few-edges = Counts.few-edges s fit
 
   -- "is a named name there and of the right sort?": every name, of each expression and command and of the script
@@ -407,18 +489,24 @@ module _ (s : List ℕ) (fit : validity s ≡ Fit) where
   pub no-loose : (n : ℕ) → loose n (script s) ≡ false
   no-loose = Loose.no-loose s fit
 
-  pub any-around : (o : Around) → graph s ≡ record { edges = part o (script s) 0 1 2 .edges; nodes = part o (script s) 0 1 2 .fresh }
+  pub any-around : (κ : Construction) (first last : ℕ)
+      → graph κ s ≡ record { edges = part κ (within first last) (script s) 0 1 2 .edges; nodes = part κ (within first last) (script s) 0 1 2 .fresh }
   unfolding graph
-  any-around o = rw (Loose.same-around (script s) no-loose (within 0 1) o 0 1 2)
+  any-around κ first last = rw (Loose.same-around κ (script s) no-loose (within 0 1) (within first last) refl 0 1 2)
 
-  -- an edge's action is that of its kind and entry, its names and references are as above, an exit's names those of its condition, and its entry
-  -- exists
-  pub edge-faithful : (k : ℕ) (d : Edge) → k < edgeCount s → Faithful s (getD (edges s) k d)
+  -- an edge's action is that of its kind and entry, but for earlier guards; its names and references are as above, an exit's names those of its condition, and its
+  -- entry exists
+  pub edge-faithful : (κ : Construction) (k : ℕ) (d : Edge) → k < edgeCount κ s → Faithful s (getD (edges κ s) k d)
   edge-faithful = Actions.edge-faithful s fit
 
+  -- (order 8) what precedes an edge at its node: nothing, where it performs a command; guards' edges with exactly its earlier guards, where it is a guard's; with
+  -- exactly the guards of the do, where it leaves one
+  pub edge-follows : (κ : Construction) (e : ℕ) → e < edgeCount κ s → Follows (before (graph κ s) e) (edgeAt (graph κ s) e .action)
+  edge-follows = Precedence.edge-follows s fit
+
   -- an edge is read back out of a buffer that the graph was drawn into
-  pub drawn-edge-read : (k : ℕ) (d : Edge) → k < edgeCount s → (buffer : List ℕ) → edgeRead (over (graphBytes s) buffer) k ≡ edgeNumbers (getD (edges s) k d)
-  drawn-edge-read = EdgeReading.drawn-edge-read s fit
+  pub drawn-edge-read : (κ : Construction) (k : ℕ) (d : Edge) → k < edgeCount κ s → (buffer : List ℕ) → edgeRead (over (graphBytes κ s) buffer) k ≡ edgeNumbers (getD (edges κ s) k d)
+  drawn-edge-read κ = EdgeReading.drawn-edge-read κ s fit
 
 -- ---- The sheet program's input, where it passes its questions
 

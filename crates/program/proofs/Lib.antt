@@ -26,9 +26,11 @@ pub mod Sorting
 pub mod Noting
 pub mod Loose
 pub mod Nodes
+pub mod Precedence
 pub mod Actions
 pub mod Counts
 pub mod Overlaid
+pub mod Matching
 pub mod Rows
 pub mod Drawings
 pub mod Graphs
@@ -44,6 +46,7 @@ pub mod Inputs
 pub mod Places
 pub mod Readback
 pub mod Guards
+pub mod Selecting
 pub mod Laws
 pub mod Open
 pub mod Examples

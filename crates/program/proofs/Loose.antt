@@ -2,7 +2,7 @@
 -- on the commands alone.
 use mathlib.Core.Path.{_≡_, refl, sym, _∙_, ap}
 use mathlib.Core.Bool.{Bool, true, false, false≢true, _||_, or-true}
-use mathlib.Core.List.{List}
+use mathlib.Core.List.{List, [], _++_}
 use Prim.Native.Nat.{ℕ, _+_, _-_, _≤_, _<_, min}
 use native.Mathlib.Decide.{decLe, decLt}
 use native.Mathlib.Nat.{le-refl}
@@ -11,7 +11,7 @@ use lib.Dec.{leb}
 use borrow.Author.Tests.{eq-eqb, ne-eqb, le-leb, lt-leb, leb-false}
 use Rattle.program.specs.Asking.{ask, isRefused}
 use Rattle.program.specs.File.{programFields, layoutOf, spanOf, entryCount, entryOffset, entry}
-use Rattle.program.specs.Graph.{Around, part}
+use Rattle.program.specs.Graph.{Around, past, guards, part}
 use Rattle.program.specs.Jumps.{loose}
 use Rattle.program.specs.Kind.{commandKind}
 use Rattle.program.specs.Parts.GraphingParts.{partAt}
@@ -22,6 +22,7 @@ use Rattle.program.specs.Syntax.{Command, skip, assign, store, sequence,
 use Rattle.program.specs.Tree.{Entries, commandMade, commandAt, lastCommand, script}
 use Rattle.program.specs.declared.CommandNode.{CommandNode}
 use Rattle.program.specs.declared.CommandNode.the-variants.{Skip, Assign, Store, Sequence, Conditional, Iteration, Guarded, Choice, Jump}
+use Rattle.program.specs.declared.Construction.{Construction}
 use Rattle.program.specs.declared.Layout.{Layout}
 use Rattle.program.specs.declared.Table.the-variants.{Commands}
 use Rattle.program.specs.declared.Validity.{Validity}
@@ -223,16 +224,19 @@ no-loose s fit n =
       | no h ↦ tight-fit s fit n (omega arith)
     ]
 
-pub same-around : (c : Command) → ((n : ℕ) → loose n c ≡ false) → (o p : Around) (a b n : ℕ) → part o c a b n ≡ part p c a b n
+pub same-around : (κ : Construction) (c : Command) → ((n : ℕ) → loose n c ≡ false) → (o p : Around) → o .earlier ≡ p .earlier → (a b n : ℕ) → part κ o c a b n ≡ part κ p c a b n
 unfolding loose part
-same-around (skip k) h o p a b n = refl
-same-around (assign k x e) h o p a b n = refl
-same-around (store k x i e) h o p a b n = refl
-same-around (sequence k c d) h o p a b n =
-    rw (same-around c (λ m. neither (loose m c) (loose m d) (h m) .0) o p a n (n + 1), same-around d (λ m. neither (loose m c) (loose m d) (h m) .1) o p n b (part p c a n (n + 1) .fresh))
-same-around (conditional k c) h o p a b n = same-around c h o p a b n
-same-around (iteration k c) h o p a b n = refl
-same-around (guarded k g c) h o p a b n = rw (same-around c h o p n b (n + 1))
-same-around (choice k c d) h o p a b n =
-    rw (same-around c (λ m. neither (loose m c) (loose m d) (h m) .0) o p a b n, same-around d (λ m. neither (loose m c) (loose m d) (h m) .1) o p a b (part p c a b n .fresh))
-same-around (jump k j) h o p a b n = absurd (false≢true (sym (h k) ∙ eq-eqb k k refl))
+same-around κ (skip k) h o p e a b n = refl
+same-around κ (assign k x i) h o p e a b n = refl
+same-around κ (store k x i j) h o p e a b n = refl
+same-around κ (sequence k c d) h o p e a b n =
+    rw (same-around κ c (λ m. neither (loose m c) (loose m d) (h m) .0) o p e a n (n + 1), same-around κ d (λ m. neither (loose m c) (loose m d) (h m) .1) o p e n b (part κ p c a n (n + 1) .fresh))
+same-around κ (conditional k c) h o p e a b n = same-around κ c h (past o []) (past p []) refl a b n
+same-around κ (iteration k c) h o p e a b n = refl
+same-around κ (guarded k g c) h o p e a b n = rw (same-around κ c h o p e n b (n + 1), e)
+same-around κ (choice k c d) h o p e a b n =
+    rw (
+      same-around κ c (λ m. neither (loose m c) (loose m d) (h m) .0) o p e a b n,
+      same-around κ d (λ m. neither (loose m c) (loose m d) (h m) .1) (past o (o .earlier ++ guards c)) (past p (p .earlier ++ guards c)) (ap (λ x. x ++ guards c) e) a b (part κ p c a b n .fresh),
+    )
+same-around κ (jump k j) h o p e a b n = absurd (false≢true (sym (h k) ∙ eq-eqb k k refl))

@@ -18,14 +18,15 @@ pub number-told : (code : List ℕ) (n : ℕ) {x k : ArithNode} → n < 512 → 
 unfolding numberIn
 number-told code n h e told = rw (lt-ltb n 512 h) (ap numberOf (sym e ∙ told))
 
--- a kind that is none of 1 to 3 is no action's
-pub action-other : (es : Entries) (k n : ℕ) → (((Unit {0} × (k ≡ 1 → ⊥)) × (k ≡ 2 → ⊥)) × (k ≡ 3 → ⊥)) → Nothing ≡ actionForm es k n
+-- a kind that is none of 1 to 4 is no action's
+pub action-other : (es : Entries) (k n : ℕ) → ((((Unit {0} × (k ≡ 1 → ⊥)) × (k ≡ 2 → ⊥)) × (k ≡ 3 → ⊥)) × (k ≡ 4 → ⊥)) → Nothing ≡ actionForm es k n
 unfolding actionForm
 action-other es zero n h = refl
-action-other es (suc zero) n h = absurd (h .0 .0 .1 refl)
-action-other es (suc (suc zero)) n h = absurd (h .0 .1 refl)
-action-other es (suc (suc (suc zero))) n h = absurd (h .1 refl)
-action-other es (suc (suc (suc (suc k)))) n h = refl
+action-other es (suc zero) n h = absurd (h .0 .0 .0 .1 refl)
+action-other es (suc (suc zero)) n h = absurd (h .0 .0 .1 refl)
+action-other es (suc (suc (suc zero))) n h = absurd (h .0 .1 refl)
+action-other es (suc (suc (suc (suc zero)))) n h = absurd (h .1 refl)
+action-other es (suc (suc (suc (suc (suc k))))) n h = refl
 
 -- past what a table can have every entry is a leaf, so the tree at an entry is the one below that
 module _ (code graph : List ℕ) where

@@ -1,24 +1,27 @@
 -- Laws of drawing into a prepared graph: numbers written one part after the other, and a command's numbers by what its entry is.
 use mathlib.Core.Path.{_≡_, refl, _∙_, ap, sym}
-use mathlib.Core.List.{List, [], _++_, append-nil, flatMap}
+use mathlib.Core.List.{List, [], _∷_, _++_, append-nil, flatMap}
 use Prim.Native.Nat.{ℕ, _+_, _*_, _≤_, _<_}
 use native.Mathlib.Decide.{decLe}
 use native.Mathlib.Nat.{le-refl}
 use native.Mathlib.Omega.{arith}
 use lib.ListN.{getD, length-append}
 use borrow.Author.Tests.{lt-ltb, le-ltb}
-use Rattle.program.specs.Graph.{Around, within, landing, guardAction, part, actionKind, actionEntry}
-use Rattle.program.specs.Parts.GraphingParts.{edgeWords, Strip, strip, edgeStrip, freshOf, nextOf, Drew, Room, partAt}
+use Rattle.program.specs.Graph.{edge, Around, within, past, landing, guards, guardAction, part, actionKind, actionEntry}
+use Rattle.program.specs.Parts.GraphingParts.{edgeWords, Strip, strip, guardKind, guardEntry, edgeStrip, freshOf, nextOf, Drew, Room, partAt}
 use Rattle.program.specs.Parts.Node.{commandForm, commandTree}
 use Rattle.program.specs.Parts.Prepared.{edgePlace, numbersAt, entriesIn}
-use Rattle.program.specs.Syntax.{Command, commandEntry}
-use Rattle.program.specs.Tree.{Entries, commandMade}
+use Rattle.program.specs.Syntax.{Boolean as BooleanTree, Command, commandEntry}
+use Rattle.program.specs.Tree.{Entries, booleanAt, commandMade}
 use Rattle.program.specs.declared.CommandNode.{CommandNode}
 use Rattle.program.specs.declared.CommandNode.the-variants.{Skip, Assign, Store, Sequence, Conditional, Iteration, Guarded, Choice, Jump}
+use Rattle.program.specs.declared.Construction.{Construction}
+use Rattle.program.specs.declared.Construction.the-variants.{Nondeterministic, Deterministic}
 use Rattle.program.specs.declared.Table.{Table}
 use Rattle.program.specs.declared.Table.the-variants.{Arithmetic, Boolean, Commands}
 use Rattle.program.proofs.Forms.{command-told, by-parts}
 use Rattle.program.proofs.Lists.{concat-append}
+use Rattle.program.proofs.Matching.{matched}
 use Rattle.program.proofs.Nodes.{fresh-grows}
 use Rattle.program.proofs.Overlaid.{over-then, over-before}
 use Rattle.program.proofs.Trees.{boolean-entry, command-below, command-past, command-entry}
@@ -82,7 +85,7 @@ drew-entries x {k} {a} {b} few d =
     same-entries [] a b
     (λ i h. ap (λ (l : List ℕ). getD l i 0) (d .written) ∙ over-before (edgePlace + 4 * k) (x .words) a i (omega arith) (omega (arith, d .size)))
 
-strip-grows : (o : Around) (c : Command) (a b n : ℕ) → n ≤ strip o c a b n .fresh
+strip-grows : (κ : Construction) (o : Around) (c : Command) (a b n : ℕ) → n ≤ strip κ o c a b n .fresh
 unfolding strip
 strip-grows = fresh-grows
 
@@ -115,56 +118,67 @@ taken (Guarded g p) pen h = record { fresh = omega arith; next = omega arith }
 taken (Choice p q) pen h = record { fresh = refl; next = refl }
 taken (Jump j) pen h = record { fresh = refl; next = refl }
 
+-- earlier guards make no difference to the numbers
+strip-past : (κ : Construction) (o : Around) (gs hs : List BooleanTree) (c : Command) (a b n : ℕ) → strip κ (past o gs) c a b n ≡ strip κ (past o hs) c a b n
+unfolding strip edgeWords actionKind actionEntry guardAction
+strip-past κ o gs hs c a b n =
+    let m = matched edgeWords edgeWords κ κ (λ a n k gs hs b. guard-same κ a n k gs hs b) (λ a b c. refl) (λ a b c. refl) c (o .first) (o .last) gs hs a b n in
+    λ i. record { words = m .made i; fresh = m .fresh i }
+  where
+    guard-same : (κ : Construction) (a n k : ℕ) (gs hs : List BooleanTree) (b : BooleanTree) → edgeWords (edge a (guardAction κ gs k b) n) ≡ edgeWords (edge a (guardAction κ hs k b) n)
+    guard-same Nondeterministic a n k gs hs b = refl
+    guard-same Deterministic a n k gs hs b = refl
+
 -- the first part of a command at entry k whose fresh node is n, inside o, and the rest, each from the fresh node f on
-unfoldable pub firstAs : Entries → Around → ℕ → CommandNode → ℕ → ℕ → ℕ → ℕ → Strip
-firstAs es o k Skip a b n f = edgeStrip a b 1 k f
-firstAs es o k (Assign x e) a b n f = edgeStrip a b 1 k f
-firstAs es o k (Store x i e) a b n f = edgeStrip a b 1 k f
-firstAs es o k (Sequence p q) a b n f = strip o (partAt es k p) a n f
-firstAs es o k (Conditional p) a b n f = strip o (partAt es k p) a b f
-firstAs es o k (Iteration p) a b n f = strip (within a b) (partAt es k p) a a f
-firstAs es o k (Guarded g p) a b n f = edgeStrip a n 2 g f
-firstAs es o k (Choice p q) a b n f = strip o (partAt es k p) a b f
-firstAs es o k (Jump j) a b n f = edgeStrip a (landing o j) 1 k f
+unfoldable pub firstAs : Construction → Entries → Around → ℕ → CommandNode → ℕ → ℕ → ℕ → ℕ → Strip
+firstAs κ es o k Skip a b n f = edgeStrip a b 1 k f
+firstAs κ es o k (Assign x e) a b n f = edgeStrip a b 1 k f
+firstAs κ es o k (Store x i e) a b n f = edgeStrip a b 1 k f
+firstAs κ es o k (Sequence p q) a b n f = strip κ o (partAt es k p) a n f
+firstAs κ es o k (Conditional p) a b n f = strip κ o (partAt es k p) a b f
+firstAs κ es o k (Iteration p) a b n f = strip κ (within a b) (partAt es k p) a a f
+firstAs κ es o k (Guarded g p) a b n f = edgeStrip a n (guardKind κ) (guardEntry κ k g) f
+firstAs κ es o k (Choice p q) a b n f = strip κ o (partAt es k p) a b f
+firstAs κ es o k (Jump j) a b n f = edgeStrip a (landing o j) 1 k f
 
-unfoldable pub restAs : Entries → Around → ℕ → CommandNode → ℕ → ℕ → ℕ → ℕ → Strip
-restAs es o k Skip a b n f = record { words = []; fresh = f }
-restAs es o k (Assign x e) a b n f = record { words = []; fresh = f }
-restAs es o k (Store x i e) a b n f = record { words = []; fresh = f }
-restAs es o k (Sequence p q) a b n f = strip o (partAt es k q) n b f
-restAs es o k (Conditional p) a b n f = record { words = []; fresh = f }
-restAs es o k (Iteration p) a b n f = edgeStrip a b 3 p f
-restAs es o k (Guarded g p) a b n f = strip o (partAt es k p) n b f
-restAs es o k (Choice p q) a b n f = strip o (partAt es k q) a b f
-restAs es o k (Jump j) a b n f = record { words = []; fresh = f }
+unfoldable pub restAs : Construction → Entries → Around → ℕ → CommandNode → ℕ → ℕ → ℕ → ℕ → Strip
+restAs κ es o k Skip a b n f = record { words = []; fresh = f }
+restAs κ es o k (Assign x e) a b n f = record { words = []; fresh = f }
+restAs κ es o k (Store x i e) a b n f = record { words = []; fresh = f }
+restAs κ es o k (Sequence p q) a b n f = strip κ o (partAt es k q) n b f
+restAs κ es o k (Conditional p) a b n f = record { words = []; fresh = f }
+restAs κ es o k (Iteration p) a b n f = edgeStrip a b 3 p f
+restAs κ es o k (Guarded g p) a b n f = strip κ o (partAt es k p) n b f
+restAs κ es o k (Choice p q) a b n f = strip κ o (partAt es k q) a b f
+restAs κ es o k (Jump j) a b n f = record { words = []; fresh = f }
 
-pub first-grows : (es : Entries) (o : Around) (k : ℕ) (c : CommandNode) (a b n f : ℕ) → f ≤ firstAs es o k c a b n f .fresh
+pub first-grows : (κ : Construction) (es : Entries) (o : Around) (k : ℕ) (c : CommandNode) (a b n f : ℕ) → f ≤ firstAs κ es o k c a b n f .fresh
 unfolding firstAs edgeStrip
-first-grows es o k Skip a b n f = le-refl f
-first-grows es o k (Assign x e) a b n f = le-refl f
-first-grows es o k (Store x i e) a b n f = le-refl f
-first-grows es o k (Sequence p q) a b n f = strip-grows o _ a n f
-first-grows es o k (Conditional p) a b n f = strip-grows o _ a b f
-first-grows es o k (Iteration p) a b n f = strip-grows (within a b) _ a a f
-first-grows es o k (Guarded g p) a b n f = le-refl f
-first-grows es o k (Choice p q) a b n f = strip-grows o _ a b f
-first-grows es o k (Jump j) a b n f = le-refl f
+first-grows κ es o k Skip a b n f = le-refl f
+first-grows κ es o k (Assign x e) a b n f = le-refl f
+first-grows κ es o k (Store x i e) a b n f = le-refl f
+first-grows κ es o k (Sequence p q) a b n f = strip-grows κ o _ a n f
+first-grows κ es o k (Conditional p) a b n f = strip-grows κ o _ a b f
+first-grows κ es o k (Iteration p) a b n f = strip-grows κ (within a b) _ a a f
+first-grows κ es o k (Guarded g p) a b n f = le-refl f
+first-grows κ es o k (Choice p q) a b n f = strip-grows κ o _ a b f
+first-grows κ es o k (Jump j) a b n f = le-refl f
 
-pub rest-grows : (es : Entries) (o : Around) (k : ℕ) (c : CommandNode) (a b n f : ℕ) → f ≤ restAs es o k c a b n f .fresh
+pub rest-grows : (κ : Construction) (es : Entries) (o : Around) (k : ℕ) (c : CommandNode) (a b n f : ℕ) → f ≤ restAs κ es o k c a b n f .fresh
 unfolding restAs edgeStrip
-rest-grows es o k Skip a b n f = le-refl f
-rest-grows es o k (Assign x e) a b n f = le-refl f
-rest-grows es o k (Store x i e) a b n f = le-refl f
-rest-grows es o k (Sequence p q) a b n f = strip-grows o _ n b f
-rest-grows es o k (Conditional p) a b n f = le-refl f
-rest-grows es o k (Iteration p) a b n f = le-refl f
-rest-grows es o k (Guarded g p) a b n f = strip-grows o _ n b f
-rest-grows es o k (Choice p q) a b n f = strip-grows o _ a b f
-rest-grows es o k (Jump j) a b n f = le-refl f
+rest-grows κ es o k Skip a b n f = le-refl f
+rest-grows κ es o k (Assign x e) a b n f = le-refl f
+rest-grows κ es o k (Store x i e) a b n f = le-refl f
+rest-grows κ es o k (Sequence p q) a b n f = strip-grows κ o _ n b f
+rest-grows κ es o k (Conditional p) a b n f = le-refl f
+rest-grows κ es o k (Iteration p) a b n f = le-refl f
+rest-grows κ es o k (Guarded g p) a b n f = strip-grows κ o _ n b f
+rest-grows κ es o k (Choice p q) a b n f = strip-grows κ o _ a b f
+rest-grows κ es o k (Jump j) a b n f = le-refl f
 
 -- the numbers of a command at entry k
-unfoldable pub drawnAs : Entries → Around → ℕ → CommandNode → ℕ → ℕ → ℕ → Strip
-drawnAs es o k c a b n = followed (firstAs es o k c a b n (taking c n)) (restAs es o k c a b n)
+unfoldable pub drawnAs : Construction → Entries → Around → ℕ → CommandNode → ℕ → ℕ → ℕ → Strip
+drawnAs κ es o k c a b n = followed (firstAs κ es o k c a b n (taking c n)) (restAs κ es o k c a b n)
 
 module _ (es : Entries) where
   -- a part's entry
@@ -176,42 +190,55 @@ module _ (es : Entries) where
         | no h ↦ ap commandEntry (command-below es n p (omega arith)) ∙ command-entry es p
       ]
 
-  tree-strip : (o : Around) (n : ℕ) (k : CommandNode) (a b f : ℕ) → strip o (commandTree es n k) a b f ≡ drawnAs es o n k a b f
+  -- a guard's numbers
+  guard-words : (κ : Construction) (earlier : List BooleanTree) (k g : ℕ) {a n : ℕ} → edgeWords (edge a (guardAction κ earlier k (booleanAt es g)) n) ≡ a ∷ n ∷ guardKind κ ∷ guardEntry κ k g ∷ []
+  unfolding edgeWords guardAction actionKind actionEntry guardKind guardEntry
+  guard-words Nondeterministic earlier k g = rw (boolean-entry es g)
+  guard-words Deterministic earlier k g = refl
+
+  tree-strip : (κ : Construction) (o : Around) (n : ℕ) (k : CommandNode) (a b f : ℕ) → strip κ o (commandTree es n k) a b f ≡ drawnAs κ es o n k a b f
   unfolding commandMade drawnAs taking firstAs restAs followed strip edgeStrip part guardAction flatMap edgeWords actionKind actionEntry commandEntry
-  tree-strip o n Skip a b f = refl
-  tree-strip o n (Assign x e) a b f = refl
-  tree-strip o n (Store x i e) a b f = refl
-  tree-strip o n (Sequence p q) a b f = rw concat-append
-  tree-strip o n (Conditional p) a b f = rw append-nil
-  tree-strip o n (Iteration p) a b f = rw (concat-append, part-entry)
-  tree-strip o n (Guarded g p) a b f = rw boolean-entry
-  tree-strip o n (Choice p q) a b f = rw concat-append
-  tree-strip o n (Jump j) a b f = refl
+  tree-strip κ o n Skip a b f = refl
+  tree-strip κ o n (Assign x e) a b f = refl
+  tree-strip κ o n (Store x i e) a b f = refl
+  tree-strip κ o n (Sequence p q) a b f = rw concat-append
+  tree-strip κ o n (Conditional p) a b f = rw (append-nil, strip-past κ o [] (o .earlier) (partAt es n p) a b f)
+  tree-strip κ o n (Iteration p) a b f = rw (concat-append, part-entry)
+  tree-strip κ o n (Guarded g p) a b f =
+      λ i.
+      record {
+        words = guard-words κ (o .earlier) n g {a = a} {n = f} i ++ flatMap edgeWords (part κ o (partAt es n p) f b (f + 1) .edges);
+        fresh = part κ o (partAt es n p) f b (f + 1) .fresh;
+      }
+  tree-strip κ o n (Choice p q) a b f =
+      let m = strip-past κ o (o .earlier ++ guards (partAt es n p)) (o .earlier) (partAt es n q) a b (part κ o (partAt es n p) a b f .fresh) in
+      rw (concat-append, ap (λ x. x .words) m, ap (λ x. x .fresh) m)
+  tree-strip κ o n (Jump j) a b f = refl
 
   -- the numbers of entry n as a part of entry bound, by what it is
-  pub strip-part : (o : Around) (bound n : ℕ) {x k : CommandNode} → x ≡ commandForm es bound n → x ≡ k → (a b f : ℕ) → strip o (partAt es bound n) a b f ≡ drawnAs es o n k a b f
-  strip-part o bound n {k = k} same told a b f = rw (command-told es bound n same told) (tree-strip o n k a b f)
+  pub strip-part : (κ : Construction) (o : Around) (bound n : ℕ) {x k : CommandNode} → x ≡ commandForm es bound n → x ≡ k → (a b f : ℕ) → strip κ o (partAt es bound n) a b f ≡ drawnAs κ es o n k a b f
+  strip-part κ o bound n {k = k} same told a b f = rw (command-told es bound n same told) (tree-strip κ o n k a b f)
 
 -- two readings with the same commands below an entry: its parts have the same numbers
 module _ (es fs : Entries) where
   abbrev SameStrip : Command → Command → Type 0
-  SameStrip c d = (o : Around) (a b f : ℕ) → strip o c a b f ≡ strip o d a b f
+  SameStrip c d = (κ : Construction) (o : Around) (a b f : ℕ) → strip κ o c a b f ≡ strip κ o d a b f
 
-  drawn-same : (n : ℕ) → ((m : ℕ) → SameStrip (partAt es n m) (partAt fs n m)) → (k : CommandNode) (o : Around) (a b f : ℕ) → drawnAs es o n k a b f ≡ drawnAs fs o n k a b f
+  drawn-same : (n : ℕ) → ((m : ℕ) → SameStrip (partAt es n m) (partAt fs n m)) → (k : CommandNode) (κ : Construction) (o : Around) (a b f : ℕ) → drawnAs κ es o n k a b f ≡ drawnAs κ fs o n k a b f
   unfolding drawnAs taking firstAs restAs followed
-  drawn-same n same Skip o a b f = refl
-  drawn-same n same (Assign x e) o a b f = refl
-  drawn-same n same (Store x i e) o a b f = refl
-  drawn-same n same (Sequence p q) o a b f = rw (same p, same q)
-  drawn-same n same (Conditional p) o a b f = rw (same p)
-  drawn-same n same (Iteration p) o a b f = rw (same p)
-  drawn-same n same (Guarded g p) o a b f = rw (same p)
-  drawn-same n same (Choice p q) o a b f = rw (same p, same q)
-  drawn-same n same (Jump j) o a b f = refl
+  drawn-same n same Skip κ o a b f = refl
+  drawn-same n same (Assign x e) κ o a b f = refl
+  drawn-same n same (Store x i e) κ o a b f = refl
+  drawn-same n same (Sequence p q) κ o a b f = rw (same p, same q)
+  drawn-same n same (Conditional p) κ o a b f = rw (same p)
+  drawn-same n same (Iteration p) κ o a b f = rw (same p)
+  drawn-same n same (Guarded g p) κ o a b f = rw (same p)
+  drawn-same n same (Choice p q) κ o a b f = rw (same p, same q)
+  drawn-same n same (Jump j) κ o a b f = refl
 
   pub same-strip : (bound : ℕ) → ((k : ℕ) → k < bound → es Commands k ≡ fs Commands k) → (n : ℕ) → SameStrip (partAt es bound n) (partAt fs bound n)
   same-strip bound agreed =
       by-parts es fs SameStrip bound
-      (λ n o a b f. refl)
-      (λ n h same o a b f. tree-strip es o n _ a b f ∙ drawn-same n same _ o a b f ∙ sym (tree-strip fs o n _ a b f))
+      (λ n κ o a b f. refl)
+      (λ n h same κ o a b f. tree-strip es κ o n _ a b f ∙ drawn-same n same _ κ o a b f ∙ sym (tree-strip fs κ o n _ a b f))
       agreed bound (le-refl bound)

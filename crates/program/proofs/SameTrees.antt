@@ -100,4 +100,5 @@ module _ (s : List ℕ) (fit : validity s ≡ Fit) (es : Entries) (same : SameEn
   action-same (suc zero) n h = rw (command-same n h)
   action-same (suc (suc zero)) n h = rw (boolean-same n h)
   action-same (suc (suc (suc zero))) n h = rw (command-same n h)
-  action-same (suc (suc (suc (suc k)))) n h = refl
+  action-same (suc (suc (suc (suc zero)))) n h = rw (command-same n h)
+  action-same (suc (suc (suc (suc (suc k))))) n h = refl

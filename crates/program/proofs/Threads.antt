@@ -192,6 +192,8 @@ module _ {ns : List ℕ} {g : Graph} {code : List ℕ} where
         to = p .to;
         action = rw (same-entries code old new (λ i h. same .before i (omega arith)), action-same same e) (p .action);
         named = p .named;
+        guard = rw (action-same same e) (p .guard);
+        follows = p .follows;
       }
 
   pub prepared-kept : {old new : List ℕ} → SameButLinks old new → Prepared ns g code old → Prepared ns g code new

@@ -88,4 +88,4 @@ module _ (a b : List ℕ) (long : length b ≡ codeLength) (kept : (i : ℕ) →
       entries = λ i t n. same-entry graph t n i
 
       edge-still : (e : ℕ) → PreparedEdge ns g a graph e → PreparedEdge ns g b graph e
-      edge-still e x = record { source = x .source; target = x .target; from = x .from; to = x .to; action = rw entries (x .action); named = x .named }
+      edge-still e x = record { source = x .source; target = x .target; from = x .from; to = x .to; action = rw entries (x .action); named = x .named; guard = x .guard; follows = x .follows }

@@ -1,4 +1,4 @@
--- The worked examples of document 01 on files and graphs, and those of document 02's order 7. `proofs/Examples` shows that each holds.
+-- The worked examples of document 01 on files and graphs, and those of document 02's orders 7 and 8. `proofs/Examples` shows that each holds.
 use Prim.Native.Nat.{ℕ}
 use mathlib.Core.List.{List, [], _∷_, _++_, flatMap}
 use lib.ListN.{length, replicate}
@@ -6,10 +6,13 @@ use Rattle.signs.specs.Case.{Case, _gives_, row}
 use Rattle.program.specs.File.{entry}
 use Rattle.program.specs.Asking.{validityNumbers}
 use Rattle.program.specs.Drawing.{drawn, drawnBuffer, drawnNumbers}
-use Rattle.program.specs.Graph.{done, wordBytes}
+use Rattle.program.specs.Graph.{done, edges, wordBytes}
+use Rattle.program.specs.Meaning.{Meaning, nothing, assigns, stores, condition, meaning}
 use Rattle.program.specs.Questions.{validity, inputValidity}
 use Rattle.program.specs.Syntax.{Boolean, truth, comparison, conjunction, shortCircuit, negation}
 use Rattle.program.specs.Tree.{commandAt}
+use Rattle.program.specs.declared.Construction.{Construction}
+use Rattle.program.specs.declared.Construction.the-variants.{Nondeterministic, Deterministic}
 
 -- the bytes of the factorial lesson: y := 1; do x > 0 → y := x times y; x := x − 1 od
 unfoldable pub factorial : List ℕ
@@ -88,8 +91,8 @@ prefix (negation n a) = (6 ∷ []) ++ prefix a
 unfoldable pub graphs : List Case
 graphs =
     (row (validityNumbers (validity factorial)) gives row (0 ∷ []))
-    ∷ (row (drawnNumbers (drawn factorial (replicate 37 9))) gives row (0 ∷ 5 ∷ 5 ∷ []))
-    ∷ (row (drawnBuffer factorial (replicate 37 9))
+    ∷ (row (drawnNumbers (drawn Nondeterministic factorial (replicate 37 9))) gives row (0 ∷ 5 ∷ 5 ∷ []))
+    ∷ (row (drawnBuffer Nondeterministic factorial (replicate 37 9))
     gives row
     ((0 ∷ 0 ∷ 0 ∷ 2 ∷ 1 ∷ 0 ∷ 0 ∷ [])
     ++ (0 ∷ 2 ∷ 0 ∷ 3 ∷ 2 ∷ 0 ∷ 0 ∷ [])
@@ -97,8 +100,8 @@ graphs =
     ++ (0 ∷ 4 ∷ 0 ∷ 2 ∷ 1 ∷ 0 ∷ 2 ∷ [])
     ++ (0 ∷ 2 ∷ 0 ∷ 1 ∷ 3 ∷ 0 ∷ 4 ∷ [])
     ++ (9 ∷ 9 ∷ [])))
-    ∷ (row (drawnNumbers (drawn factorial (replicate 34 9))) gives row (13 ∷ 0 ∷ 0 ∷ 0 ∷ []))
-    ∷ (row (drawnBuffer factorial (replicate 34 9)) gives row (replicate 34 9))
+    ∷ (row (drawnNumbers (drawn Nondeterministic factorial (replicate 34 9))) gives row (13 ∷ 0 ∷ 0 ∷ 0 ∷ []))
+    ∷ (row (drawnBuffer Nondeterministic factorial (replicate 34 9)) gives row (replicate 34 9))
     ∷ []
 
 -- "Leaving a loop when one guard is false rather than all": the exit of a do with guards 0 and 1 is ¬0 ∧ ¬1
@@ -187,14 +190,14 @@ addingArrows target =
 -- whole body; in two loops, the inner one from node 2 to node 0
 unfoldable pub loops : List Case
 loops =
-    (row (drawnNumbers (drawn (adding 8) (replicate 84 9))) gives row (0 ∷ 11 ∷ 12 ∷ []))
-    ∷ (row (drawnBuffer (adding 8) (replicate 84 9)) gives row (addingArrows 1))
-    ∷ (row (drawnBuffer (adding 9) (replicate 84 9)) gives row (addingArrows 4))
-    ∷ (row (drawnBuffer (jumpOnly 8) (replicate 21 9)) gives row (arrow 0 2 2 0 ++ arrow 2 1 1 0 ++ arrow 0 1 3 1))
-    ∷ (row (drawnBuffer (jumpOnly 9) (replicate 21 9)) gives row (arrow 0 2 2 0 ++ arrow 2 0 1 0 ++ arrow 0 1 3 1))
-    ∷ (row (drawnBuffer (jumpInTwo 8) (replicate 35 9))
+    (row (drawnNumbers (drawn Nondeterministic (adding 8) (replicate 84 9))) gives row (0 ∷ 11 ∷ 12 ∷ []))
+    ∷ (row (drawnBuffer Nondeterministic (adding 8) (replicate 84 9)) gives row (addingArrows 1))
+    ∷ (row (drawnBuffer Nondeterministic (adding 9) (replicate 84 9)) gives row (addingArrows 4))
+    ∷ (row (drawnBuffer Nondeterministic (jumpOnly 8) (replicate 21 9)) gives row (arrow 0 2 2 0 ++ arrow 2 1 1 0 ++ arrow 0 1 3 1))
+    ∷ (row (drawnBuffer Nondeterministic (jumpOnly 9) (replicate 21 9)) gives row (arrow 0 2 2 0 ++ arrow 2 0 1 0 ++ arrow 0 1 3 1))
+    ∷ (row (drawnBuffer Nondeterministic (jumpInTwo 8) (replicate 35 9))
     gives row (arrow 0 2 2 1 ++ arrow 2 3 2 0 ++ arrow 3 0 1 0 ++ arrow 2 0 3 1 ++ arrow 0 1 3 3))
-    ∷ (row (drawnBuffer (jumpInTwo 9) (replicate 35 9))
+    ∷ (row (drawnBuffer Nondeterministic (jumpInTwo 9) (replicate 35 9))
     gives row (arrow 0 2 2 1 ++ arrow 2 3 2 0 ++ arrow 3 2 1 0 ++ arrow 2 0 3 1 ++ arrow 0 1 3 3))
     ∷ []
 
@@ -217,5 +220,58 @@ looseJumps =
     ∷ (row (validityNumbers (inputValidity (trueWith 0 (entryOf 8 0 0 0 ∷ []) ++ field 5 [] ++ (0 ∷ [])))) gives row (5 ∷ 24 ∷ []))
     ∷ []
 
+-- the condition of an action in prefix form; any other action has none
+unfoldable pub conditionRow : Meaning → List ℕ
+conditionRow nothing = []
+conditionRow (assigns x a) = []
+conditionRow (stores x i a) = []
+conditionRow (condition b) = prefix b
+
+-- the conditions of a graph's arrows in turn, each with 9 after it
+unfoldable pub conditionRows : Construction → List ℕ → List ℕ
+conditionRows κ s = flatMap (λ e. conditionRow (meaning (e .action)) ++ (9 ∷ [])) (edges κ s)
+
+-- do (0 → skip [] 1 → skip) [] 2 → skip od, its three conditions true, and the same with the right two in brackets
+unfoldable pub threeLeft : List ℕ
+threeLeft =
+    trueWith 3
+    (entryOf 0 0 0 0 ∷ entryOf 6 0 0 0 ∷ entryOf 0 0 0 0 ∷ entryOf 6 1 2 0 ∷ entryOf 7 1 3 0 ∷ entryOf 0 0 0 0 ∷ entryOf 6 2 5 0 ∷ entryOf 7 4 6 0 ∷ entryOf 5 7 0 0 ∷ [])
+
+unfoldable pub threeRight : List ℕ
+threeRight =
+    trueWith 3
+    (entryOf 0 0 0 0 ∷ entryOf 6 0 0 0 ∷ entryOf 0 0 0 0 ∷ entryOf 6 1 2 0 ∷ entryOf 0 0 0 0 ∷ entryOf 6 2 4 0 ∷ entryOf 7 3 5 0 ∷ entryOf 7 1 6 0 ∷ entryOf 5 7 0 0 ∷ [])
+
+-- if 0 → if 1 → skip [] 2 → skip fi [] 3 → if 4 → skip fi fi
+unfoldable pub oneInOther : List ℕ
+oneInOther =
+    trueWith 5
+    (entryOf 0 0 0 0 ∷ entryOf 6 1 0 0 ∷ entryOf 0 0 0 0 ∷ entryOf 6 2 2 0 ∷ entryOf 7 1 3 0 ∷ entryOf 4 4 0 0
+    ∷ entryOf 6 0 5 0 ∷ entryOf 0 0 0 0 ∷ entryOf 6 4 7 0 ∷ entryOf 4 8 0 0 ∷ entryOf 6 3 9 0 ∷ entryOf 7 6 10 0 ∷ entryOf 4 11 0 0
+    ∷ [])
+
+-- (order 8) "action kind 4 with the guarded entry marks every guard's arrow, the first of a construct too", on the factorial; nodes, arrow order and numbers are
+-- those of the other graph; "that guard and the falsehood of all earlier guards in the same if or do, all evaluated in text order, its own last", in choices that lean
+-- either way and in an if inside another; "exits stay"
+unfoldable pub selections : List Case
+selections =
+    (row (drawnNumbers (drawn Deterministic factorial (replicate 37 9))) gives row (0 ∷ 5 ∷ 5 ∷ []))
+    ∷ (row (drawnBuffer Deterministic factorial (replicate 37 9))
+    gives row (arrow 0 2 1 0 ++ arrow 2 3 4 4 ++ arrow 3 4 1 1 ++ arrow 4 2 1 2 ++ arrow 2 1 3 4 ++ (9 ∷ 9 ∷ [])))
+    ∷ (row (drawnNumbers (drawn Deterministic factorial (replicate 34 9))) gives row (13 ∷ 0 ∷ 0 ∷ 0 ∷ []))
+    ∷ (row (drawnBuffer Deterministic threeLeft (replicate 49 9))
+    gives row (arrow 0 2 4 1 ++ arrow 2 0 1 0 ++ arrow 0 3 4 3 ++ arrow 3 0 1 2 ++ arrow 0 4 4 6 ++ arrow 4 0 1 5 ++ arrow 0 1 3 7))
+    ∷ (row (conditionRows Nondeterministic threeLeft)
+    gives row (0 ∷ 9 ∷ 9 ∷ 1 ∷ 9 ∷ 9 ∷ 2 ∷ 9 ∷ 9 ∷ 4 ∷ 4 ∷ 6 ∷ 0 ∷ 6 ∷ 1 ∷ 6 ∷ 2 ∷ 9 ∷ []))
+    ∷ (row (conditionRows Deterministic threeLeft)
+    gives row
+    (0 ∷ 9 ∷ 9 ∷ 4 ∷ 6 ∷ 0 ∷ 1 ∷ 9 ∷ 9 ∷ 4 ∷ 6 ∷ 0 ∷ 4 ∷ 6 ∷ 1 ∷ 2 ∷ 9 ∷ 9 ∷ 4 ∷ 4 ∷ 6 ∷ 0 ∷ 6 ∷ 1 ∷ 6 ∷ 2 ∷ 9 ∷ []))
+    ∷ (row (conditionRows Deterministic threeRight)
+    gives row
+    (0 ∷ 9 ∷ 9 ∷ 4 ∷ 6 ∷ 0 ∷ 1 ∷ 9 ∷ 9 ∷ 4 ∷ 6 ∷ 0 ∷ 4 ∷ 6 ∷ 1 ∷ 2 ∷ 9 ∷ 9 ∷ 4 ∷ 6 ∷ 0 ∷ 4 ∷ 6 ∷ 1 ∷ 6 ∷ 2 ∷ 9 ∷ []))
+    ∷ (row (conditionRows Deterministic oneInOther)
+    gives row (0 ∷ 9 ∷ 1 ∷ 9 ∷ 9 ∷ 4 ∷ 6 ∷ 1 ∷ 2 ∷ 9 ∷ 9 ∷ 4 ∷ 6 ∷ 0 ∷ 3 ∷ 9 ∷ 4 ∷ 9 ∷ 9 ∷ []))
+    ∷ []
+
 unfoldable pub cases : List Case
-cases = graphs ++ exits ++ limits ++ inputs ++ loops ++ looseJumps
+cases = graphs ++ exits ++ limits ++ inputs ++ loops ++ looseJumps ++ selections

@@ -4,6 +4,7 @@ pub mod Jumping
 pub mod Checking
 pub mod Node
 pub mod Sorted
+pub mod Preceding
 pub mod Prepared
 pub mod DrawingParts
 pub mod GraphingParts

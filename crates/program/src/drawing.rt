@@ -9,6 +9,7 @@ ghost use Rattle.program.specs.Parts.DrawingParts as parts;
 ghost use Rattle.program.specs.Graph;
 ghost use Rattle.program.specs.Parts.Prepared;
 ghost use Rattle.program.specs.Questions;
+use crate::Construction;
 use crate::Drawn;
 use crate::EdgeBytes;
 use crate::Refusal;
@@ -88,14 +89,14 @@ fn put_bytes(graph: &[u16; GRAPH], buffer: &mut [u8])
 }
 
 // Question 13 of a well-formed program. Its graph is drawn aside first: a buffer that is too short stays as it is.
-fn draw_fit(s: &[u8], buffer: &mut [u8]) -> Drawn
+fn draw_fit(construction: Construction, s: &[u8], buffer: &mut [u8]) -> Drawn
     requires { ⌜ Questions.validity (now s) ≡ Validity.Fit ⌝ }
-    ensures { λ r. ⌜ (r ≡ spec.drawn (now (s .entry)) (now (buffer .entry)))
-        × (now (buffer .exit) ≡ spec.drawnBuffer (now (s .entry)) (now (buffer .entry))) ⌝ }
+    ensures { λ r. ⌜ (r ≡ spec.drawn construction (now (s .entry)) (now (buffer .entry)))
+        × (now (buffer .exit) ≡ spec.drawnBuffer construction (now (s .entry)) (now (buffer .entry))) ⌝ }
 {
     let mut graph = [0u16; GRAPH];
     let l = file::fit_layout(s);
-    graphing::put_graph(s, l, &mut graph);
+    graphing::put_graph(construction, s, l, &mut graph);
     let edges = prepared::edge_count(&graph);
     let end = 7 * file::long(edges);
     if buffer.len() < end {
@@ -113,25 +114,52 @@ fn draw_fit(s: &[u8], buffer: &mut [u8]) -> Drawn
 }
 
 // The graph of a file of known validity, drawn into a buffer.
-fn draw_valid(s: &[u8], buffer: &mut [u8], v: Validity) -> Drawn
+fn draw_valid(construction: Construction, s: &[u8], buffer: &mut [u8], v: Validity) -> Drawn
     requires { ⌜ v ≡ Questions.validity (now s) ⌝ }
-    ensures { λ r. ⌜ (r ≡ spec.drawn (now (s .entry)) (now (buffer .entry)))
-        × (now (buffer .exit) ≡ spec.drawnBuffer (now (s .entry)) (now (buffer .entry))) ⌝ }
+    ensures { λ r. ⌜ (r ≡ spec.drawn construction (now (s .entry)) (now (buffer .entry)))
+        × (now (buffer .exit) ≡ spec.drawnBuffer construction (now (s .entry)) (now (buffer .entry))) ⌝ }
 {
     match v {
-        Validity::Fit => draw_fit(s, buffer),
+        Validity::Fit => draw_fit(construction, s, buffer),
         Validity::Refused(x) => refused(x),
     }
 }
 
-// Draws the graph of a program file: the edges' bytes over the start of the buffer.
-pub fn draw(s: &[u8], buffer: &mut [u8]) -> Drawn
-    ensures { λ r. ⌜ (r ≡ spec.drawn (now (s .entry)) (now (buffer .entry)))
-        × (now (buffer .exit) ≡ spec.drawnBuffer (now (s .entry)) (now (buffer .entry))) ⌝ }
-    ensures numbers { λ r. ⌜ spec.drawnNumbers r ≡ spec.drawingRow (now (s .entry)) (now (buffer .entry)) ⌝ }
+// Draws the graph of a program file by a construction: the edges' bytes over the start of the buffer.
+pub fn draw_on(construction: Construction, s: &[u8], buffer: &mut [u8]) -> Drawn
+    ensures { λ r. ⌜ (r ≡ spec.drawn construction (now (s .entry)) (now (buffer .entry)))
+        × (now (buffer .exit) ≡ spec.drawnBuffer construction (now (s .entry)) (now (buffer .entry))) ⌝ }
+    ensures numbers { λ r. ⌜ spec.drawnNumbers r ≡ spec.drawingRow construction (now (s .entry)) (now (buffer .entry)) ⌝ }
 {
     let v = validation::validate(s);
-    draw_valid(s, buffer, v)
+    draw_valid(construction, s, buffer, v)
+}
+
+// The construction where the caller names none.
+pub fn unnamed() -> Construction
+    ensures { λ r. ⌜ r ≡ Graph.unnamed ⌝ }
+{
+    Construction::Nondeterministic
+}
+
+// The one that a number names: 1 document 01's, 2 the deterministic one; any other names none.
+pub fn named(number: u32) -> Construction
+    ensures { λ r. ⌜ r ≡ Graph.named number ⌝ }
+{
+    match number {
+        1 => Construction::Nondeterministic,
+        2 => Construction::Deterministic,
+        _ => unnamed(),
+    }
+}
+
+// Draws the graph of a program file, where the caller names no construction.
+pub fn draw(s: &[u8], buffer: &mut [u8]) -> Drawn
+    ensures { λ r. ⌜ (r ≡ spec.drawn Graph.unnamed (now (s .entry)) (now (buffer .entry)))
+        × (now (buffer .exit) ≡ spec.drawnBuffer Graph.unnamed (now (s .entry)) (now (buffer .entry))) ⌝ }
+    ensures numbers { λ r. ⌜ spec.drawnNumbers r ≡ spec.drawingRow Graph.unnamed (now (s .entry)) (now (buffer .entry)) ⌝ }
+{
+    draw_on(unnamed(), s, buffer)
 }
 
 // Edge `k` of such bytes. Where all of it is there, one test serves its seven.

@@ -96,6 +96,13 @@ pub enum Jump {
     Continue,
 }
 
+// The two ways to draw a program's graph: document 01's, in which guards that hold together leave a choice, and the deterministic one, in which a guard is
+// passed only where all earlier guards of its if or do are false.
+pub enum Construction {
+    Nondeterministic,
+    Deterministic,
+}
+
 // What a command entry is.
 pub enum CommandNode {
     Skip,
@@ -109,13 +116,15 @@ pub enum CommandNode {
     Jump(Jump),
 }
 
-// What an edge's action is: nothing, an assignment, a store, a condition that must hold, or the exit of the do whose operand is a command entry.
+// What an edge's action is: nothing, an assignment, a store, a condition that must hold, the exit of the do whose operand is a command entry, or, in the
+// deterministic graph, a guard's own condition, before which those of the lower edges out of its node must fail.
 pub enum ActionNode {
     Nothing,
     Assign(u16, u16),
     Store(u16, u16, u16),
     Holds(u16),
     Exit(u16),
+    Guard(u16),
 }
 
 // The four numbers of an edge, as its bytes give them: source and target, the action's kind and its entry.

@@ -17,6 +17,7 @@ use crate::ActionNode;
 use crate::ArithNode;
 use crate::BooleanNode;
 use crate::CommandNode;
+use crate::Construction;
 use crate::Validity;
 use crate::decoding;
 use crate::file;
@@ -175,6 +176,23 @@ fn performed(node: CommandNode) -> ActionNode
     }
 }
 
+// The guard of a guarded command, on an edge.
+fn guard_of(node: CommandNode) -> ActionNode
+    ensures { λ r. ⌜ r ≡ spec.guardForm node ⌝ }
+{
+    match node {
+        CommandNode::Skip => ActionNode::Nothing,
+        CommandNode::Assign(_, _) => ActionNode::Nothing,
+        CommandNode::Store(_, _, _) => ActionNode::Nothing,
+        CommandNode::Sequence(_, _) => ActionNode::Nothing,
+        CommandNode::Conditional(_) => ActionNode::Nothing,
+        CommandNode::Iteration(_) => ActionNode::Nothing,
+        CommandNode::Guarded(g, _) => ActionNode::Guard(g),
+        CommandNode::Choice(_, _) => ActionNode::Nothing,
+        CommandNode::Jump(_) => ActionNode::Nothing,
+    }
+}
+
 // The action of an edge, decoded.
 pub fn action(graph: &[u16; GRAPH], e: u16) -> ActionNode
     ensures { λ r. ⌜ r ≡ spec.actionIn (now (graph .entry)) e ⌝ }
@@ -185,7 +203,22 @@ pub fn action(graph: &[u16; GRAPH], e: u16) -> ActionNode
         1 => performed(command_node(graph, COMMANDS, entry)),
         2 => ActionNode::Holds(entry),
         3 => ActionNode::Exit(entry),
+        4 => guard_of(command_node(graph, COMMANDS, entry)),
         _ => ActionNode::Nothing,
+    }
+}
+
+// Whether an action is a guard's of the deterministic graph.
+pub fn is_guard(action: ActionNode) -> bool
+    ensures { λ r. ⌜ r ≡ spec.isGuardNode action ⌝ }
+{
+    match action {
+        ActionNode::Nothing => false,
+        ActionNode::Assign(_, _) => false,
+        ActionNode::Store(_, _, _) => false,
+        ActionNode::Holds(_) => false,
+        ActionNode::Exit(_) => false,
+        ActionNode::Guard(_) => true,
     }
 }
 
@@ -277,10 +310,15 @@ pub fn number_at(code: &[u16; CODE], n: u16) -> i32
     }
 }
 
-// The questions of a program file; where they are answered yes, its code and graph, into two arrays of zeros.
-fn fill(program: &[u8], code: &mut [u16; CODE], graph: &mut [u16; GRAPH]) -> Validity
+// The questions of a program file; where they are answered yes, its code and its graph by a construction, into two arrays of zeros.
+fn fill(
+    construction: Construction,
+    program: &[u8],
+    code: &mut [u16; CODE],
+    graph: &mut [u16; GRAPH],
+) -> Validity
     requires { ⌜ (now code ≡ replicate spec.codeLength 0) × (now graph ≡ replicate spec.graphLength 0) ⌝ }
-    ensures { λ r. ⌜ spec.PreparedFor (now (program .entry)) r (now (code .exit)) (now (graph .exit)) ⌝ }
+    ensures { λ r. ⌜ spec.PreparedFor construction (now (program .entry)) r (now (code .exit)) (now (graph .exit)) ⌝ }
 {
     let v = validation::validate(program);
     if validation::refused(v) {
@@ -288,27 +326,37 @@ fn fill(program: &[u8], code: &mut [u16; CODE], graph: &mut [u16; GRAPH]) -> Val
     }
     let l = file::fit_layout(program);
     coding::put_code(program, l, code);
-    graphing::put_graph(program, l, graph);
+    graphing::put_graph(construction, program, l, graph);
     v
 }
 
 // The file's questions; where they are answered yes, the program's code and graph. What clears the arrays is small and stands in its callers, where their own zeros are then
 // optimised away.
-pub fn prepare(program: &[u8], code: &mut [u16; CODE], graph: &mut [u16; GRAPH]) -> Validity
-    ensures { λ r. ⌜ spec.PreparedFor (now (program .entry)) r (now (code .exit)) (now (graph .exit)) ⌝ }
+pub fn prepare(
+    construction: Construction,
+    program: &[u8],
+    code: &mut [u16; CODE],
+    graph: &mut [u16; GRAPH],
+) -> Validity
+    ensures { λ r. ⌜ spec.PreparedFor construction (now (program .entry)) r (now (code .exit)) (now (graph .exit)) ⌝ }
 {
     *code = [0u16; CODE];
     *graph = [0u16; GRAPH];
-    fill(program, code, graph)
+    fill(construction, program, code, graph)
 }
 
 // The same, and the links: for what goes from node to node.
-pub fn prepare_linked(program: &[u8], code: &mut [u16; CODE], graph: &mut [u16; GRAPH]) -> Validity
-    ensures { λ r. ⌜ spec.PreparedLinked (now (program .entry)) r (now (code .exit)) (now (graph .exit)) ⌝ }
+pub fn prepare_linked(
+    construction: Construction,
+    program: &[u8],
+    code: &mut [u16; CODE],
+    graph: &mut [u16; GRAPH],
+) -> Validity
+    ensures { λ r. ⌜ spec.PreparedLinked construction (now (program .entry)) r (now (code .exit)) (now (graph .exit)) ⌝ }
 {
     *code = [0u16; CODE];
     *graph = [0u16; GRAPH];
-    let v = fill(program, code, graph);
+    let v = fill(construction, program, code, graph);
     if validation::refused(v) {
         return v;
     }

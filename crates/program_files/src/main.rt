@@ -2,7 +2,8 @@
 //
 // A record of `files.bin` is a mode, a room (two bytes), the length of a title, the length of a file (two bytes), the title and the file.
 // Numbers have the high byte first. The mode says what is asked of the file: 1 its edges, 2 its graph drawn into a buffer of so much room,
-// 3 the questions of the sheet program's input, 4 what the crates above read of a program, 5 the parts of the sheet program's input and its fields' heads.
+// 3 the questions of the sheet program's input, 4 what the crates above read of a program, 5 the parts of the sheet program's input and its fields' heads. 16 more
+// asks for document 01's graph by name, 32 more for the deterministic one.
 use program::Drawn;
 use program::EdgeBytes;
 use program::Entry;
@@ -65,27 +66,40 @@ fn print_edges(edges: &[u8; drawing::BYTES], count: u16) {
     }
 }
 
+fn number(x: u8) -> u32 {
+    x as u32
+}
+
+// The graph by the construction that a number names; 0 names none.
+fn draw_by(on: u8, s: &[u8], buffer: &mut [u8]) -> Drawn {
+    if on == 0 {
+        drawing::draw(s, buffer)
+    } else {
+        drawing::draw_on(drawing::named(number(on)), s, buffer)
+    }
+}
+
 // Mode 1: the graph, a line for each edge.
-fn answer_edges(s: &[u8]) {
+fn answer_edges(on: u8, s: &[u8]) {
     let mut edges = [0u8; drawing::BYTES];
-    let d = drawing::draw(s, &mut edges);
+    let d = draw_by(on, s, &mut edges);
     print_drawn(d);
     printing::text(b"\n");
     print_edges(&edges, d.edges);
 }
 
-fn draw_front(s: &[u8], buffer: &mut [u8], room: usize) -> Drawn {
+fn draw_front(on: u8, s: &[u8], buffer: &mut [u8], room: usize) -> Drawn {
     if room <= buffer.len() {
-        drawing::draw(s, &mut buffer[..room])
+        draw_by(on, s, &mut buffer[..room])
     } else {
-        drawing::draw(s, buffer)
+        draw_by(on, s, buffer)
     }
 }
 
 // Mode 2: the graph drawn into the first bytes of a buffer, and a checksum of the whole buffer.
-fn answer_sum(s: &[u8], room: usize) {
+fn answer_sum(on: u8, s: &[u8], room: usize) {
     let mut buffer = [170u8; 2000];
-    let d = draw_front(s, &mut buffer, room);
+    let d = draw_front(on, s, &mut buffer, room);
     print_drawn(d);
     printing::text(b" sum ");
     printing::number(cases::mix_bytes(&buffer));
@@ -216,9 +230,11 @@ fn answer_parts(s: &[u8]) {
 }
 
 fn answer(mode: u8, room: usize, s: &[u8]) {
-    match mode {
-        1 => answer_edges(s),
-        2 => answer_sum(s, room),
+    let on = mode / 16;
+    let asked = mode % 16;
+    match asked {
+        1 => answer_edges(on, s),
+        2 => answer_sum(on, s, room),
         3 => answer_input(s),
         4 => answer_readings(s),
         5 => answer_parts(s),

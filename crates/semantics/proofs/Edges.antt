@@ -13,10 +13,10 @@ use Rattle.program.specs.File.{cellCount}
 use Rattle.program.specs.FirstSuch.{firstSuch}
 use Rattle.program.specs.Graph.{Graph, edgeAt}
 use Rattle.program.specs.Meaning.{Meaning, meaning}
-use Rattle.program.specs.Parts.Prepared.{edgeCountPlace, entriesIn, sourceIn, actionIn, decodedMeaning, Prepared, Following}
+use Rattle.program.specs.Parts.Prepared.{edgeCountPlace, entriesIn, sourceIn, actionIn, decodedMeaning, isGuardNode, guardsIn, edgeMeaning, Prepared, Following}
 use Rattle.program.specs.Parts.Sorted.{meaningNamed}
 use Rattle.program.specs.declared.First.the-variants.{At, Nothing}
-use Rattle.program.proofs.Laws.{first-such, none-such}
+use Rattle.program.proofs.Laws.{first-such, none-such, after-other, edge-meaning}
 use Rattle.semantics.specs.Action.{effect, after}
 use Rattle.semantics.specs.Parts.Cells.{NumbersIn, Placed}
 use Rattle.semantics.specs.Parts.Coding.{EffectIn, Follows, Performs}
@@ -68,18 +68,22 @@ module _ {ns : List ℕ} {g : Graph} {code graph : List ℕ} (p : Prepared ns g 
     none-leaving h = none-such _ _ (λ k l. fails k (omega (arith, p .edges)) (omega (arith, p .edges)))
 
   module _ (e : ℕ) (h : e < length (g .edges)) where
-    action-named : T (meaningNamed ns (decodedMeaning (entriesIn code graph) (actionIn graph e)))
-    action-named = subst (λ (x : Meaning). T (meaningNamed ns x)) (sym (p .edge e h .action)) (p .edge e h .named)
+    meaning-there : {x : Meaning} → x ≡ meaning (edgeAt g e .action) → T (meaningNamed ns x)
+    meaning-there q = subst (λ (y : Meaning). T (meaningNamed ns y)) (sym q) (p .edge e h .named)
 
-    -- the effect of an edge as the code finds it, and as it performs it
-    pub edge-effect : {m : List ℤ} → NumbersIn code m → {r : Effect} → EffectIn code m (decodedMeaning (entriesIn code graph) (actionIn graph e)) r → r ≡ edgeEffect ns g m e
+    -- the effect of an edge as the code finds it, and as it performs it where it is no guard's of the deterministic graph
+    pub edge-effect : {m : List ℤ} → NumbersIn code m → {r : Effect} → EffectIn code m (edgeMeaning (entriesIn code graph) graph e) r → r ≡ edgeEffect ns g m e
     unfolding edgeEffect
-    edge-effect {m} numbers found = found .gives ns (record { coded = p .coded; numbers = numbers }) action-named ∙ ap (effect ns m) (p .edge e h .action)
+    edge-effect {m} numbers found =
+        let means = edge-meaning p e h in
+        found .gives ns (record { coded = p .coded; numbers = numbers }) (meaning-there means) ∙ ap (effect ns m) means
 
-    pub edge-performs : {m m′ : List ℤ} → NumbersIn code m → {r : Bool} → Performs code m (decodedMeaning (entriesIn code graph) (actionIn graph e)) r m′ → Follows m (edgeEffect ns g m e) r m′
-    unfolding edgeEffect
-    edge-performs {m} {m′} numbers {r} found =
-        subst (λ (x : Meaning). Follows m (effect ns m x) r m′) (p .edge e h .action) (found .gives ns (record { coded = p .coded; numbers = numbers }) action-named)
+    pub edge-performs : isGuardNode (actionIn graph e) ≡ false → {m m′ : List ℤ} → NumbersIn code m → {r : Bool} → Performs code m (decodedMeaning (entriesIn code graph) (actionIn graph e)) r m′
+        → Follows m (edgeEffect ns g m e) r m′
+    unfolding edgeEffect edgeMeaning
+    edge-performs t {m} {m′} numbers {r} found =
+        let means = sym (after-other (entriesIn code graph) (guardsIn (entriesIn code graph) graph (sourceIn graph e) e) (actionIn graph e) t) ∙ edge-meaning p e h in
+        subst (λ (x : Meaning). Follows m (effect ns m x) r m′) means (found .gives ns (record { coded = p .coded; numbers = numbers }) (meaning-there means))
 
     -- it is the same in memories with the same values in the names' cells, and stores inside them, before the numbers
     pub edge-same : (m m′ : List ℤ) → ((c : ℕ) → c < cellCount ns → cellValue m c ≡ cellValue m′ c) → edgeEffect ns g m e ≡ edgeEffect ns g m′ e
@@ -87,7 +91,7 @@ module _ {ns : List ℕ} {g : Graph} {code graph : List ℕ} (p : Prepared ns g 
     edge-same m m′ same = effect-same ns m m′ same (meaning (edgeAt g e .action)) (p .edge e h .named)
 
     -- so it is found in the array that a memory was copied to
-    pub edge-found : {m cells : List ℤ} → Placed code m cells → {r : Effect} → EffectIn code cells (decodedMeaning (entriesIn code graph) (actionIn graph e)) r → r ≡ edgeEffect ns g m e
+    pub edge-found : {m cells : List ℤ} → Placed code m cells → {r : Effect} → EffectIn code cells (edgeMeaning (entriesIn code graph) graph e) r → r ≡ edgeEffect ns g m e
     edge-found {m} {cells} at found = edge-effect (at .numbers) found ∙ edge-same cells m (λ c l. at .same c (omega (arith, p .coded .most)))
 
     pub edge-inside : (m : List ℤ) (c : ℕ) (z : ℤ) → edgeEffect ns g m e ≡ Stored c z → c < cellCount ns

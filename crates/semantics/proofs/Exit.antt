@@ -4,8 +4,8 @@ use mathlib.Core.Bool.{Bool, true, false, _&&_}
 use mathlib.Core.List.{List}
 use Prim.Native.Nat.{ℕ}
 use lib.IntN.{ℤ}
-use Rattle.program.specs.Graph.{done}
-use Rattle.program.specs.Parts.Guards.{guards, allFalse}
+use Rattle.program.specs.Graph.{guards, done}
+use Rattle.program.specs.Parts.Guards.{allFalse}
 use Rattle.program.specs.Syntax.{Command}
 use Rattle.program.proofs.Guards.{Joins}
 use Rattle.program.proofs.Laws.{left-to-right}
@@ -35,7 +35,7 @@ true-conjoin (Known true) = refl
 true-conjoin (Known false) = refl
 true-conjoin (Undefined r) = refl
 
-joins : (ns : List ℕ) (m : List ℤ) → Joins (truthIn ns m) conjoin (Known true)
+pub joins : (ns : List ℕ) (m : List ℤ) → Joins (truthIn ns m) conjoin (Known true)
 unfolding truthIn
 joins ns m =
     record {

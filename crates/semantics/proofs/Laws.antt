@@ -9,12 +9,14 @@ use lib.IntN.{ℤ}
 use lib.ListN.{length, getD, replicate}
 use Rattle.program.specs.File.{sizes, cellsOf, cellCount, firstCell, isVariable, isArray}
 use Rattle.program.specs.FirstSuch.{firstSuch}
-use Rattle.program.specs.Graph.{Graph, edgeAt, graph, done}
-use Rattle.program.specs.Parts.Guards.{guards, allFalse}
+use Rattle.program.specs.Graph.{Graph, edgeAt, graph, guards, done}
+use Rattle.program.specs.Parts.Guards.{allFalse}
 use Rattle.program.specs.Parts.Prepared.{edgeCountPlace, sourceIn, Prepared, Following}
 use Rattle.program.specs.Questions.{validity}
 use Rattle.program.specs.Parts.Sorted.{arithNamed, booleanNamed, meaningNamed}
 use Rattle.program.specs.Syntax.{Arith, Boolean, Command}
+use Rattle.program.specs.declared.Construction.{Construction}
+use Rattle.program.specs.declared.Construction.the-variants.{Deterministic}
 use Rattle.program.specs.declared.First.the-variants.{At, Nothing}
 use Rattle.program.specs.declared.Refusal.{Refusal}
 use Rattle.program.specs.declared.Validity.the-variants.{Fit, Refused}
@@ -32,6 +34,7 @@ use Rattle.semantics.specs.declared.Effect.the-variants.{Stored}
 use Rattle.semantics.specs.declared.Ending.the-variants.{Arrived, Spent, Stuck, Refused as Ends}
 use Rattle.semantics.specs.declared.Evaluation.{Evaluation}
 use Rattle.semantics.specs.declared.Outcome.the-variants.{Taken, Refused as Refuses}
+use Rattle.semantics.proofs.Alone
 use Rattle.semantics.proofs.Edges
 use Rattle.semantics.proofs.Exit
 use Rattle.semantics.proofs.Named
@@ -179,47 +182,52 @@ module _ (ns : List ℕ) where
     pub effect-same : (x : Meaning) → T (meaningNamed ns x) → effect ns m x ≡ effect ns m′ x
     effect-same = Named.effect-same ns m m′ same
 
--- ---- Of a program file
+-- ---- Of a program file, on its graph by any construction
 
-module _ (s : List ℕ) where
+module _ (κ : Construction) (s : List ℕ) where
   -- well formed: steps and runs are those of its sizes and graph, and a budgeted run is a list of step calls
   module _ (fit : validity s ≡ Fit) where
-    pub program-outcome : (c : Configuration) (e : ℕ) → programOutcome s c e ≡ outcome (sizes s) (graph s) c e
-    program-outcome = Steps.program-outcome s fit
+    pub program-outcome : (c : Configuration) (e : ℕ) → programOutcome κ s c e ≡ outcome (sizes s) (graph κ s) c e
+    program-outcome = Steps.program-outcome κ s fit
 
-    pub program-step : (c : Configuration) (e : ℕ) → programStep s c e ≡ step (sizes s) (graph s) c e
-    program-step = Steps.program-step s fit
+    pub program-step : (c : Configuration) (e : ℕ) → programStep κ s c e ≡ step (sizes s) (graph κ s) c e
+    program-step = Steps.program-step κ s fit
 
-    pub program-replay : (c : Configuration) (es : List ℕ) → programReplay s c es ≡ replay (sizes s) (graph s) c es
-    program-replay = Steps.program-replay s fit
+    pub program-replay : (c : Configuration) (es : List ℕ) → programReplay κ s c es ≡ replay (sizes s) (graph κ s) c es
+    program-replay = Steps.program-replay κ s fit
 
-    pub program-outcomes : (c : Configuration) (es : List ℕ) → programOutcomes s c es ≡ outcomes (sizes s) (graph s) c es
-    program-outcomes = Steps.program-outcomes s fit
+    pub program-outcomes : (c : Configuration) (es : List ℕ) → programOutcomes κ s c es ≡ outcomes (sizes s) (graph κ s) c es
+    program-outcomes = Steps.program-outcomes κ s fit
 
-    pub program-budgeted : (budget : ℕ) (m : List ℤ) → programBudgeted s budget m ≡ budgeted (sizes s) (graph s) budget m
-    program-budgeted = Runs.program-budgeted s fit
+    pub program-budgeted : (budget : ℕ) (m : List ℤ) → programBudgeted κ s budget m ≡ budgeted (sizes s) (graph κ s) budget m
+    program-budgeted = Runs.program-budgeted κ s fit
 
     pub program-replayed : (budget : ℕ) (m : List ℤ) → memoryValidity (sizes s) m ≡ Fit
-        → Replayed (sizes s) (graph s) budget (begun m) (programBudgeted s budget m)
-    program-replayed = Runs.program-replayed s fit
+        → Replayed (sizes s) (graph κ s) budget (begun m) (programBudgeted κ s budget m)
+    program-replayed = Runs.program-replayed κ s fit
 
   -- not well formed: a step leaves the configuration as it was, and there is no run
   module _ (x : Refusal) (refused : validity s ≡ Refused x) where
-    pub refused-outcome : (c : Configuration) (e : ℕ) → programOutcome s c e ≡ Refuses x
-    refused-outcome = Steps.refused-outcome s x refused
+    pub refused-outcome : (c : Configuration) (e : ℕ) → programOutcome κ s c e ≡ Refuses x
+    refused-outcome = Steps.refused-outcome κ s x refused
 
-    pub refused-step : (c : Configuration) (e : ℕ) → programStep s c e ≡ c
-    refused-step = Steps.refused-step s x refused
+    pub refused-step : (c : Configuration) (e : ℕ) → programStep κ s c e ≡ c
+    refused-step = Steps.refused-step κ s x refused
 
-    pub refused-budgeted : (budget : ℕ) (m : List ℤ) → programBudgeted s budget m ≡ ends (Ends x) (begun m)
-    refused-budgeted = Runs.refused-budgeted s x refused
+    pub refused-budgeted : (budget : ℕ) (m : List ℤ) → programBudgeted κ s budget m ≡ ends (Ends x) (begun m)
+    refused-budgeted = Runs.refused-budgeted κ s x refused
 
   -- in either case a memory has as many cells as before
-  pub program-step-length : (c : Configuration) (e : ℕ) → length (programStep s c e .memory) ≡ length (c .memory)
-  program-step-length = Steps.program-step-length s
+  pub program-step-length : (c : Configuration) (e : ℕ) → length (programStep κ s c e .memory) ≡ length (c .memory)
+  program-step-length = Steps.program-step-length κ s
 
-  pub program-budgeted-length : (budget : ℕ) (m : List ℤ) → length (programBudgeted s budget m .final .memory) ≡ length m
-  program-budgeted-length = Runs.program-budgeted-length s
+  pub program-budgeted-length : (budget : ℕ) (m : List ℤ) → length (programBudgeted κ s budget m .final .memory) ≡ length m
+  program-budgeted-length = Runs.program-budgeted-length κ s
+
+-- (order 8) on the deterministic graph: "at most one arrow is defined at any node in any memory"
+pub at-most-one : (s : List ℕ) → validity s ≡ Fit → (node : ℕ) (m : List ℤ) (e f : ℕ) → T (leaves (graph Deterministic s) e node) → T (leaves (graph Deterministic s) f node)
+    → T (isDefined (edgeEffect (sizes s) (graph Deterministic s) m e)) → T (isDefined (edgeEffect (sizes s) (graph Deterministic s) m f)) → e ≡ f
+at-most-one = Alone.at-most-one
 
 -- ---- The exit of a do
 

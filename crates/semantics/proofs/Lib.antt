@@ -11,7 +11,11 @@ pub mod Keys
 pub mod Effects
 pub mod Edges
 pub mod Replies
+pub mod Opened
+pub mod Selections
 pub mod Choosing
+pub mod Tested
+pub mod Alone
 pub mod Turns
 pub mod Alike
 pub mod Laws

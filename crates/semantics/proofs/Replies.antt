@@ -7,6 +7,7 @@ use lib.ListN.{length}
 use Rattle.program.specs.File.{sizes}
 use Rattle.program.specs.Graph.{Graph, graph, edgeAt}
 use Rattle.program.specs.Questions.{validity}
+use Rattle.program.specs.declared.Construction.{Construction}
 use Rattle.program.specs.declared.Refusal.{Refusal}
 use Rattle.program.specs.declared.Validity.the-variants.{Fit, Refused}
 use Rattle.semantics.specs.Action.{after}
@@ -45,15 +46,15 @@ module _ (ns : List ℕ) (g : Graph) (run : Run) (e : ℕ) (m : List ℤ) where
       record { reply = rw (p, ← q, ← t) (λ i. record { run = k .handed-back i; outcome = k .answer i }); memory = rw (p, ← q) (k .memory ∙ ap (after m) q) }
 
 -- the same of a program file: refused by the file's questions, or a step over its graph
-pub record Replied (s : List ℕ) (run : Run) (e : ℕ) (m m′ : List ℤ) (r : Stepped) : Type 0 where
-  pub reply : r ≡ stepReply s (record { run = run; memory = m }) e
-  pub memory : m′ ≡ programStep s (record { run = run; memory = m }) e .memory
+pub record Replied (κ : Construction) (s : List ℕ) (run : Run) (e : ℕ) (m m′ : List ℤ) (r : Stepped) : Type 0 where
+  pub reply : r ≡ stepReply κ s (record { run = run; memory = m }) e
+  pub memory : m′ ≡ programStep κ s (record { run = run; memory = m }) e .memory
 
-module _ (s : List ℕ) (run : Run) (e : ℕ) (m : List ℤ) where
-  pub program-refused : (x : Refusal) → validity s ≡ Refused x → Replied s run e m m (record { run = run; outcome = Refuses x })
+module _ (κ : Construction) (s : List ℕ) (run : Run) (e : ℕ) (m : List ℤ) where
+  pub program-refused : (x : Refusal) → validity s ≡ Refused x → Replied κ s run e m m (record { run = run; outcome = Refuses x })
   unfolding stepReply programStep programOutcome next outcomeUnlessRefused
   program-refused x p = record { reply = rw p; memory = rw p }
 
-  pub program-replied : validity s ≡ Fit → (m′ : List ℤ) (r : Stepped) → StepsTo (sizes s) (graph s) run e m m′ r → Replied s run e m m′ r
+  pub program-replied : validity s ≡ Fit → (m′ : List ℤ) (r : Stepped) → StepsTo (sizes s) (graph κ s) run e m m′ r → Replied κ s run e m m′ r
   unfolding stepReply programStep programOutcome outcomeUnlessRefused step
   program-replied p m′ r k = record { reply = rw p (k .reply); memory = rw p (k .memory) }

@@ -13,6 +13,7 @@ use mir.Facts.{and-yes}
 use Rattle.program.specs.File.{sizes, cellCount}
 use Rattle.program.specs.Graph.{Graph, graph, edges, edgeCount, nodeCount, edgeAt}
 use Rattle.program.specs.Questions.{validity}
+use Rattle.program.specs.declared.Construction.{Construction}
 use Rattle.program.specs.declared.First.{First}
 use Rattle.program.specs.declared.First.the-variants.{At, Nothing}
 use Rattle.program.specs.declared.Refusal.{Refusal}
@@ -187,25 +188,25 @@ module _ (ns : List ℕ) (g : Graph) (budget : ℕ) (r : Result) where
   fresh-count m small p = omega (arith, p .few, run-count (begun m) (omega arith) p)
 
 -- of a program file
-module _ (s : List ℕ) where
+module _ (κ : Construction) (s : List ℕ) where
   module _ (fit : validity s ≡ Fit) (budget : ℕ) (m : List ℤ) where
-    pub program-budgeted : programBudgeted s budget m ≡ budgeted (sizes s) (graph s) budget m
+    pub program-budgeted : programBudgeted κ s budget m ≡ budgeted (sizes s) (graph κ s) budget m
     unfolding programBudgeted endsUnlessRefused
     program-budgeted = rw fit
 
-    pub program-replayed : memoryValidity (sizes s) m ≡ Fit → Replayed (sizes s) (graph s) budget (begun m) (programBudgeted s budget m)
+    pub program-replayed : memoryValidity (sizes s) m ≡ Fit → Replayed (sizes s) (graph κ s) budget (begun m) (programBudgeted κ s budget m)
     unfolding edges edgeCount nodeCount edgeAt
     program-replayed room =
         rw program-budgeted
-        (budgeted-replayed (sizes s) (graph s) (λ e h. edge-inside s e _ h .target-inside) budget m (omega (arith, two-nodes s)) room)
+        (budgeted-replayed (sizes s) (graph κ s) (λ e h. edge-inside κ s e _ h .target-inside) budget m (omega (arith, two-nodes κ s)) room)
 
-  pub refused-budgeted : (x : Refusal) → validity s ≡ Refused x → (budget : ℕ) (m : List ℤ) → programBudgeted s budget m ≡ ends (Refuses x) (begun m)
+  pub refused-budgeted : (x : Refusal) → validity s ≡ Refused x → (budget : ℕ) (m : List ℤ) → programBudgeted κ s budget m ≡ ends (Refuses x) (begun m)
   unfolding programBudgeted endsUnlessRefused
   refused-budgeted x p budget m = rw p
 
-  pub program-budgeted-length : (budget : ℕ) (m : List ℤ) → length (programBudgeted s budget m .final .memory) ≡ length m
+  pub program-budgeted-length : (budget : ℕ) (m : List ℤ) → length (programBudgeted κ s budget m .final .memory) ≡ length m
   program-budgeted-length budget m = by (validity s) refl
     where
-      by : (v : Validity) → validity s ≡ v → length (programBudgeted s budget m .final .memory) ≡ length m
-      by Fit p = rw (program-budgeted p budget m) (budgeted-length (sizes s) (graph s) budget m)
+      by : (v : Validity) → validity s ≡ v → length (programBudgeted κ s budget m .final .memory) ≡ length m
+      by Fit p = rw (program-budgeted p budget m) (budgeted-length (sizes s) (graph κ s) budget m)
       by (Refused x) p = rw (refused-budgeted x p budget m)

@@ -13,6 +13,7 @@ use Rattle.program.specs.Asking.{ask, thenAsk, inTurn}
 use Rattle.program.specs.File.{sizes, cellCount}
 use Rattle.program.specs.Graph.{Graph, graph, edgeAt}
 use Rattle.program.specs.Questions.{validity}
+use Rattle.program.specs.declared.Construction.{Construction}
 use Rattle.program.specs.declared.Refusal.{Refusal}
 use Rattle.program.specs.declared.Validity.{Validity}
 use Rattle.program.specs.declared.Validity.the-variants.{Fit, Refused}
@@ -122,39 +123,39 @@ module _ (ns : List ℕ) (g : Graph) where
   replay-length c (e ∷ es) = replay-length (step ns g c e) es ∙ step-length c e
 
 -- of a program file: the same where it is well formed, and nothing where it is not
-module _ (s : List ℕ) where
+module _ (κ : Construction) (s : List ℕ) where
   module _ (fit : validity s ≡ Fit) (c : Configuration) (e : ℕ) where
-    pub program-outcome : programOutcome s c e ≡ outcome (sizes s) (graph s) c e
+    pub program-outcome : programOutcome κ s c e ≡ outcome (sizes s) (graph κ s) c e
     unfolding programOutcome outcomeUnlessRefused
     program-outcome = rw fit
 
-    pub program-step : programStep s c e ≡ step (sizes s) (graph s) c e
+    pub program-step : programStep κ s c e ≡ step (sizes s) (graph κ s) c e
     unfolding programStep step
     program-step = rw program-outcome
 
   module _ (fit : validity s ≡ Fit) where
-    pub program-replay : (c : Configuration) (es : List ℕ) → programReplay s c es ≡ replay (sizes s) (graph s) c es
+    pub program-replay : (c : Configuration) (es : List ℕ) → programReplay κ s c es ≡ replay (sizes s) (graph κ s) c es
     unfolding programReplay replay
     program-replay c [] = refl
-    program-replay c (e ∷ es) = rw (program-step fit c e) (program-replay (step (sizes s) (graph s) c e) es)
+    program-replay c (e ∷ es) = rw (program-step fit c e) (program-replay (step (sizes s) (graph κ s) c e) es)
 
-    pub program-outcomes : (c : Configuration) (es : List ℕ) → programOutcomes s c es ≡ outcomes (sizes s) (graph s) c es
+    pub program-outcomes : (c : Configuration) (es : List ℕ) → programOutcomes κ s c es ≡ outcomes (sizes s) (graph κ s) c es
     unfolding programOutcomes outcomes
     program-outcomes c [] = refl
-    program-outcomes c (e ∷ es) = rw (program-outcome fit c e, program-step fit c e, program-outcomes (step (sizes s) (graph s) c e) es)
+    program-outcomes c (e ∷ es) = rw (program-outcome fit c e, program-step fit c e, program-outcomes (step (sizes s) (graph κ s) c e) es)
 
   module _ (x : Refusal) (refused : validity s ≡ Refused x) (c : Configuration) (e : ℕ) where
-    pub refused-outcome : programOutcome s c e ≡ Refuses x
+    pub refused-outcome : programOutcome κ s c e ≡ Refuses x
     unfolding programOutcome outcomeUnlessRefused
     refused-outcome = rw refused
 
-    pub refused-step : programStep s c e ≡ c
+    pub refused-step : programStep κ s c e ≡ c
     unfolding programStep next
     refused-step = rw refused-outcome
 
-  pub program-step-length : (c : Configuration) (e : ℕ) → length (programStep s c e .memory) ≡ length (c .memory)
+  pub program-step-length : (c : Configuration) (e : ℕ) → length (programStep κ s c e .memory) ≡ length (c .memory)
   unfolding programStep
-  program-step-length c e = next-length (sizes s) (graph s) c e (programOutcome s c e)
+  program-step-length c e = next-length (sizes s) (graph κ s) c e (programOutcome κ s c e)
 
 -- question 12 as it is asked of numbers
 pub asked-cells : (ns : List ℕ) (m : List ℤ) (cells count : ℕ) → length m ≡ cells → count ≡ cellCount ns → ask (eqb cells count) 12 0 ≡ memoryValidity ns m

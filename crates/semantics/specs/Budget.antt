@@ -9,6 +9,7 @@ use Rattle.program.specs.File.{sizes}
 use Rattle.program.specs.FirstSuch.{firstSuch}
 use Rattle.program.specs.Graph.{Graph, graph}
 use Rattle.program.specs.Questions.{validity}
+use Rattle.program.specs.declared.Construction.{Construction}
 use Rattle.program.specs.declared.First.{First}
 use Rattle.program.specs.declared.First.the-variants.{At, Nothing}
 use Rattle.program.specs.declared.Validity.{Validity}
@@ -54,12 +55,12 @@ endsUnlessRefused (Refused x) m r = ends (Refuses x) (begun m)
 unfoldable pub budgeted : List ℕ → Graph → ℕ → List ℤ → Result
 budgeted ns g budget m = endsUnlessRefused (memoryValidity ns m) m (runFrom budget ns g (begun m))
 
--- the same of a program file, of which the file's questions are asked first; the reply "with node and count"
-unfoldable pub programBudgeted : List ℕ → ℕ → List ℤ → Result
-programBudgeted s budget m = endsUnlessRefused (validity s) m (budgeted (sizes s) (graph s) budget m)
+-- the same of a program file on its graph by a construction κ; the file's questions are asked first; the reply "with node and count"
+unfoldable pub programBudgeted : Construction → List ℕ → ℕ → List ℤ → Result
+programBudgeted κ s budget m = endsUnlessRefused (validity s) m (budgeted (sizes s) (graph κ s) budget m)
 
-unfoldable pub budgetReply : List ℕ → ℕ → List ℤ → Ended
-budgetReply s budget m = let r = programBudgeted s budget m in record { run = r .final .run; ending = r .ending }
+unfoldable pub budgetReply : Construction → List ℕ → ℕ → List ℤ → Ended
+budgetReply κ s budget m = let r = programBudgeted κ s budget m in record { run = r .final .run; ending = r .ending }
 
 -- an answer in document 01's numbers: 0, 1 or 2, or the question's number and place
 unfoldable pub endingNumbers : Ending → List ℕ
@@ -73,5 +74,5 @@ unfoldable pub endedNumbers : Ended → List ℕ
 endedNumbers e = endingNumbers (e .ending) ++ (e .run .node ∷ e .run .count ∷ [])
 
 -- the row that a budgeted run of a program file answers
-unfoldable pub runRow : List ℕ → ℕ → List ℤ → List ℕ
-runRow s budget m = endedNumbers (budgetReply s budget m)
+unfoldable pub runRow : Construction → List ℕ → ℕ → List ℤ → List ℕ
+runRow κ s budget m = endedNumbers (budgetReply κ s budget m)

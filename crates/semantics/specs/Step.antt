@@ -10,6 +10,7 @@ use Rattle.program.specs.Asking.{askPlain, inTurn}
 use Rattle.program.specs.File.{sizes, cellCount}
 use Rattle.program.specs.Graph.{Graph, edgeAt, graph}
 use Rattle.program.specs.Questions.{validity}
+use Rattle.program.specs.declared.Construction.{Construction}
 use Rattle.program.specs.declared.Validity.{Validity}
 use Rattle.program.specs.declared.Validity.the-variants.{Fit, Refused}
 use Rattle.program.specs.Meaning.{meaning}
@@ -81,15 +82,15 @@ next ns g c e Taken = along ns g c e
 next ns g c e (Stays f) = c
 next ns g c e (Refuses x) = c
 
--- the same of a program file, of which the file's questions are asked first: the answer, the configuration afterwards, and the reply
-unfoldable pub programOutcome : List ℕ → Configuration → ℕ → Outcome
-programOutcome s c e = outcomeUnlessRefused (validity s) (outcome (sizes s) (graph s) c e)
+-- the same of a program file on its graph by a construction κ; the file's questions are asked first: the answer, the configuration afterwards, and the reply
+unfoldable pub programOutcome : Construction → List ℕ → Configuration → ℕ → Outcome
+programOutcome κ s c e = outcomeUnlessRefused (validity s) (outcome (sizes s) (graph κ s) c e)
 
-unfoldable pub programStep : List ℕ → Configuration → ℕ → Configuration
-programStep s c e = next (sizes s) (graph s) c e (programOutcome s c e)
+unfoldable pub programStep : Construction → List ℕ → Configuration → ℕ → Configuration
+programStep κ s c e = next (sizes s) (graph κ s) c e (programOutcome κ s c e)
 
-unfoldable pub stepReply : List ℕ → Configuration → ℕ → Stepped
-stepReply s c e = record { run = programStep s c e .run; outcome = programOutcome s c e }
+unfoldable pub stepReply : Construction → List ℕ → Configuration → ℕ → Stepped
+stepReply κ s c e = record { run = programStep κ s c e .run; outcome = programOutcome κ s c e }
 
 -- an answer in document 01's numbers: 0, the reason, or the question's number and place
 unfoldable pub outcomeNumbers : Outcome → List ℕ
@@ -102,5 +103,5 @@ unfoldable pub steppedNumbers : Stepped → List ℕ
 steppedNumbers r = outcomeNumbers (r .outcome) ++ (r .run .node ∷ r .run .count ∷ [])
 
 -- the row that a step of a program file answers
-unfoldable pub stepRow : List ℕ → Configuration → ℕ → List ℕ
-stepRow s c e = steppedNumbers (stepReply s c e)
+unfoldable pub stepRow : Construction → List ℕ → Configuration → ℕ → List ℕ
+stepRow κ s c e = steppedNumbers (stepReply κ s c e)

@@ -2,6 +2,7 @@
 pub(crate) mod action;
 mod arithmetic;
 mod condition;
+pub(crate) mod selection;
 
 use program::prepared;
 use program::prepared::CODE;
@@ -26,7 +27,7 @@ ghost use Rattle.semantics.specs.declared.Truth.the-variants.{Known, Und
 // The cells of a memory, and the program's numbers behind them.
 pub(crate) const MEMORY: usize = 1024;
 
-fn is_fault(v: i64) -> bool
+pub(crate) fn is_fault(v: i64) -> bool
     ensures { λ r. ⌜ r ≡ leZ (pos 4294967296) v ⌝ }
 {
     4294967296 <= v

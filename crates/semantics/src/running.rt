@@ -5,20 +5,25 @@ ghost use mathlib.Core.List.{List};
 ghost use Prim.Native.Nat.{ℕ, _<_, _≤_};
 ghost use lib.ListN.{length};
 ghost use Rattle.program.specs.File.{cellCount};
-ghost use Rattle.program.specs.Graph.{Graph};
+ghost use Rattle.program.specs.Graph.{Graph, unnamed};
 ghost use Rattle.program.specs.Parts.Prepared.{nodesMost, cellsMost, Ordered, Linked, Prepared};
 ghost use Rattle.semantics.specs.Budget as spec;
 ghost use Rattle.semantics.specs.Parts.Cells;
 ghost use Rattle.semantics.specs.Parts.Running;
+ghost use Rattle.semantics.specs.Parts.Selecting;
 ghost use Rattle.semantics.specs.Step;
 use crate::Ended;
 use crate::Ending;
 use crate::Run;
 use crate::evaluator::MEMORY;
 use crate::evaluator::action;
+use crate::evaluator::is_fault;
+use crate::evaluator::selection;
 use crate::stepping;
+use program::Construction;
 use program::Refusal;
 use program::Validity;
+use program::drawing;
 use program::prepared;
 use program::prepared::CELLS_MOST;
 use program::prepared::CODE;
@@ -43,6 +48,29 @@ fn stopped(run: Run) -> Ended
     }
 }
 
+// The first edge out of a node of the deterministic graph whose guard holds, or the exit after guards that all fail, from the node's lowest edge on; NONE, where a guard
+// is undefined before that, or none holds. Each guard is tested once: those before it are known to fail.
+fn first_true(code: &[u16; CODE], graph: &[u16; GRAPH], memory: &[i32; MEMORY], first: u16) -> u16
+    requires { ⌜ Ordered (now code) ⌝ }
+    requires { ⌜ Linked (now graph) ⌝ }
+    ensures { λ r. ⌜ ((ns : List ℕ) (g : Graph) (node : ℕ) → Prepared ns g (now (code .entry)) (now (graph .entry)) → Cells.NumbersIn (now (code .entry)) (now (memory .entry))
+        → Selecting.Opens (now (graph .entry)) node first → Running.Lowest ns g node (now (memory .entry)) r (now (memory .entry))) ⌝ }
+{
+    let count = prepared::edge_count(graph);
+    let mut k = first;
+    while k < count {
+        let v = selection::own(code, graph, memory, k);
+        if v == 1 {
+            return k;
+        }
+        if is_fault(v) {
+            return NONE;
+        }
+        k = prepared::next_edge(graph, k);
+    }
+    NONE
+}
+
 // Performs the lowest defined edge out of a node; NONE, where there is none.
 fn take_lowest(
     code: &[u16; CODE],
@@ -58,7 +86,11 @@ fn take_lowest(
     let count = prepared::edge_count(graph);
     let mut e = prepared::first_edge(graph, node);
     while e < count {
-        if action::perform(code, graph, memory, prepared::action(graph, e)) {
+        let action = prepared::action(graph, e);
+        if prepared::is_guard(action) {
+            return first_true(code, graph, memory, e);
+        }
+        if action::perform(code, graph, memory, action) {
             return e;
         }
         e = prepared::next_edge(graph, e);
@@ -67,7 +99,7 @@ fn take_lowest(
 }
 
 // A run from node 0 in an array with the program's numbers behind the memory: the lowest defined edge each time.
-fn run_on(
+fn run_array(
     code: &[u16; CODE],
     graph: &[u16; GRAPH],
     budget: u16,
@@ -125,7 +157,7 @@ fn run_copied(code: &[u16; CODE], graph: &[u16; GRAPH], budget: u16, memory: &mu
 {
     let mut cells = [0i32; MEMORY];
     stepping::copy_in(code, memory, &mut cells);
-    let ended = run_on(code, graph, budget, &mut cells);
+    let ended = run_array(code, graph, budget, &mut cells);
     copy_back(memory, &cells);
     ended
 }
@@ -144,17 +176,27 @@ fn run_prepared(code: &[u16; CODE], graph: &[u16; GRAPH], budget: u16, memory: &
     }
 }
 
-// A run from node 0 with a budget: the lowest defined edge each time, up to node 1, until the budget is used up, or until no edge is defined.
-pub fn run(program: &[u8], budget: u16, memory: &mut [i32]) -> Ended
-    ensures { λ r. ⌜ (r ≡ spec.budgetReply (now (program .entry)) budget (now (memory .entry)))
-        × (now (memory .exit) ≡ spec.programBudgeted (now (program .entry)) budget (now (memory .entry)) .final .memory) ⌝ }
-    ensures numbers { λ r. ⌜ spec.endedNumbers r ≡ spec.runRow (now (program .entry)) budget (now (memory .entry)) ⌝ }
+// A run from node 0 with a budget, on the graph by a construction: the lowest defined edge each time, up to node 1, until the budget is used up, or until no edge is
+// defined.
+pub fn run_on(construction: Construction, program: &[u8], budget: u16, memory: &mut [i32]) -> Ended
+    ensures { λ r. ⌜ (r ≡ spec.budgetReply construction (now (program .entry)) budget (now (memory .entry)))
+        × (now (memory .exit) ≡ spec.programBudgeted construction (now (program .entry)) budget (now (memory .entry)) .final .memory) ⌝ }
+    ensures numbers { λ r. ⌜ spec.endedNumbers r ≡ spec.runRow construction (now (program .entry)) budget (now (memory .entry)) ⌝ }
 {
     let mut code = [0u16; CODE];
     let mut graph = [0u16; GRAPH];
-    let v = prepared::prepare_linked(program, &mut code, &mut graph);
+    let v = prepared::prepare_linked(construction, program, &mut code, &mut graph);
     match v {
         Validity::Fit => run_prepared(&code, &graph, budget, memory),
         Validity::Refused(x) => refused(x),
     }
+}
+
+// The same, where the caller names no construction.
+pub fn run(program: &[u8], budget: u16, memory: &mut [i32]) -> Ended
+    ensures { λ r. ⌜ (r ≡ spec.budgetReply unnamed (now (program .entry)) budget (now (memory .entry)))
+        × (now (memory .exit) ≡ spec.programBudgeted unnamed (now (program .entry)) budget (now (memory .entry)) .final .memory) ⌝ }
+    ensures numbers { λ r. ⌜ spec.endedNumbers r ≡ spec.runRow unnamed (now (program .entry)) budget (now (memory .entry)) ⌝ }
+{
+    run_on(drawing::unnamed(), program, budget, memory)
 }

@@ -5,7 +5,7 @@ ghost use mathlib.Core.List.{List};
 ghost use lib.IntN.{ℤ, pos};
 ghost use Prim.Native.Nat.{ℕ, _<_, _+_, min};
 ghost use lib.ListN.{length, replicate};
-ghost use Rattle.program.specs.Graph.{Graph};
+ghost use Rattle.program.specs.Graph.{Graph, unnamed};
 ghost use Rattle.program.specs.Parts.Prepared.{Ordered, Coded, Prepared};
 ghost use Rattle.semantics.specs.Action;
 ghost use Rattle.semantics.specs.Parts.Cells;
@@ -17,8 +17,10 @@ use crate::Run;
 use crate::Stepped;
 use crate::evaluator::MEMORY;
 use crate::evaluator::action;
+use program::Construction;
 use program::Refusal;
 use program::Validity;
+use program::drawing;
 use program::prepared;
 use program::prepared::CELLS_MOST;
 use program::prepared::CODE;
@@ -163,7 +165,7 @@ fn edge_effect(code: &[u16; CODE], graph: &[u16; GRAPH], edge: u16, memory: &[i3
 {
     let mut cells = [0i32; MEMORY];
     copy_in(code, memory, &mut cells);
-    action::effect(code, graph, &cells, prepared::action(graph, edge))
+    action::edge_effect(code, graph, &cells, edge)
 }
 
 // The reply of a refused step.
@@ -206,18 +208,33 @@ impl Run {
         Run { node: 0, count: 0 }
     }
 
-    // The run that has taken an edge, and the memory with it; or both as they were, where the step is undefined or refused.
-    pub fn step(self, program: &[u8], edge: u16, memory: &mut [i32]) -> Stepped
-        ensures { λ r. ⌜ (r ≡ spec.stepReply (now (program .entry)) (record { run = self; memory = now (memory .entry) }) edge)
-            × (now (memory .exit) ≡ spec.programStep (now (program .entry)) (record { run = self; memory = now (memory .entry) }) edge .memory) ⌝ }
-        ensures numbers { λ r. ⌜ spec.steppedNumbers r ≡ spec.stepRow (now (program .entry)) (record { run = self; memory = now (memory .entry) }) edge ⌝ }
+    // The run that has taken an edge of the graph by a construction, and the memory with it; or both as they were, where the step is undefined or refused.
+    pub fn step_on(
+        self,
+        construction: Construction,
+        program: &[u8],
+        edge: u16,
+        memory: &mut [i32],
+    ) -> Stepped
+        ensures { λ r. ⌜ (r ≡ spec.stepReply construction (now (program .entry)) (record { run = self; memory = now (memory .entry) }) edge)
+            × (now (memory .exit) ≡ spec.programStep construction (now (program .entry)) (record { run = self; memory = now (memory .entry) }) edge .memory) ⌝ }
+        ensures numbers { λ r. ⌜ spec.steppedNumbers r ≡ spec.stepRow construction (now (program .entry)) (record { run = self; memory = now (memory .entry) }) edge ⌝ }
     {
         let mut code = [0u16; CODE];
         let mut graph = [0u16; GRAPH];
-        let v = prepared::prepare(program, &mut code, &mut graph);
+        let v = prepared::prepare(construction, program, &mut code, &mut graph);
         match v {
             Validity::Fit => step_prepared(self, &code, &graph, edge, memory),
             Validity::Refused(x) => refused(self, x),
         }
+    }
+
+    // The same, where the caller names no construction.
+    pub fn step(self, program: &[u8], edge: u16, memory: &mut [i32]) -> Stepped
+        ensures { λ r. ⌜ (r ≡ spec.stepReply unnamed (now (program .entry)) (record { run = self; memory = now (memory .entry) }) edge)
+            × (now (memory .exit) ≡ spec.programStep unnamed (now (program .entry)) (record { run = self; memory = now (memory .entry) }) edge .memory) ⌝ }
+        ensures numbers { λ r. ⌜ spec.steppedNumbers r ≡ spec.stepRow unnamed (now (program .entry)) (record { run = self; memory = now (memory .entry) }) edge ⌝ }
+    {
+        self.step_on(drawing::unnamed(), program, edge, memory)
     }
 }

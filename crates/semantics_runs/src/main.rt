@@ -3,10 +3,14 @@
 // A record of `runs.bin` is a mode, the length of a title, two numbers (two bytes each), the lengths in bytes of a memory, of a list of step calls and of a
 // file (two bytes each), and then the title, the memory, the list and the file. A cell of the memory is four bytes, two's complement; a step call is the
 // number of an edge, two bytes. Numbers have the high byte first. Mode 1 is a run from node 0 whose budget is the first number; mode 2 is the
-// step calls in turn, from a run whose node is the first number and whose count is the second.
+// step calls in turn, from a run whose node is the first number and whose count is the second. 16 more asks for document 01's graph by name, 32 more for the
+// deterministic one.
+use program::drawing;
 use program::file;
+use semantics::Ended;
 use semantics::Ending;
 use semantics::Run;
+use semantics::Stepped;
 use semantics::running;
 
 // What the first twelve bytes of a record say: lengths are in bytes.
@@ -84,9 +88,22 @@ fn print_memory(memory: &[i32]) {
     printing::text(b"\n");
 }
 
+fn number(x: u8) -> u32 {
+    x as u32
+}
+
+// A run on the graph by the construction that a number names; 0 names none.
+fn run_by(on: u8, s: &[u8], budget: u16, memory: &mut [i32]) -> Ended {
+    if on == 0 {
+        running::run(s, budget, memory)
+    } else {
+        running::run_on(drawing::named(number(on)), s, budget, memory)
+    }
+}
+
 // Mode 1: a budgeted run.
-fn answer_run(s: &[u8], budget: u16, memory: &mut [i32]) {
-    let ended = running::run(s, budget, memory);
+fn answer_run(on: u8, s: &[u8], budget: u16, memory: &mut [i32]) {
+    let ended = run_by(on, s, budget, memory);
     let ending = ended.ending;
     print_ending(ending);
     printing::text(b"; ");
@@ -94,20 +111,29 @@ fn answer_run(s: &[u8], budget: u16, memory: &mut [i32]) {
     print_memory(memory);
 }
 
+// A step on such a graph.
+fn step_by(run: Run, on: u8, s: &[u8], edge: u16, memory: &mut [i32]) -> Stepped {
+    if on == 0 {
+        run.step(s, edge, memory)
+    } else {
+        run.step_on(drawing::named(number(on)), s, edge, memory)
+    }
+}
+
 // A step call, and its outcome printed.
-fn step_told(run: Run, s: &[u8], edge: u16, memory: &mut [i32]) -> Run {
-    let stepped = run.step(s, edge, memory);
+fn step_told(run: Run, on: u8, s: &[u8], edge: u16, memory: &mut [i32]) -> Run {
+    let stepped = step_by(run, on, s, edge, memory);
     let outcome = stepped.outcome;
     printing::outcome(outcome);
     printing::text(b"; ");
     stepped.run
 }
 
-fn step_all(from: Run, s: &[u8], calls: &[u8], memory: &mut [i32]) -> Run {
+fn step_all(from: Run, on: u8, s: &[u8], calls: &[u8], memory: &mut [i32]) -> Run {
     let mut run = from;
     let mut i: usize = 0;
     while i < calls.len() / 2 {
-        run = step_told(run, s, file::word_at(calls, i * 2), memory);
+        run = step_told(run, on, s, file::word_at(calls, i * 2), memory);
         i += 1;
     }
     run
@@ -122,16 +148,17 @@ fn start(node: u16, count: u16) -> Run {
 }
 
 // Mode 2: step calls in turn.
-fn answer_calls(run: Run, s: &[u8], calls: &[u8], memory: &mut [i32]) {
-    print_run(step_all(run, s, calls, memory));
+fn answer_calls(run: Run, on: u8, s: &[u8], calls: &[u8], memory: &mut [i32]) {
+    print_run(step_all(run, on, s, calls, memory));
     print_memory(memory);
 }
 
 fn answer(h: Head, s: &[u8], calls: &[u8], memory: &mut [i32]) {
-    let mode = h.mode;
-    match mode {
-        1 => answer_run(s, h.first, memory),
-        2 => answer_calls(start(h.first, h.second), s, calls, memory),
+    let on = h.mode / 16;
+    let asked = h.mode % 16;
+    match asked {
+        1 => answer_run(on, s, h.first, memory),
+        2 => answer_calls(start(h.first, h.second), on, s, calls, memory),
         _ => printing::text(b"unknown mode\n"),
     }
 }

@@ -1,5 +1,6 @@
 // The truth answers of boolean expressions in an abstract memory, and of the condition for leaving a do, over a prepared program.
 use super::arithmetic;
+use program::ActionNode;
 use program::BooleanNode;
 use program::CommandNode;
 use program::prepared;
@@ -14,7 +15,7 @@ ghost use mathlib.Core.Path.{_≡_};
 ghost use mathlib.Core.List.{List};
 ghost use Prim.Native.Nat.{ℕ};
 ghost use Rattle.program.specs.Graph.{done};
-ghost use Rattle.program.specs.Parts.Prepared.{entriesIn};
+ghost use Rattle.program.specs.Parts.Prepared.{entriesIn, actionIn, ownIn};
 ghost use Rattle.program.specs.Tree.{arithAt, booleanBelow, booleanTrees, commandBelow, commandTrees};
 ghost use Rattle.signs.specs.Truth as answer;
 ghost use Rattle.analysis.specs.Signs as spec;
@@ -92,5 +93,21 @@ pub(crate) fn exit_truths(
             truth::conjoined(a, b)
         }
         _ => certain(),
+    }
+}
+
+// The truth answers of an edge's own guard on the deterministic graph; of an edge that is no such guard's, true alone.
+pub(crate) fn own_truths(code: &[u16; CODE], graph: &[u16; GRAPH], rho: &[u8; 32], e: u16) -> Truths
+    requires { ⌜ Tabled (now code) ⌝ }
+    ensures { λ r. ⌜ r ≡ spec.truthsIn (now (rho .entry)) (ownIn (entriesIn (now (code .entry)) (now (graph .entry))) (actionIn (now (graph .entry)) e)) ⌝ }
+{
+    let action = prepared::action(graph, e);
+    match action {
+        ActionNode::Nothing => certain(),
+        ActionNode::Assign(_, _) => certain(),
+        ActionNode::Store(_, _, _) => certain(),
+        ActionNode::Holds(_) => certain(),
+        ActionNode::Exit(_) => certain(),
+        ActionNode::Guard(n) => truths(code, rho, CONDITIONS, n),
     }
 }

@@ -146,5 +146,6 @@ pub(crate) fn may_be_negative(
         ActionNode::Store(_, i, a) => store_negative(code, rho, i, a),
         ActionNode::Holds(n) => boolean_negative(code, rho, CONDITIONS, n),
         ActionNode::Exit(n) => exit_negative(code, graph, rho, COMMANDS, n),
+        ActionNode::Guard(n) => boolean_negative(code, rho, CONDITIONS, n),
     }
 }

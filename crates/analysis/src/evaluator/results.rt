@@ -110,7 +110,7 @@ fn stored_sets(x: u16, old: u8, values: u8) -> u64
 }
 
 // The abstract memory as it is, where that is a result: name 32 with one set.
-fn unchanged(holds: bool) -> u64
+pub(crate) fn unchanged(holds: bool) -> u64
     ensures { λ r. ⌜ r ≡ cond holds 96 32 ⌝ }
 {
     if holds { 96 } else { 32 }
@@ -153,6 +153,10 @@ pub(crate) fn results(
         }
         ActionNode::Exit(n) => {
             let t = condition::exit_truths(code, graph, rho, COMMANDS, n);
+            unchanged(t.holds)
+        }
+        ActionNode::Guard(n) => {
+            let t = condition::truths(code, rho, CONDITIONS, n);
             unchanged(t.holds)
         }
     }

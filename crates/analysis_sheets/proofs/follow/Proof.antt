@@ -8,10 +8,10 @@ use Rattle.analysis_sheets.proofs.follow.Statement.{statement}
 use Rattle.analysis_sheets.proofs.follow.Tie as tie
 
 abbrev Inv-loop : tie.InvT-loop
-Inv-loop s further from sheet memory₀ count run₀ at₀ i₀ memory run at i = length memory ≡ length memory₀
+Inv-loop on s further from sheet memory₀ count run₀ at₀ i₀ memory run at i = length memory ≡ length memory₀
 
 abbrev μ-loop : tie.MeasureT-loop
-μ-loop s further from sheet memory₀ count run₀ at₀ i₀ memory run at i = count - i
+μ-loop on s further from sheet memory₀ count run₀ at₀ i₀ memory run at i = count - i
 
 call-count-requires : tie.Need-call-count-requires Inv-loop μ-loop
 call-count-requires c κs = search needs

@@ -11,8 +11,8 @@ use Rattle.listing.proofs.Printed.{drawn-counts}
 use Rattle.listing.proofs.put_counts_of.Statement.{statement}
 use Rattle.listing.proofs.put_counts_of.Tie as tie
 
-told : (c : tie.After-draw) → (let s = c .before .before .before .before in countsLine (c .draw .result .nodes) (c .draw .result .edges) (s .args .count) ≡ countsOf (s .args .program .now) (s .args .count))
-told c = let s = c .before .before .before .before in drawn-counts (s .args .program .now) (replicate 1785 0) (s .args .count) (s .pre .0) (length-replicate {A = ℕ} 1785 0) (c .draw .ensures .0 .0)
+told : (c : tie.After-draw-on) → (let s = c .before .before .before .before in countsLine (c .draw-on .result .nodes) (c .draw-on .result .edges) (s .args .count) ≡ countsOf (s .args .program .now) (s .args .count))
+told c = let s = c .before .before .before .before in drawn-counts (s .args .program .now) (replicate 1785 0) (s .args .count) (s .pre .0) (length-replicate {A = ℕ} 1785 0) (c .draw-on .ensures .0 .0)
 
 put-counts-requires : tie.Need-put-counts-requires
 put-counts-requires c κs = room-as (ap lineText (told (c .before .before))) (c .before .before .before .before .before .before .pre .1)

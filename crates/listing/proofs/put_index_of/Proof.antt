@@ -3,13 +3,14 @@ use borrow.Author.Needs.{needs}
 use mathlib.Core.Path.{_≡_}
 use Rattle.program.specs.File.{sizes}
 use Rattle.program.specs.Graph.{graph}
+use Rattle.program.specs.declared.Construction.the-variants.{Nondeterministic}
 use Rattle.analysis.specs.Verdict.{indexMark}
 use Rattle.listing.specs.Parts.Writing.{indexOf}
 use Rattle.listing.proofs.Printed.{mark-told, never-declined, never-misshapen}
 use Rattle.listing.proofs.put_index_of.Statement.{statement}
 use Rattle.listing.proofs.put_index_of.Tie as tie
 
-told : (c : tie.After-marking) → (let s = c .before .before .before .before .before .before in c .marking .given .0 .0 ≡ indexMark (sizes (s .args .program .now)) (graph (s .args .program .now)) (s .args .list .now))
+told : (c : tie.After-marking) → (let s = c .before .before .before .before .before .before in c .marking .given .0 .0 ≡ indexMark (sizes (s .args .program .now)) (graph Nondeterministic (s .args .program .now)) (s .args .list .now))
 told c = let s = c .before .before .before .before .before .before in mark-told (s .args .program .now) (s .args .list .now) (s .pre .0) (c .before .before .index-mark .ensures .0) (c .marking .given .1)
 
 put-index-requires : tie.Need-put-index-requires

@@ -16,29 +16,29 @@ use Rattle.listing.proofs.render_fit.Statement.{statement}
 use Rattle.listing.proofs.render_fit.Tie as tie
 
 -- the text, by what the solver answers over a buffer of zeros
-module _ (x : tie.After-solve) where
+module _ (x : tie.After-solve-on) where
   abbrev input : List ℕ
   input = x .before .before .before .before .before .before .args .input .now
 
-  full : x .solve .result .solving ≡ Full → printedText input ≡ lineText (refusalLine (record { number = 18; offset = 0 }))
+  full : x .solve-on .result .solving ≡ Full → printedText input ≡ lineText (refusalLine (record { number = 18; offset = 0 }))
   full =
       full-told input (x .before .before .before .before .before .before .pre .0) (x .before .before .before .program-part .ensures) (x .before .before .initial-part .ensures) (replicate 65536 0) (length-replicate {A = ℕ} 65536 0)
-      (x .solve .ensures .0 .0)
+      (x .solve-on .ensures .0 .0)
 
-  malformed : (w : WrongByte) → x .solve .result .solving ≡ Malformed w → printedText input ≡ lineText (refusalLine (record { number = 17; offset = w .offset }))
+  malformed : (w : WrongByte) → x .solve-on .result .solving ≡ Malformed w → printedText input ≡ lineText (refusalLine (record { number = 17; offset = w .offset }))
   malformed =
       malformed-told input (x .before .before .before .before .before .before .pre .0) (x .before .before .before .program-part .ensures) (x .before .before .initial-part .ensures) (replicate 65536 0) (length-replicate {A = ℕ} 65536 0)
-      (x .solve .ensures .0 .0)
+      (x .solve-on .ensures .0 .0)
 
-  refused : {A : Type 0} (y : Refusal) → x .solve .result .solving ≡ Refused y → A
+  refused : {A : Type 0} (y : Refusal) → x .solve-on .result .solving ≡ Refused y → A
   refused =
       never-refused input (x .before .before .before .before .before .before .pre .0) (x .before .before .before .program-part .ensures) (x .before .before .initial-part .ensures) (replicate 65536 0) (length-replicate {A = ℕ} 65536 0)
-      (x .solve .ensures .0 .0)
+      (x .solve-on .ensures .0 .0)
 
-  finished : x .solve .result .solving ≡ Finished → listingText (x .before .before .before .program-part .result .now) (x .solve .last .1 .1 .0) (x .solve .result .count) ≡ printedText input
+  finished : x .solve-on .result .solving ≡ Finished → listingText (x .before .before .before .program-part .result .now) (x .solve-on .last .1 .1 .1 .0) (x .solve-on .result .count) ≡ printedText input
   finished told =
       finished-told input (x .before .before .before .before .before .before .pre .0) (x .before .before .before .program-part .ensures) (x .before .before .initial-part .ensures) (replicate 65536 0) (length-replicate {A = ℕ} 65536 0)
-      (x .solve .ensures .0 .0) told (x .solve .ensures .0 .1)
+      (x .solve-on .ensures .0 .0) told (x .solve-on .ensures .0 .1)
 
 put-listing-requires : tie.Need-put-listing-requires
 put-listing-requires c κs =
@@ -50,7 +50,7 @@ put-listing-requires c κs =
       fit = rw program (program-fit (s .args .input .now) (s .pre .0));
       marked =
           finished-marked (s .args .input .now) (s .pre .0) program (x .before .before .initial-part .ensures) (replicate 65536 0) (length-replicate {A = ℕ} 65536 0)
-          (x .solve .ensures .0 .0) told (x .solve .ensures .0 .1);
+          (x .solve-on .ensures .0 .0) told (x .solve-on .ensures .0 .1);
       room = rw (finished x told) (s .pre .1);
     }
 

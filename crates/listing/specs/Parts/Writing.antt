@@ -8,6 +8,7 @@ use Rattle.program.specs.File.{wordAt, nameCount, sizes}
 use Rattle.program.specs.Graph.{graph}
 use Rattle.program.specs.Parts.DrawingParts.{overAt}
 use Rattle.program.specs.Questions.{validity}
+use Rattle.program.specs.declared.Construction.the-variants.{Nondeterministic}
 use Rattle.program.specs.declared.Validity.the-variants.{Fit}
 use Rattle.analysis.specs.Sheet.{Line, countsLine, recordLine, indexLine}
 use Rattle.analysis.specs.Verdict.{indexMark, marking}
@@ -32,10 +33,10 @@ recordsText names bytes n = flatMap lineText (tabulate n (lineAt names bytes))
 
 -- the lines of counts and of the index mark for the first n records of a buffer, and the text of such a listing
 unfoldable pub countsOf : List ℕ → ℕ → Line
-countsOf s count = countsLine (graph s .nodes) (length (graph s .edges)) count
+countsOf s count = countsLine (graph Nondeterministic s .nodes) (length (graph Nondeterministic s .edges)) count
 
 unfoldable pub indexOf : List ℕ → List ℕ → Line
-indexOf s bytes = indexLine (indexMark (sizes s) (graph s) bytes)
+indexOf s bytes = indexLine (indexMark (sizes s) (graph Nondeterministic s) bytes)
 
 unfoldable pub listingText : List ℕ → List ℕ → ℕ → List ℕ
 listingText s buffer count =
@@ -45,7 +46,7 @@ listingText s buffer count =
 
 -- a list whose index mark comes back
 abbrev pub WellMarked : List ℕ → List ℕ → Type 0
-WellMarked s bytes = marking s bytes ≡ Marked (indexMark (sizes s) (graph s) bytes)
+WellMarked s bytes = marking s bytes ≡ Marked (indexMark (sizes s) (graph Nondeterministic s) bytes)
 
 -- a buffer that begins with so many records of a well-formed file, which come back marked, and room for their listing
 pub record Listed (s buffer : List ℕ) (count : ℕ) (out : List ℕ) : Type 0 where

@@ -7,6 +7,8 @@ use Rattle.program.specs.Parts.DrawingParts.{overAt}
 use Rattle.program.specs.Graph.{Edge, Around, part, actionKind, actionEntry}
 use Rattle.program.specs.Parts.Prepared.{edgePlace, graphLength}
 use Rattle.program.specs.Syntax.{Command}
+use Rattle.program.specs.declared.Construction.{Construction}
+use Rattle.program.specs.declared.Construction.the-variants.{Nondeterministic, Deterministic}
 use Rattle.program.specs.Tree.{Entries, commandBelow, commandTrees}
 
 -- an edge's four numbers
@@ -18,8 +20,17 @@ pub record Strip : Type 0 where
   pub words : List ℕ
   pub fresh : ℕ
 
-unfoldable pub strip : Around → Command → ℕ → ℕ → ℕ → Strip
-strip o c a b n = record { words = flatMap edgeWords (part o c a b n .edges); fresh = part o c a b n .fresh }
+unfoldable pub strip : Construction → Around → Command → ℕ → ℕ → ℕ → Strip
+strip κ o c a b n = record { words = flatMap edgeWords (part κ o c a b n .edges); fresh = part κ o c a b n .fresh }
+
+-- the kind and the entry of a guard's edge, of guarded entry k and boolean entry g
+unfoldable pub guardKind : Construction → ℕ
+guardKind Nondeterministic = 2
+guardKind Deterministic = 4
+
+unfoldable pub guardEntry : Construction → ℕ → ℕ → ℕ
+guardEntry Nondeterministic k g = g
+guardEntry Deterministic k g = k
 
 -- one edge of given numbers
 unfoldable pub edgeStrip : ℕ → ℕ → ℕ → ℕ → ℕ → Strip

@@ -3,26 +3,29 @@
 -- once what these are of a graph g whose names have the sizes ns.
 use mathlib.Core.Path.{_≡_}
 use Prim.Native.Nat.{ℕ, zero, suc, _+_, _*_, _-_, _≤_, _<_}
-use mathlib.Core.Bool.{true, cond}
-use mathlib.Core.List.{List, [], _∷_}
+use mathlib.Core.Bool.{Bool, true, false, cond}
+use mathlib.Core.List.{List, [], _∷_, _++_}
 use lib.Dec.{T, eqb, ltb}
 use lib.IntN.{ℤ, pos}
 use lib.ListN.{length, getD}
 use Rattle.program.specs.File.{sizes, cellCount, firstCell}
 use Rattle.program.specs.Graph as drawn
-use Rattle.program.specs.Graph.{Graph, edgeAt, done}
+use Rattle.program.specs.Graph.{Graph, edgeAt, done, selected}
 use Rattle.program.specs.Kind.{arithKind}
 use Rattle.program.specs.Meaning.{Meaning, nothing, assigns, stores, condition, meaning}
 use Rattle.program.specs.Parts.Node.{commandForm}
+use Rattle.program.specs.Parts.Preceding.{before, isSelect, Follows, plain}
 use Rattle.program.specs.Questions.{validity}
 use Rattle.program.specs.Parts.Sorted.{meaningNamed}
+use Rattle.program.specs.Syntax.{Boolean as BooleanTree, truth}
 use Rattle.program.specs.Tree.{Entries, arithAt, booleanAt, commandAt}
 use Rattle.program.specs.declared.ActionNode.{ActionNode}
-use Rattle.program.specs.declared.ActionNode.the-variants.{Nothing, Assign, Store, Holds, Exit}
+use Rattle.program.specs.declared.ActionNode.the-variants.{Nothing, Assign, Store, Holds, Exit, Guard}
 use Rattle.program.specs.declared.ArithNode.{ArithNode}
 use Rattle.program.specs.declared.ArithNode.the-variants.{Number, Variable, Element, Operator}
 use Rattle.program.specs.declared.CommandNode.{CommandNode}
 use Rattle.program.specs.declared.CommandNode.the-variants.{Skip, Assign as AssignNode, Store as StoreNode, Sequence, Conditional, Iteration, Guarded, Choice, Jump}
+use Rattle.program.specs.declared.Construction.{Construction}
 use Rattle.program.specs.declared.Entry.{Entry}
 use Rattle.program.specs.declared.Table.the-variants.{Arithmetic, Boolean, Commands}
 use Rattle.program.specs.declared.Validity.{Validity}
@@ -176,22 +179,75 @@ performed (Guarded g p) = Nothing
 performed (Choice p q) = Nothing
 performed (Jump j) = Nothing
 
+-- the guard of a guarded command on an edge
+unfoldable pub guardForm : CommandNode → ActionNode
+guardForm Skip = Nothing
+guardForm (AssignNode x a) = Nothing
+guardForm (StoreNode x i a) = Nothing
+guardForm (Sequence p q) = Nothing
+guardForm (Conditional p) = Nothing
+guardForm (Iteration p) = Nothing
+guardForm (Guarded g p) = Guard g
+guardForm (Choice p q) = Nothing
+guardForm (Jump j) = Nothing
+
 -- the action of a kind and an entry, decoded: "Action kind 1 is the command entry itself, 2 a boolean entry, 3 the exit of the do whose operand is that command
--- entry."
+-- entry."; order 8: "action kind 4 with the guarded entry"
 unfoldable pub actionForm : Entries → ℕ → ℕ → ActionNode
-actionForm es kind n = getD (Nothing ∷ performed (commandForm es commandsMost n) ∷ Holds n ∷ Exit n ∷ []) kind Nothing
+actionForm es kind n =
+    getD
+    (Nothing ∷ performed (commandForm es commandsMost n) ∷ Holds n ∷ Exit n ∷ guardForm (commandForm es commandsMost n) ∷ [])
+    kind
+    Nothing
 
 -- the action of edge e, decoded. It depends on the graph's commands alone
 unfoldable pub actionIn : List ℕ → ℕ → ActionNode
 actionIn graph e = actionForm (entriesIn [] graph) (edgeIn graph e 2) (edgeIn graph e 3)
 
--- what a decoded action means
+-- what a decoded action means, a guard's without the earlier ones
 unfoldable pub decodedMeaning : Entries → ActionNode → Meaning
 decodedMeaning es Nothing = nothing
 decodedMeaning es (Assign x a) = assigns x (arithAt es a)
 decodedMeaning es (Store x i a) = stores x (arithAt es i) (arithAt es a)
 decodedMeaning es (Holds n) = condition (booleanAt es n)
 decodedMeaning es (Exit n) = condition (done (commandAt es n))
+decodedMeaning es (Guard n) = condition (booleanAt es n)
+
+-- whether it is a guard's of the deterministic graph
+unfoldable pub isGuardNode : ActionNode → Bool
+isGuardNode Nothing = false
+isGuardNode (Assign x a) = false
+isGuardNode (Store x i a) = false
+isGuardNode (Holds n) = false
+isGuardNode (Exit n) = false
+isGuardNode (Guard n) = true
+
+-- its own condition, where it is; of any other action, true
+unfoldable pub ownIn : Entries → ActionNode → BooleanTree
+ownIn es Nothing = truth 0
+ownIn es (Assign x a) = truth 0
+ownIn es (Store x i a) = truth 0
+ownIn es (Holds n) = truth 0
+ownIn es (Exit n) = truth 0
+ownIn es (Guard n) = booleanAt es n
+
+-- those of the first k edges that leave a node, in order
+unfoldable pub guardsIn : Entries → List ℕ → ℕ → ℕ → List BooleanTree
+guardsIn es graph node zero = []
+guardsIn es graph node (suc k) = guardsIn es graph node k ++ cond (eqb (sourceIn graph k) node) (ownIn es (actionIn graph k) ∷ []) []
+
+-- what a decoded action means after these guards
+unfoldable pub meaningAfter : Entries → List BooleanTree → ActionNode → Meaning
+meaningAfter es earlier Nothing = nothing
+meaningAfter es earlier (Assign x a) = assigns x (arithAt es a)
+meaningAfter es earlier (Store x i a) = stores x (arithAt es i) (arithAt es a)
+meaningAfter es earlier (Holds n) = condition (booleanAt es n)
+meaningAfter es earlier (Exit n) = condition (done (commandAt es n))
+meaningAfter es earlier (Guard n) = condition (selected earlier (booleanAt es n))
+
+-- what edge e means
+unfoldable pub edgeMeaning : Entries → List ℕ → ℕ → Meaning
+edgeMeaning es graph e = meaningAfter es (guardsIn es graph (sourceIn graph e) e) (actionIn graph e)
 
 -- the lowest edge out of one of 129 nodes, and the next edge after one of 255 out of the same node; where there is none, 255
 unfoldable pub firstIn : List ℕ → ℕ → ℕ
@@ -225,14 +281,17 @@ pub record Coded (ns code : List ℕ) : Type 0 where
   pub leaf : (n : ℕ) → n < getD code arithmeticCountPlace 0 → getD code (4 * n + 3) 0 ≡ leafCell (firstCell ns) n (arithIn code n)
   pub past : (n : ℕ) → getD code arithmeticCountPlace 0 ≤ n → n < expressionsMost → numbersAt code (4 * n) ≡ noEntry
 
--- edge e of a graph: its nodes, which are in the graph, and its action, whose names are there
+-- edge e of a graph: its nodes, which are in the graph; its action, whose names are there, without its earlier guards; and what precedes it at its node, by which
+-- the earlier guards are those of the lower edges
 pub record PreparedEdge (ns : List ℕ) (g : Graph) (code graph : List ℕ) (e : ℕ) : Type 0 where
   pub source : sourceIn graph e ≡ edgeAt g e .source
   pub target : targetIn graph e ≡ edgeAt g e .target
   pub from : edgeAt g e .source < g .nodes
   pub to : edgeAt g e .target < g .nodes
-  pub action : decodedMeaning (entriesIn code graph) (actionIn graph e) ≡ meaning (edgeAt g e .action)
+  pub action : decodedMeaning (entriesIn code graph) (actionIn graph e) ≡ meaning (plain (edgeAt g e .action))
   pub named : T (meaningNamed ns (meaning (edgeAt g e .action)))
+  pub guard : isGuardNode (actionIn graph e) ≡ isSelect (edgeAt g e .action)
+  pub follows : Follows (before g e) (edgeAt g e .action)
 
 -- a graph of at most 129 nodes and 255 edges, whose names have the sizes ns, prepared
 pub record Prepared (ns : List ℕ) (g : Graph) (code graph : List ℕ) : Type 0 where
@@ -254,12 +313,12 @@ pub record Following (graph : List ℕ) (node : ℕ) (P : ℕ → Type 0) (e : �
   pub here : e < getD graph edgeCountPlace 0 → sourceIn graph e ≡ node
   pub before : (k : ℕ) → k < e → k < getD graph edgeCountPlace 0 → eqb (sourceIn graph k) node ≡ true → P k
 
--- what preparing a file replies, the answer to its questions, and leaves in the two arrays: where it is fit, its code and graph
-pub record PreparedFor (s : List ℕ) (r : Validity) (code graph : List ℕ) : Type 0 where
+-- what preparing a file by a construction replies, the answer to its questions, and leaves in the two arrays: where it is fit, its code and graph
+pub record PreparedFor (κ : Construction) (s : List ℕ) (r : Validity) (code graph : List ℕ) : Type 0 where
   pub asked : r ≡ validity s
-  pub prepared : r ≡ Fit → Prepared (sizes s) (drawn.graph s) code graph
+  pub prepared : r ≡ Fit → Prepared (sizes s) (drawn.graph κ s) code graph
 
 -- the same with the links
-pub record PreparedLinked (s : List ℕ) (r : Validity) (code graph : List ℕ) : Type 0 where
-  pub prepared : PreparedFor s r code graph
+pub record PreparedLinked (κ : Construction) (s : List ℕ) (r : Validity) (code graph : List ℕ) : Type 0 where
+  pub prepared : PreparedFor κ s r code graph
   pub linked : r ≡ Fit → Linked graph

@@ -7,6 +7,7 @@ use Rattle.program.specs.File.{nameCount, sizes, entryCount, entryAt, en
 use Rattle.program.specs.Graph as drawn
 use Rattle.program.specs.Graph.{edgeAt, edgeCount, nodeCount, actionKind, actionEntry}
 use Rattle.program.specs.Parts.Prepared.{booleanPlace, sizePlace, cellPlace, nameCountPlace, codeLength, nodeCountPlace, edgeCountPlace, numbersAt, cellIn, arithIn, leafCell, edgeIn, Coded}
+use Rattle.program.specs.declared.Construction.{Construction}
 use Rattle.program.specs.declared.Table.the-variants.{Arithmetic, Boolean, Commands}
 
 -- an array in which so many entries, those from a byte of a file on, were put from a place on, over what was there
@@ -49,15 +50,15 @@ pub record CodeIn (s code : List ℕ) : Type 0 where
   pub booleans : (n : ℕ) → n < entryCount s Boolean → numbersAt code (booleanPlace + 4 * n) ≡ entry s Boolean n
 
 -- edge e of a file's graph as four numbers
-pub record EdgeWords (s graph : List ℕ) (e : ℕ) : Type 0 where
-  pub source : edgeIn graph e 0 ≡ edgeAt (drawn.graph s) e .source
-  pub target : edgeIn graph e 1 ≡ edgeAt (drawn.graph s) e .target
-  pub kind : edgeIn graph e 2 ≡ actionKind (edgeAt (drawn.graph s) e .action)
-  pub entry : edgeIn graph e 3 ≡ actionEntry (edgeAt (drawn.graph s) e .action)
+pub record EdgeWords (κ : Construction) (s graph : List ℕ) (e : ℕ) : Type 0 where
+  pub source : edgeIn graph e 0 ≡ edgeAt (drawn.graph κ s) e .source
+  pub target : edgeIn graph e 1 ≡ edgeAt (drawn.graph κ s) e .target
+  pub kind : edgeIn graph e 2 ≡ actionKind (edgeAt (drawn.graph κ s) e .action)
+  pub entry : edgeIn graph e 3 ≡ actionEntry (edgeAt (drawn.graph κ s) e .action)
 
--- the graph of a file: its commands, its counts and its edges
-pub record GraphIn (s graph : List ℕ) : Type 0 where
+-- the graph of a file by a construction: its commands, its counts and its edges
+pub record GraphIn (κ : Construction) (s graph : List ℕ) : Type 0 where
   pub commands : (n : ℕ) → n < entryCount s Commands → numbersAt graph (4 * n) ≡ entry s Commands n
-  pub nodes : getD graph nodeCountPlace 0 ≡ nodeCount s
-  pub edges : getD graph edgeCountPlace 0 ≡ edgeCount s
-  pub edge : (e : ℕ) → e < edgeCount s → EdgeWords s graph e
+  pub nodes : getD graph nodeCountPlace 0 ≡ nodeCount κ s
+  pub edges : getD graph edgeCountPlace 0 ≡ edgeCount κ s
+  pub edge : (e : ℕ) → e < edgeCount κ s → EdgeWords κ s graph e

@@ -5,8 +5,9 @@ use mathlib.Core.Bool.{Bool, true, false, not, cond, _&&_}
 use mathlib.Core.List.{List, [], _∷_}
 use lib.Dec.{eqb, ltb}
 use lib.ListN.{getD}
+use Rattle.signs.specs.Lists.{allOf}
 use Rattle.program.specs.File.{isVariable, isArray}
-use Rattle.program.specs.Graph.{Action, perform, test, leave, done}
+use Rattle.program.specs.Graph.{Action, perform, test, leave, select, done, selected}
 use Rattle.program.specs.Meaning.{Meaning, nothing, assigns, stores, condition}
 use Rattle.program.specs.Syntax.{Arith, number, variable, element, operator, Boolean, truth, comparison, conjunction, shortCircuit, negation, booleanEntry, Command, skip, assign, store, sequence, conditional, iteration, guarded, choice, jump, commandEntry}
 use Rattle.program.specs.Tree.{Entries, booleanAt, commandAt}
@@ -47,11 +48,12 @@ commandNamed ns (guarded n b c) = booleanNamed ns b && commandNamed ns c
 commandNamed ns (choice n c d) = commandNamed ns c && commandNamed ns d
 commandNamed ns (jump n j) = true
 
--- and of an action: an exit's names are those of its condition
+-- and of an action: the names of an exit and of a guard after others are those of its condition
 unfoldable pub actionNamed : List ℕ → Action → Bool
 actionNamed ns (perform c) = commandNamed ns c
 actionNamed ns (test b) = booleanNamed ns b
 actionNamed ns (leave c) = booleanNamed ns (done c)
+actionNamed ns (select k earlier b) = booleanNamed ns (selected earlier b)
 
 -- and of what an action means
 unfoldable pub meaningNamed : List ℕ → Meaning → Bool
@@ -111,16 +113,29 @@ unfoldable pub actionPoints : Action → Bool
 actionPoints (perform c) = commandPoints c
 actionPoints (test b) = booleanPoints b
 actionPoints (leave c) = isGuardedTree c && commandPoints c
+actionPoints (select k earlier b) = allOf booleanPoints earlier && booleanPoints b
 
 -- the table of an action's entry, by its kind
 unfoldable pub actionTable : ℕ → Table
 actionTable kind = cond (eqb kind 2) Booleans Commands
 
--- the action of a kind and an entry; any other kind is a skip
+-- the guard of a guarded command as an action; any other command's is a skip
+unfoldable pub guardTest : Command → Action
+guardTest (skip n) = perform (skip n)
+guardTest (assign n x a) = perform (skip n)
+guardTest (store n x i a) = perform (skip n)
+guardTest (sequence n c d) = perform (skip n)
+guardTest (conditional n c) = perform (skip n)
+guardTest (iteration n c) = perform (skip n)
+guardTest (guarded n b c) = test b
+guardTest (choice n c d) = perform (skip n)
+guardTest (jump n j) = perform (skip n)
+
+-- the action of a kind and an entry, of kind 4 without the earlier guards; any other kind is a skip
 unfoldable pub actionOf : Entries → ℕ → ℕ → Action
 actionOf es kind n =
     getD
-    (perform (skip n) ∷ perform (commandAt es n) ∷ test (booleanAt es n) ∷ leave (commandAt es n) ∷ [])
+    (perform (skip n) ∷ perform (commandAt es n) ∷ test (booleanAt es n) ∷ leave (commandAt es n) ∷ guardTest (commandAt es n) ∷ [])
     kind
     (perform (skip n))
 

@@ -12,6 +12,7 @@ ghost use Rattle.program.specs.Parts.Prepared.{graphLength, entriesIn};
 ghost use Rattle.program.specs.Parts.Preparing.{GraphIn};
 ghost use Rattle.program.specs.Questions;
 use crate::CommandNode;
+use crate::Construction;
 use crate::Jump;
 use crate::Layout;
 use crate::Validity;
@@ -69,7 +70,27 @@ fn landing(jump: Jump, first: u16, last: u16) -> u16
     }
 }
 
-// The edges of command entry `n`, a part of entry `bound`, from node `a` to node `b`. The innermost do around it goes from node `first` to node `last`.
+// The edge of a guard, of guarded entry `n` and boolean entry `g`.
+fn draw_guard(
+    graph: &mut [u16; GRAPH],
+    pen: u32,
+    source: u16,
+    target: u16,
+    n: u16,
+    g: u16,
+    construction: Construction,
+) -> u32
+    requires { ⌜ parts.Room (parts.edgeStrip source target (parts.guardKind construction) (parts.guardEntry construction n g) (parts.freshOf pen)) (parts.nextOf pen) ⌝ }
+    ensures { λ r. ⌜ parts.Drew (parts.edgeStrip source target (parts.guardKind construction) (parts.guardEntry construction n g) (parts.freshOf pen)) (parts.nextOf pen) (now (graph .entry)) (now (graph .exit)) r ⌝ }
+{
+    match construction {
+        Construction::Nondeterministic => draw_edge(graph, pen, source, target, 2, g),
+        Construction::Deterministic => draw_edge(graph, pen, source, target, 4, n),
+    }
+}
+
+// The edges of command entry `n`, a part of entry `bound`, from node `a` to node `b`. The innermost do around it goes from node `first` to node `last`. Earlier guards
+// make no difference to an edge's numbers.
 fn draw_part(
     graph: &mut [u16; GRAPH],
     bound: u16,
@@ -79,9 +100,10 @@ fn draw_part(
     pen: u32,
     first: u16,
     last: u16,
+    construction: Construction,
 ) -> u32
-    requires { ⌜ parts.Room (parts.strip (Graph.within first last) (parts.partAt (entriesIn [] (now graph)) bound n) a b (parts.freshOf pen)) (parts.nextOf pen) ⌝ }
-    ensures { λ r. ⌜ parts.Drew (parts.strip (Graph.within first last) (parts.partAt (entriesIn [] (now (graph .entry))) bound n) a b (parts.freshOf pen)) (parts.nextOf pen) (now (graph .entry)) (now (graph .exit)) r ⌝ }
+    requires { ⌜ parts.Room (parts.strip construction (Graph.within first last) (parts.partAt (entriesIn [] (now graph)) bound n) a b (parts.freshOf pen)) (parts.nextOf pen) ⌝ }
+    ensures { λ r. ⌜ parts.Drew (parts.strip construction (Graph.within first last) (parts.partAt (entriesIn [] (now (graph .entry))) bound n) a b (parts.freshOf pen)) (parts.nextOf pen) (now (graph .entry)) (now (graph .exit)) r ⌝ }
 {
     let fresh = (pen % PEN) as u16;
     let node = prepared::command_node(graph, bound, n);
@@ -90,35 +112,40 @@ fn draw_part(
         CommandNode::Assign(_, _) => draw_edge(graph, pen, a, b, 1, n),
         CommandNode::Store(_, _, _) => draw_edge(graph, pen, a, b, 1, n),
         CommandNode::Sequence(p, q) => {
-            let front = draw_part(graph, n, p, a, fresh, pen + 1, first, last);
-            draw_part(graph, n, q, fresh, b, front, first, last)
+            let front = draw_part(graph, n, p, a, fresh, pen + 1, first, last, construction);
+            draw_part(graph, n, q, fresh, b, front, first, last, construction)
         }
-        CommandNode::Conditional(p) => draw_part(graph, n, p, a, b, pen, first, last),
+        CommandNode::Conditional(p) => draw_part(graph, n, p, a, b, pen, first, last, construction),
         CommandNode::Iteration(p) => {
-            let body = draw_part(graph, n, p, a, a, pen, a, b);
+            let body = draw_part(graph, n, p, a, a, pen, a, b, construction);
             draw_edge(graph, body, a, b, 3, p)
         }
         CommandNode::Guarded(g, p) => {
-            let guard = draw_edge(graph, pen + 1, a, fresh, 2, g);
-            draw_part(graph, n, p, fresh, b, guard, first, last)
+            let guard = draw_guard(graph, pen + 1, a, fresh, n, g, construction);
+            draw_part(graph, n, p, fresh, b, guard, first, last, construction)
         }
         CommandNode::Choice(p, q) => {
-            let front = draw_part(graph, n, p, a, b, pen, first, last);
-            draw_part(graph, n, q, a, b, front, first, last)
+            let front = draw_part(graph, n, p, a, b, pen, first, last, construction);
+            draw_part(graph, n, q, a, b, front, first, last, construction)
         }
         CommandNode::Jump(jump) => draw_edge(graph, pen, a, landing(jump, first, last), 1, n),
     }
 }
 
-// The graph of a well-formed program with this layout, into an array of zeros: its commands, the edges drawn out of them, and the counts.
-pub(crate) fn put_graph(program: &[u8], l: Layout, graph: &mut [u16; GRAPH])
+// The graph of a well-formed program with this layout, by a construction, into an array of zeros: its commands, the edges drawn out of them, and the counts.
+pub(crate) fn put_graph(
+    construction: Construction,
+    program: &[u8],
+    l: Layout,
+    graph: &mut [u16; GRAPH],
+)
     requires { ⌜ (Questions.validity (now program) ≡ Validity.Fit) × (l ≡ File.layoutOf (now program)) × (now graph ≡ replicate graphLength 0) ⌝ }
-    ensures { λ _. ⌜ GraphIn (now (program .entry)) (now (graph .exit)) ⌝ }
+    ensures { λ _. ⌜ GraphIn construction (now (program .entry)) (now (graph .exit)) ⌝ }
 {
     let commands = l.commands;
     coding::put_table(program, commands, graph, 0);
     let count = commands.count;
-    let pen = draw_part(graph, count, count - 1, 0, 1, 2, 0, 1);
+    let pen = draw_part(graph, count, count - 1, 0, 1, 2, 0, 1, construction);
     graph[NODES] = (pen % PEN) as u16;
     graph[EDGES] = (pen / PEN) as u16;
 }

@@ -4,6 +4,7 @@ use super::arithmetic;
 use super::condition;
 use super::indexed;
 use super::is_fault;
+use super::selection;
 use crate::Effect;
 use crate::Fault;
 use program::ActionNode;
@@ -127,8 +128,8 @@ fn element_stored(code: &[u16; CODE], memory: &[i32; MEMORY], x: u16, i: u16, a:
     stored(shifted(prepared::first_cell(code, x), index as usize), v)
 }
 
-// What an action does to a memory.
-pub(crate) fn effect(
+// What an action does to a memory, a guard's without those before it.
+fn effect(
     code: &[u16; CODE],
     graph: &[u16; GRAPH],
     memory: &[i32; MEMORY],
@@ -144,7 +145,27 @@ pub(crate) fn effect(
         ActionNode::Store(x, i, a) => element_stored(code, memory, x, i, a),
         ActionNode::Holds(n) => passed(condition::truth(code, memory, CONDITIONS, n)),
         ActionNode::Exit(n) => passed(condition::exit(code, graph, memory, COMMANDS, n)),
+        ActionNode::Guard(n) => passed(condition::truth(code, memory, CONDITIONS, n)),
     }
+}
+
+// What an edge does to a memory: a guard of the deterministic graph comes after those of the lower edges out of its node.
+pub(crate) fn edge_effect(
+    code: &[u16; CODE],
+    graph: &[u16; GRAPH],
+    memory: &[i32; MEMORY],
+    e: u16,
+) -> Effect
+    requires { ⌜ made.Ordered (now code) ⌝ }
+    ensures { λ r. ⌜ coding.EffectIn (now (code .entry)) (now (memory .entry))
+        (made.edgeMeaning (made.entriesIn (now (code .entry)) (now (graph .entry))) (now (graph .entry)) e) r ⌝ }
+{
+    let action = prepared::action(graph, e);
+    if prepared::is_guard(action) {
+        let v = selection::selected(code, graph, memory, e);
+        return passed(v);
+    }
+    effect(code, graph, memory, action)
 }
 
 // Puts a value into a cell, past the end nowhere; whether it is one.
@@ -189,7 +210,7 @@ fn store_element(code: &[u16; CODE], memory: &mut [i32; MEMORY], x: u16, i: u16,
     )
 }
 
-// Performs an action, where it is defined; whether it is.
+// Performs an action, a guard's without those before it, where it is defined; whether it is.
 pub(crate) fn perform(
     code: &[u16; CODE],
     graph: &[u16; GRAPH],
@@ -206,5 +227,6 @@ pub(crate) fn perform(
         ActionNode::Store(x, i, a) => store_element(code, memory, x, i, a),
         ActionNode::Holds(n) => condition::holds(code, memory, n) == 1,
         ActionNode::Exit(n) => condition::exit(code, graph, memory, COMMANDS, n) == 1,
+        ActionNode::Guard(n) => condition::holds(code, memory, n) == 1,
     }
 }

@@ -8,10 +8,10 @@ use Rattle.semantics_runs.proofs.step_all.Statement.{statement}
 use Rattle.semantics_runs.proofs.step_all.Tie as tie
 
 abbrev Inv-loop : tie.InvT-loop
-Inv-loop s calls memory₀ run₀ i₀ memory run i = length memory ≡ length memory₀
+Inv-loop on s calls memory₀ run₀ i₀ memory run i = length memory ≡ length memory₀
 
 abbrev μ-loop : tie.MeasureT-loop
-μ-loop s calls memory₀ run₀ i₀ memory run i = length calls - i
+μ-loop on s calls memory₀ run₀ i₀ memory run i = length calls - i
 
 loop-holds : tie.Need-loop-holds Inv-loop μ-loop
 loop-holds c = search needs

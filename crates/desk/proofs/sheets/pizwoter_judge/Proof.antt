@@ -14,10 +14,10 @@ use Rattle.desk.proofs.sheets.pizwoter_judge.Statement.{statement}
 use Rattle.desk.proofs.sheets.pizwoter_judge.Tie as tie
 
 returns : tie.Need-returns
-returns c = (short-told _ _ (omega (arith, c .if1 .taken)) _, short-third _ _ _ _)
+returns c = (short-told _ _ (omega (arith, c .if1 .taken)) _, short-third _ _ _ _ _)
 
 of-verdict-requires : tie.Need-of-verdict-requires
-of-verdict-requires c κs = verdict-narrow _ _ _ (c .before .before .judge .ensures .0)
+of-verdict-requires c κs = verdict-narrow _ _ _ _ (c .before .before .judge-on .ensures .0)
 
 returns-2 : tie.Need-returns-2
 unfolding judged verdictRow
@@ -26,15 +26,16 @@ returns-2 c =
     let behind = head .before in
     let names = behind .before in
     let judged = names .before in
-    let v = judged .judge .result in
-    let same = judged .judge .ensures .0 in
-    let told = subst VerdictTold (sym same) (verdict-told _ _ _) in
+    let v = judged .judge-on .result in
+    let made = rw (judged .before .named .ensures) at (judged .judge-on .ensures) in
+    let same = made .0 in
+    let told = subst VerdictTold (sym same) (verdict-told _ _ _ _) in
     let wrote = c .before .put .ensures in (
-      told-by (omega (arith, judged .before .if1 .left)) (map pos (behind .behind .result)) (c .before .put .ok)
+      told-by (omega (arith, judged .before .before .if1 .left)) (map pos (behind .behind .result)) (c .before .put .ok)
           (rw (← same, ← names .name-count .ensures, behind .behind .ensures) (verdict-head _ v told)) (head .of-verdict .ensures) wrote,
-      written-third _ _ _ (names .name-count .result) _ (c .before .put .ok) told (judged .judge .ensures .1 .1) (rw (head .of-verdict .ensures, behind .behind .ensures) at wrote),
+      written-third _ _ _ _ (names .name-count .result) _ (c .before .put .ok) told (made .1 .1) (rw (head .of-verdict .ensures, behind .behind .ensures) at wrote),
     )
 
 pub pizwoter-judge-spec : {M : Type 1} → statement M
 pizwoter-judge-spec =
-    tie.close (tie.spec returns (λ c κs. search needs) (λ c κs. search needs) (λ c κs. search needs) of-verdict-requires (λ c. search needs) (λ c κs. search needs) (λ c. search needs) returns-2)
+    tie.close (tie.spec returns (λ c κs. search needs) (λ c κs. search needs) (λ c κs. search needs) (λ c κs. search needs) of-verdict-requires (λ c. search needs) (λ c κs. search needs) (λ c. search needs) returns-2)

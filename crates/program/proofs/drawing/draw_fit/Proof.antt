@@ -16,10 +16,10 @@ module _ (c : tie.After-long) where
   abbrev start : tie.Start
   start = c .before .before .before .before .before .before .before .before
 
-  edges : c .before .edge-count .result ≡ edgeCount (start .args .s .now)
+  edges : c .before .edge-count .result ≡ edgeCount (start .args .construction) (start .args .s .now)
   edges = c .before .edge-count .ensures ∙ c .before .before .before .put-graph .ensures .edges
 
-  count : c .long .result ≡ edgeCount (start .args .s .now)
+  count : c .long .result ≡ edgeCount (start .args .construction) (start .args .s .now)
   count = c .long .ensures ∙ edges
 
 put-graph-requires : tie.Need-put-graph-requires
@@ -30,7 +30,7 @@ unfolding drawn drawnBy drawnBuffer drawnBufferBy
 returns c =
     let long = c .before .before in
     let first = start long in
-    rw (too-short (first .args .s .now) (first .args .buffer .now) (first .pre) (omega (arith, c .before .if1 .taken, count long)))
+    rw (too-short (first .args .construction) (first .args .s .now) (first .args .buffer .now) (first .pre) (omega (arith, c .before .if1 .taken, count long)))
     (c .refused .ensures, refl)
 
 put-bytes-requires : tie.Need-put-bytes-requires
@@ -46,8 +46,8 @@ returns-2 c =
     let s = first .args .s .now in
     let b = first .args .buffer .now in
     let g = long .before .before .before .put-graph .ensures in
-    rw (long-enough s b (first .pre) (omega (arith, c .before .before .before .before .before .before .before .if1 .left, count long)))
-    (rw (c .node-count .ensures ∙ g .nodes, edges long), c .before .before .before .before .put-bytes .ensures ∙ ap (λ (x : List ℕ). over x b) (ap (rowsIn _) (g .edges) ∙ rows-all s _ g))
+    rw (long-enough (first .args .construction) s b (first .pre) (omega (arith, c .before .before .before .before .before .before .before .if1 .left, count long)))
+    (rw (c .node-count .ensures ∙ g .nodes, edges long), c .before .before .before .before .put-bytes .ensures ∙ ap (λ (x : List ℕ). over x b) (ap (rowsIn _) (g .edges) ∙ rows-all _ s _ g))
 
 pub draw-fit-spec : {M : Type 1} → statement M
 draw-fit-spec =

@@ -32,7 +32,7 @@ returns-2 c =
     let start = c .before .before .before .before .before .before in
     let s = start .args .s .now in
     let told : validity s ≡ Refused _ = sym (start .pre) ∙ c .before .before .v .given .1 in
-    rw (unfit s (start .args .buffer .now) told) (c .refused .ensures, refl)
+    rw (unfit (start .args .construction) s (start .args .buffer .now) told) (c .refused .ensures, refl)
 
 pub draw-valid-spec : {M : Type 1} → statement M
 draw-valid-spec =

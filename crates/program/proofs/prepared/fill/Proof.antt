@@ -9,7 +9,7 @@ use Rattle.program.proofs.prepared.fill.Statement.{statement}
 use Rattle.program.proofs.prepared.fill.Tie as tie
 
 returns : tie.Need-returns
-returns c = refused-for _ _ _ (c .before .before .validate .ensures .0) (c .before .refused .ensures) (c .if1 .taken)
+returns c = refused-for _ _ _ _ (c .before .before .validate .ensures .0) (c .before .refused .ensures) (c .if1 .taken)
 
 -- where it goes on, the file is fit
 fit : (c : tie.Else1) → validity (c .before .before .before .before .args .program .now) ≡ Fit
@@ -22,7 +22,7 @@ put-graph-requires : tie.Need-put-graph-requires
 put-graph-requires c κs = let known = c .before .before .before .before in (fit known, c .before .before .before .fit-layout .ensures, known .before .before .before .before .pre .1)
 
 returns-2 : tie.Need-returns-2
-returns-2 c = let known = c .before .before .before .before .before in prepared-for _ _ _ (fit known) (known .before .before .validate .ensures .0) (c .before .before .put-code .ensures) (c .put-graph .ensures)
+returns-2 c = let known = c .before .before .before .before .before in prepared-for _ _ _ _ (fit known) (known .before .before .validate .ensures .0) (c .before .before .put-code .ensures) (c .put-graph .ensures)
 
 pub fill-spec : {M : Type 1} → statement M
 fill-spec =

@@ -1,64 +1,43 @@
--- `running::run_on`: each turn takes the edge that the definition takes.
+-- `running::run_on`: refused by the file's questions, or a run over the prepared program.
 use borrow.Author.Needs.{needs}
-use borrow.Author.Tests.{eqb-true, eqb-false, not-true, not-false}
+use mathlib.Core.Path.{_≡_, refl, ap, _∙_, sym}
 use mathlib.Core.List.{List}
-use mathlib.Core.Logic.{inl, inr}
-use native.Mathlib.Omega.{arith}
 use Prim.Native.Nat.{ℕ}
-use Rattle.program.specs.Graph.{Graph}
-use Rattle.program.specs.Parts.Prepared.{Prepared}
-use Rattle.semantics.specs.Parts.Cells.{NumbersIn}
-use Rattle.semantics.specs.Parts.Running.{Reached}
-use Rattle.semantics.proofs.Turns.{reached-start, reached-more, reached-stuck, stops-as}
+use lib.IntN.{ℤ}
+use Rattle.program.specs.declared.Construction.{Construction}
+use Rattle.semantics.specs.Budget.{programBudgeted, budgetReply, endedNumbers, runRow}
+use Rattle.semantics.specs.Parts.Running.{EndsAs}
+use Rattle.semantics.specs.declared.Ended.{Ended}
+use Rattle.semantics.proofs.Runs.{program-budgeted, refused-budgeted}
 use Rattle.semantics.proofs.running.run_on.Statement.{statement}
 use Rattle.semantics.proofs.running.run_on.Tie as tie
 
-abbrev Inv-loop : tie.InvT-loop
-Inv-loop code graph budget memory₀ run₀ left₀ memory run left =
-    (ns : List ℕ) (g : Graph) → Prepared ns g code graph → NumbersIn code memory₀ → Reached ns g code budget left memory₀ run memory
+-- the two clauses of the contract
+whole : (κ : Construction) (s : List ℕ) (budget : ℕ) (m : List ℤ) {m′ : List ℤ} {r : Ended} → EndsAs (programBudgeted κ s budget m) m′ r
+    → ((r ≡ budgetReply κ s budget m) × (m′ ≡ programBudgeted κ s budget m .final .memory)) × (endedNumbers r ≡ runRow κ s budget m)
+unfolding budgetReply runRow
+whole κ s budget m k = ((k .reply, k .memory), ap endedNumbers (k .reply))
 
-abbrev μ-loop : tie.MeasureT-loop
-μ-loop code graph budget memory₀ run₀ left₀ memory run left = left
+run-prepared-requires : tie.Need-run-prepared-requires
+run-prepared-requires c κs =
+    let told = c .before .before .before in
+    let made = told .before .before .prepare-linked .ensures in
+    let fit = told .enum-told .given .1 in
+    (made .prepared .prepared fit .coded .ordered, made .linked fit)
 
-loop-holds : tie.Need-loop-holds Inv-loop μ-loop
-loop-holds c ns g p numbers = reached-start _ _ _ _ _ _ (c .fresh .ensures) numbers
+returns : tie.Need-returns
+returns c =
+    let told = c .before .before .before .before .before in
+    let made = told .before .before .prepare-linked .ensures .prepared in
+    let fit = told .enum-told .given .1 in
+    whole _ _ _ _ (rw (program-budgeted _ _ (sym (made .asked) ∙ fit) _ _) (c .before .run-prepared .ensures _ _ (made .prepared fit)))
 
-take-lowest-requires : tie.Need-take-lowest-requires Inv-loop μ-loop
-take-lowest-requires c κs = c .before .before .before .before .before .before .pre
-
-returns : tie.Need-returns Inv-loop μ-loop
-returns c ns g p numbers =
-    let test = c .before .before .before in
-    let turn = test .before .before in
-    let l = turn .before .loop in
-    let here = l .inv ns g p numbers in
-    reached-stuck ns g _ _ (l .left) _ (l .run) (l .memory) here (turn .loop-test .taken) (eqb-false (l .run .node) 1 (not-true _ (test .if1 .taken)))
-    _ _ (c .before .take-lowest .ensures ns g p (here .numbers) (here .inside)) (c .if2 .taken)
-
-sub-left : tie.Need-sub-left Inv-loop μ-loop
-sub-left c = search needs
-
-loop-less : tie.Need-loop-less Inv-loop μ-loop
-loop-less c = search needs
-
-loop-again : tie.Need-loop-again Inv-loop μ-loop
-loop-again c ns g p numbers =
-    let took = c .before .before .before in
-    let test = took .before .before in
-    let turn = test .before .before in
-    let l = turn .before .loop in
-    let here = l .inv ns g p numbers in
-    reached-more p _ (l .left) _ (l .run) (l .memory) here (turn .loop-test .taken) (eqb-false (l .run .node) 1 (not-true _ (test .if1 .taken)))
-    _ _ (took .take-lowest .ensures ns g p (here .numbers) (here .inside)) (c .before .before .if2 .left) _ (c .before .edge-target .ensures) _ (c .moved .ensures)
-
-returns-2 : tie.Need-returns-2 Inv-loop μ-loop
-returns-2 c ns g p numbers =
-    let l = c .before .before .loop in
-    stops-as ns g _ _ (l .left) _ (l .run) _ _ (l .inv ns g p numbers)
-    (elim (c .before .loop-test .came) [ inl t ↦ inl (eqb-true (l .run .node) 1 (not-false _ (t .2 .left))) | inr t ↦ inr (omega arith) ])
-    (c .stopped .ensures)
+returns-2 : tie.Need-returns-2
+returns-2 c =
+    let made = c .before .before .before .before .prepare-linked .ensures .prepared in
+    whole _ _ _ _ (rw (refused-budgeted _ _ _ (sym (made .asked) ∙ c .before .before .v .given .1) _ _) (record { reply = c .refused .ensures; memory = refl }))
 
 pub run-on-spec : {M : Type 1} → statement M
 run-on-spec =
     tie.close
-    (tie.spec Inv-loop μ-loop (λ c κs. tt) loop-holds take-lowest-requires returns (λ c κs. tt) (λ c κs. tt) sub-left loop-less loop-again (λ c κs. tt) returns-2)
+    (tie.spec (λ c κs. tt) (λ c. search needs) run-prepared-requires (λ c. search needs) (λ c κs. tt) (λ c. search needs) returns returns-2)

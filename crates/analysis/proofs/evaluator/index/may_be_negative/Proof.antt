@@ -40,8 +40,15 @@ returns-5 c =
     let s = k .before .before .args in
     rw (k .action4 .given .1, command-whole (s .code .now) (s .graph .now) (k .action4 .given .0 .0)) (c .exit-negative .ensures)
 
+returns-6 : tie.Need-returns-6
+unfolding decodedMeaning mayBeNegative indexSets
+returns-6 c =
+    let k = c .before .before in
+    let s = k .before .before .args in
+    rw (k .action5 .given .1, boolean-whole (s .code .now) (s .graph .now) (k .action5 .given .0 .0)) (c .boolean-negative2 .ensures (s .graph .now))
+
 pub may-be-negative-spec : {M : Type 1} → statement M
 may-be-negative-spec =
     tie.close
     (tie.spec (λ c. search needs) (λ c. search needs) (λ c κs. search needs) (λ c. search needs) (λ c κs. search needs) (λ c. search needs) (λ c κs. search needs)
-    (λ c. search needs) (λ c κs. search needs) returns returns-2 returns-3 returns-4 returns-5)
+    (λ c. search needs) (λ c κs. search needs) (λ c. search needs) (λ c κs. search needs) returns returns-2 returns-3 returns-4 returns-5 returns-6)

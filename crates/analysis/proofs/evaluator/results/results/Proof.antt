@@ -43,9 +43,18 @@ returns-5 c =
     rw (k .action4 .given .1, command-whole (s .code .now) (s .graph .now) (k .action4 .given .0 .0))
     (condition-results _ (rw (← v .exit-truths .ensures) (c .unchanged3 .ensures)))
 
+returns-6 : tie.Need-returns-6
+unfolding decodedMeaning
+returns-6 c =
+    let v = c .before in
+    let k = v .before .before in
+    let s = k .before .before .args in
+    rw (k .action5 .given .1, boolean-whole (s .code .now) (s .graph .now) (k .action5 .given .0 .0))
+    (condition-results _ (rw (← v .truths2 .ensures (s .graph .now)) (c .unchanged4 .ensures)))
+
 pub results-spec : {M : Type 1} → statement M
 results-spec =
     tie.close
     (tie.spec (λ c. search needs) (λ c κs. search needs) (λ c. search needs) (λ c κs. search needs) (λ c κs. search needs) (λ c. search needs) (λ c κs. search needs)
-    (λ c. search needs) (λ c κs. search needs) (λ c κs. search needs) (λ c. search needs) (λ c κs. search needs) (λ c κs. search needs) returns returns-2 returns-3 returns-4
-    returns-5)
+    (λ c. search needs) (λ c κs. search needs) (λ c κs. search needs) (λ c. search needs) (λ c κs. search needs) (λ c κs. search needs)
+    (λ c. search needs) (λ c κs. search needs) (λ c κs. search needs) returns returns-2 returns-3 returns-4 returns-5 returns-6)

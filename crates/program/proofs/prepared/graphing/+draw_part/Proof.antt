@@ -20,6 +20,7 @@ use Rattle.program.proofs.prepared.graphing.draw_part.Kinds as draw-par
 use Rattle.program.proofs.prepared.graphing.+draw_part.Lts-draw_part as lts
 use Rattle.program.proofs.prepared.command_node.Reads as command-node-reads
 use Rattle.program.proofs.prepared.graphing.draw_edge.Reads as draw-edge-reads
+use Rattle.program.proofs.prepared.graphing.draw_guard.Reads as draw-guard-reads
 use Rattle.program.proofs.prepared.graphing.landing.Reads as landing-reads
 
 abbrev μ-draw-part : Measures 1 draw-part-kinds.ps ℕ
@@ -34,7 +35,7 @@ draw-part-below t =
 
 abbrev claims : ℕ → lts.Claims
 claims t =
-    (command-node-reads.Asked, command-node-reads.Learnt, draw-edge-reads.Asked, draw-edge-reads.Learnt, draw-part-below t, draw-part.Post, landing-reads.Asked, landing-reads.Learnt)
+    (command-node-reads.Asked, command-node-reads.Learnt, draw-edge-reads.Asked, draw-edge-reads.Learnt, draw-part-below t, draw-part.Post, draw-guard-reads.Asked, draw-guard-reads.Learnt, landing-reads.Asked, landing-reads.Learnt)
 
 -- where the entry is known
 module _ (t : ℕ) (c : lts.After-command-node (claims t) (draw-part-at t) draw-part.Post) where
@@ -52,7 +53,7 @@ module _ (t : ℕ) (c : lts.After-command-node (claims t) (draw-part-at t) draw-
 
   -- the entry's numbers, and what drawing does with a part of them, from a pen on
   abbrev whole : Strip
-  whole = strip around (partAt commands (start .args .bound) (start .args .n)) (start .args .a) (start .args .b) fresh
+  whole = strip (start .args .construction) around (partAt commands (start .args .bound) (start .args .n)) (start .args .a) (start .args .b) fresh
 
   abbrev Draws : Strip → ℕ → List ℕ → ℕ → Type 0
   Draws x pen after r = Drew x (nextOf pen) (start .args .graph .now) after r
@@ -63,26 +64,26 @@ module _ (t : ℕ) (c : lts.After-command-node (claims t) (draw-part-at t) draw-
     pen = taking k (start .args .pen)
 
     abbrev front : ℕ → Strip
-    front = firstAs commands around (start .args .n) k (start .args .a) (start .args .b) fresh
+    front = firstAs (start .args .construction) commands around (start .args .n) k (start .args .a) (start .args .b) fresh
 
     abbrev restIn : Entries → ℕ → Strip
-    restIn es = restAs es around (start .args .n) k (start .args .a) (start .args .b) fresh
+    restIn es = restAs (start .args .construction) es around (start .args .n) k (start .args .a) (start .args .b) fresh
 
     abbrev rest : ℕ → Strip
     rest = restIn commands
 
-    same : whole ≡ drawnAs commands around (start .args .n) k (start .args .a) (start .args .b) fresh
-    same = strip-part _ around _ _ (c .command-node .ensures []) told (start .args .a) (start .args .b) fresh
+    same : whole ≡ drawnAs (start .args .construction) commands around (start .args .n) k (start .args .a) (start .args .b) fresh
+    same = strip-part _ (start .args .construction) around _ _ (c .command-node .ensures []) told (start .args .a) (start .args .b) fresh
 
-    room : Room (drawnAs commands around (start .args .n) k (start .args .a) (start .args .b) fresh) (nextOf (start .args .pen))
+    room : Room (drawnAs (start .args .construction) commands around (start .args .n) k (start .args .a) (start .args .b) fresh) (nextOf (start .args .pen))
     room = rw same at (start .pre .1)
 
     fitting : Room (front (taking k fresh)) (nextOf (start .args .pen))
     unfolding drawnAs
-    fitting = first-room (front (taking k fresh)) rest (rest-grows _ _ _ k _ _ _) room
+    fitting = first-room (front (taking k fresh)) rest (rest-grows _ _ _ _ k _ _ _) room
 
     next : Taken k (start .args .pen)
-    next = taken _ _ (omega (arith, fitting .nodes-fit, first-grows commands around (start .args .n) k (start .args .a) (start .args .b) fresh (taking k fresh)))
+    next = taken _ _ (omega (arith, fitting .nodes-fit, first-grows (start .args .construction) commands around (start .args .n) k (start .args .a) (start .args .b) fresh (taking k fresh)))
 
     first : Room (front (freshOf pen)) (nextOf pen)
     first = rw (next .fresh, next .next) fitting
@@ -193,13 +194,13 @@ draw-edge-requires-4 t c κs =
 enum-known-node-4 : (t : ℕ) → lts.Need-enum-known-node-4 (claims t) (draw-part-at t) draw-part.Post
 enum-known-node-4 t c = search needs
 
-add-draw-edge : (t : ℕ) → lts.Need-add-draw-edge (claims t) (draw-part-at t) draw-part.Post
+add-draw-guard : (t : ℕ) → lts.Need-add-draw-guard (claims t) (draw-part-at t) draw-part.Post
 unfolding taking
-add-draw-edge t c = record { fits = omega (arith, next t (c .before .before .before .before) (c .before .before .node4 .given .1) .fresh) }
+add-draw-guard t c = record { fits = omega (arith, next t (c .before .before .before .before) (c .before .before .node4 .given .1) .fresh) }
 
-draw-edge-requires-5 : (t : ℕ) → lts.Need-draw-edge-requires-5 (claims t) (draw-part-at t) draw-part.Post
+draw-guard-requires : (t : ℕ) → lts.Need-draw-guard-requires (claims t) (draw-part-at t) draw-part.Post
 unfolding taking firstAs
-draw-edge-requires-5 t c κs =
+draw-guard-requires t c κs =
     let at = c .before .before .before .before in
     let told = c .before .before .node4 .given .1 in
     first t at told
@@ -209,7 +210,7 @@ unfolding taking firstAs restAs
 draw-part-requires-5 t c κs =
     let at = c .before .before .before .before .before .before in
     let told = c .before .before .before .before .node4 .given .1 in
-    (lower t at told tt, second t at told (c .before .draw-edge5 .ensures))
+    (lower t at told tt, second t at told (c .before .draw-guard .ensures))
 
 enum-known-node-5 : (t : ℕ) → lts.Need-enum-known-node-5 (claims t) (draw-part-at t) draw-part.Post
 enum-known-node-5 t c = search needs
@@ -234,9 +235,9 @@ enum-known-node-6 t c = search needs
 landing-requires : (t : ℕ) → lts.Need-landing-requires (claims t) (draw-part-at t) draw-part.Post
 landing-requires t c κs = search needs
 
-draw-edge-requires-6 : (t : ℕ) → lts.Need-draw-edge-requires-6 (claims t) (draw-part-at t) draw-part.Post
+draw-edge-requires-5 : (t : ℕ) → lts.Need-draw-edge-requires-5 (claims t) (draw-part-at t) draw-part.Post
 unfolding taking firstAs
-draw-edge-requires-6 t c κs =
+draw-edge-requires-5 t c κs =
     let at = c .before .before .before .before .before in
     let told = c .before .before .before .node6 .given .1 in
     rw (c .landing .ensures) (first t at told)
@@ -288,7 +289,7 @@ unfolding taking firstAs restAs
 returns-7 t c =
     let at = c .before .before .before .before .before .before .before in
     let told = c .before .before .before .before .before .node4 .given .1 in
-    both t at told (c .before .before .draw-edge5 .ensures) (c .draw-part5 .ensures)
+    both t at told (c .before .before .draw-guard .ensures) (c .draw-part5 .ensures)
 
 returns-8 : (t : ℕ) → lts.Need-returns-8 (claims t) (draw-part-at t) draw-part.Post
 unfolding taking firstAs restAs
@@ -302,7 +303,7 @@ unfolding taking firstAs restAs
 returns-9 t c =
     let at = c .before .before .before .before .before .before in
     let told = c .before .before .before .before .node6 .given .1 in
-    only t at told refl (rw (c .before .landing .ensures) at (c .draw-edge6 .ensures))
+    only t at told refl (rw (c .before .landing .ensures) at (c .draw-edge5 .ensures))
 
 pub +draw-part-spec : {M : Type 1} → statement M
 +draw-part-spec =
@@ -331,15 +332,15 @@ pub +draw-part-spec : {M : Type 1} → statement M
     (draw-part-requires-4 t)
     (draw-edge-requires-4 t)
     (enum-known-node-4 t)
-    (add-draw-edge t)
-    (draw-edge-requires-5 t)
+    (add-draw-guard t)
+    (draw-guard-requires t)
     (draw-part-requires-5 t)
     (enum-known-node-5 t)
     (draw-part-requires-6 t)
     (draw-part-requires-7 t)
     (enum-known-node-6 t)
     (landing-requires t)
-    (draw-edge-requires-6 t)
+    (draw-edge-requires-5 t)
     (returns t)
     (returns-2 t)
     (returns-3 t)

@@ -7,7 +7,7 @@ use Rattle.program.proofs.prepared.graphing.put_graph.Tie as tie
 
 -- where the commands are
 within : (c : tie.Start) → Within (c .args .program .now) (c .args .l .commands)
-within c = commands-within _ (c .pre .0) _ (c .pre .1)
+within c = commands-within (c .args .construction) _ (c .pre .0) _ (c .pre .1)
 
 put-table-requires : tie.Need-put-table-requires
 put-table-requires c κs =
@@ -20,12 +20,12 @@ sub-draw-part c = within (c .before .before .before .before .before) .some
 draw-part-requires : tie.Need-draw-part-requires
 draw-part-requires c κs =
     let start = c .before .before .before .before .before in
-    program-room _ (start .pre .0) _ (start .pre .1) (rw (start .pre .2) at (c .before .put-table .ensures))
+    program-room _ _ (start .pre .0) _ (start .pre .1) (rw (start .pre .2) at (c .before .put-table .ensures))
 
 returns : tie.Need-returns
 returns c =
     let start = c .before .before .before .before .before .before in
-    graph-filled _ (start .pre .0) _ (start .pre .1) (rw (start .pre .2) at (c .before .before .put-table .ensures)) (c .draw-part .ensures)
+    graph-filled _ _ (start .pre .0) _ (start .pre .1) (rw (start .pre .2) at (c .before .before .put-table .ensures)) (c .draw-part .ensures)
 
 pub put-graph-spec : {M : Type 1} → statement M
 put-graph-spec =

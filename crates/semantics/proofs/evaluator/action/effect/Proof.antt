@@ -35,8 +35,17 @@ returns-5 c =
     rw (v .before .before .action4 .given .1, command-whole (s .args .code .now) (s .args .graph .now), rw (handed (v .exit .result) (v .exit .ok)) at (c .passed2 .ensures))
     (test-effect (v .exit .ensures))
 
+returns-6 : tie.Need-returns-6
+unfolding decodedMeaning
+returns-6 c =
+    let v = c .before in
+    let s = v .before .before .before .before in
+    rw (v .before .before .action5 .given .1, boolean-whole (s .args .code .now) (s .args .graph .now), rw (handed (v .truth2 .result) (v .truth2 .ok)) at (c .passed3 .ensures))
+    (test-effect (v .truth2 .ensures _))
+
 pub effect-spec : {M : Type 1} → statement M
 effect-spec =
     tie.close
     (tie.spec (λ c. search needs) (λ c. search needs) (λ c κs. c .before .before .before .pre) (λ c. search needs) (λ c κs. c .before .before .before .pre) (λ c. search needs) (λ c κs. c .before .before .before .pre)
-    (λ c κs. tt) (λ c. search needs) (λ c κs. c .before .before .before .pre) (λ c κs. tt) returns returns-2 returns-3 returns-4 returns-5)
+    (λ c κs. tt) (λ c. search needs) (λ c κs. c .before .before .before .pre) (λ c κs. tt)
+    (λ c. search needs) (λ c κs. c .before .before .before .pre) (λ c κs. tt) returns returns-2 returns-3 returns-4 returns-5 returns-6)

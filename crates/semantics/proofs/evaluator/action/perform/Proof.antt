@@ -34,8 +34,16 @@ returns-5 c =
     rw (c .before .before .before .action4 .given .1, command-whole (s .args .code .now) (s .args .graph .now))
     (performs (test-effect (c .exit .ensures)) (held _ (c .exit .result) (record { sfits = c .exit .ok })))
 
+returns-6 : tie.Need-returns-6
+unfolding decodedMeaning
+returns-6 c =
+    let s = c .before .before .before .before .before in
+    rw (c .before .before .before .action5 .given .1, boolean-whole (s .args .code .now) (s .args .graph .now))
+    (performs (test-effect (c .holds2 .ensures _)) (held _ (c .holds2 .result) (record { sfits = c .holds2 .ok })))
+
 pub perform-spec : {M : Type 1} → statement M
 perform-spec =
     tie.close
     (tie.spec (λ c. search needs) (λ c. search needs) (λ c κs. c .before .before .before .before .pre) (λ c. search needs) (λ c κs. c .before .before .before .before .pre) (λ c. search needs)
-    (λ c κs. c .before .before .before .before .pre) (λ c. search needs) (λ c κs. c .before .before .before .before .pre) returns returns-2 returns-3 returns-4 returns-5)
+    (λ c κs. c .before .before .before .before .pre) (λ c. search needs) (λ c κs. c .before .before .before .before .pre)
+    (λ c. search needs) (λ c κs. c .before .before .before .before .pre) returns returns-2 returns-3 returns-4 returns-5 returns-6)
