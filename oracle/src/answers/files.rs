@@ -1,6 +1,7 @@
 //! `program_files`: the file, its questions and its graph.
 //!
-//! A record of `files.bin`: mode (1 byte), room (2), length of the title (1), length of the file (2), title, file.
+//! A record of `files.bin`: mode (1 byte, with 16 times the number of the construction that is named), room (2), length of the title (1), length of the file (2),
+//! title, file.
 
 use super::{checksum, counted, mix, Case, Told, FILLED};
 use crate::language::*;
@@ -26,15 +27,19 @@ const BUFFER: usize = 2000;
 const FILE: usize = 32768;
 
 impl Case for Mode {
-    fn told(&self, file: &Loaded) -> Told {
+    fn told_on(&self, file: &Loaded, construction: Construction) -> Told {
         let (first, rest) = match self {
-            Mode::Edges => edges(file),
-            Mode::Sum(room) => drawn(file, usize::from(*room)),
+            Mode::Edges => edges(file.on(construction)),
+            Mode::Sum(room) => drawn(file.on(construction), usize::from(*room)),
             Mode::Input => (input(&file.bytes), String::new()),
             Mode::Readings => (readings(file), String::new()),
             Mode::Parts => parts(&file.bytes),
         };
         Told { line: format!("{first}{rest}"), answers: vec![self.counted(&first)], known: first }
+    }
+
+    fn may_name(&self) -> bool {
+        matches!(self, Mode::Edges | Mode::Sum(_))
     }
 
     fn record(&self, title: &str, file: &[u8]) -> Vec<u8> {
@@ -76,20 +81,20 @@ fn counts(graph: &Graph) -> String {
     format!("nodes {} arrows {}", graph.nodes, graph.arrows.len())
 }
 
-fn edges(file: &Loaded) -> (String, String) {
-    match file.lesson() {
+fn edges(lesson: Result<&Lesson, No>) -> (String, String) {
+    match lesson {
         Err(no) => (refused(no), String::new()),
         Ok(lesson) => {
-            let arrows = lesson.graph.arrows.iter().map(|a| format!("\n{} {} {} {}", a.from, a.to, a.action, a.entry));
-            (counts(&lesson.graph), arrows.collect())
+            let arrows = lesson.graph.arrows.iter().map(Arrow::written);
+            (counts(&lesson.graph), arrows.map(|(from, to, kind, entry)| format!("\n{from} {to} {kind} {entry}")).collect())
         }
     }
 }
 
 /// Question 13, and what of the buffer is written.
-fn drawn(file: &Loaded, room: usize) -> (String, String) {
+fn drawn(lesson: Result<&Lesson, No>, room: usize) -> (String, String) {
     let mut buffer = vec![FILLED; BUFFER];
-    let text = match file.lesson() {
+    let text = match lesson {
         Err(no) => refused(no),
         Ok(lesson) => {
             let bytes = lesson.graph.bytes();

@@ -1,7 +1,7 @@
 //! `semantics_runs`: budgeted runs and lists of step calls.
 //!
-//! A record of `runs.bin`: mode (1 byte), length of the title (1), two numbers (2 each), lengths in bytes of the memory, of the list of step calls and of the file
-//! (2 each), title, memory, list, file.
+//! A record of `runs.bin`: mode (1 byte, with 16 times the number of the construction that is named), length of the title (1), two numbers (2 each), lengths in bytes
+//! of the memory, of the list of step calls and of the file (2 each), title, memory, list, file.
 
 use super::{counted, mix, spaced, Told};
 use crate::language::*;
@@ -34,12 +34,17 @@ const FILE: usize = 8192;
 const FEW: usize = 16;
 
 impl super::Case for Case<'_> {
-    fn told(&self, file: &Loaded) -> Told {
+    fn told_on(&self, file: &Loaded, construction: Construction) -> Told {
         let mut memory = self.memory.to_vec();
-        let (answers, run) = self.ask.answers(file, &mut memory);
+        let (answers, run) = self.ask.answers(file, construction, &mut memory);
         let outcomes: String = answers.iter().map(|answer| format!("{answer}; ")).collect();
         let known = outcomes + &state(run, &memory);
         Told { line: format!("{known} sum {}", checksum(&memory)), known, answers: answers.iter().map(|answer| counted(answer)).collect() }
+    }
+
+    /// Both modes run on a graph.
+    fn may_name(&self) -> bool {
+        true
     }
 
     fn record(&self, title: &str, file: &[u8]) -> Vec<u8> {
@@ -59,15 +64,15 @@ impl super::Case for Case<'_> {
 
 impl Ask {
     /// The answers in turn, and where the run then stands.
-    fn answers(&self, file: &Loaded, memory: &mut [i32]) -> (Vec<String>, Run) {
+    fn answers(&self, file: &Loaded, construction: Construction, memory: &mut [i32]) -> (Vec<String>, Run) {
         match self {
             Ask::Budget(budget) => {
-                let (ending, run) = budgeted(file, *budget, memory);
+                let (ending, run) = budgeted(file, construction, *budget, memory);
                 (vec![ended(ending)], run)
             }
             Ask::Calls(from, calls) => {
                 let mut run = *from;
-                let answers = calls.iter().map(|&arrow| outcome(step(file, &mut run, arrow, memory))).collect();
+                let answers = calls.iter().map(|&arrow| outcome(step(file, construction, &mut run, arrow, memory))).collect();
                 (answers, run)
             }
         }

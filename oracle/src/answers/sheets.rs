@@ -1,7 +1,8 @@
 //! `analysis_sheets`: verdicts, index marks, the solver, the splitter, and the third term tried.
 //!
-//! A case of `sheets.bin`: mode (1 byte), length of the title (1), a number (4), lengths in bytes of a list of further numbers and of the file (2 each), how many
-//! chunks the start list has and how many the sheet has (1 each); then title, chunks of the start list, chunks of the sheet, further numbers, file.
+//! A case of `sheets.bin`: mode (1 byte, with 16 times the number of the construction that is named), length of the title (1), a number (4), lengths in bytes of a list
+//! of further numbers and of the file (2 each), how many chunks the start list has and how many the sheet has (1 each); then title, chunks of the start list, chunks
+//! of the sheet, further numbers, file.
 
 use super::runs::outcome;
 use super::{checksum, counted, spaced, Case, Told, FILLED};
@@ -83,14 +84,19 @@ pub fn solving(initial: &[u8], room: usize) -> Ask {
 }
 
 impl Case for Ask {
-    fn told(&self, file: &Loaded) -> Told {
+    fn told_on(&self, file: &Loaded, construction: Construction) -> Told {
         match self {
-            Ask::Judge(initial, sheet) => tell_judge(file, &initial.bytes(), &sheet.bytes()),
+            Ask::Judge(initial, sheet) => tell_judge(file, construction, &initial.bytes(), &sheet.bytes()),
             Ask::Mark(sheet) => tell_mark(file, &sheet.bytes()),
-            Ask::Solve(initial, room) => tell_solve(file, &initial.bytes(), *room),
+            Ask::Solve(initial, room) => tell_solve(file, construction, &initial.bytes(), *room),
             Ask::Split(places) => tell_split(file, places),
-            Ask::Follow(initial, memory, calls) => tell_follow(file, &initial.bytes(), memory, calls),
+            Ask::Follow(initial, memory, calls) => tell_follow(file, construction, &initial.bytes(), memory, calls),
         }
+    }
+
+    /// The mark is the same on both graphs, and the splitter needs none.
+    fn may_name(&self) -> bool {
+        matches!(self, Ask::Judge(..) | Ask::Solve(..) | Ask::Follow(..))
     }
 
     fn record(&self, title: &str, file: &[u8]) -> Vec<u8> {
@@ -157,8 +163,8 @@ fn width(file: &Loaded) -> usize {
     file.lesson().map_or(1, |lesson| lesson.width(List::Sheet))
 }
 
-fn tell_judge(file: &Loaded, initial: &[u8], sheet: &[u8]) -> Told {
-    let verdict = judge(file, initial, sheet);
+fn tell_judge(file: &Loaded, construction: Construction, initial: &[u8], sheet: &[u8]) -> Told {
+    let verdict = judge(file, construction, initial, sheet);
     let record = spaced(offending(file, &verdict, initial, sheet));
     let verdict = told_verdict(&verdict);
     Told::plain(format!("{verdict}; offending{record}"), vec![counted(&verdict)])
@@ -172,12 +178,12 @@ fn tell_mark(file: &Loaded, sheet: &[u8]) -> Told {
     Told::plain(mark.clone(), vec![counted(&mark)])
 }
 
-fn tell_solve(file: &Loaded, initial: &[u8], room: usize) -> Told {
+fn tell_solve(file: &Loaded, construction: Construction, initial: &[u8], room: usize) -> Told {
     let mut buffer = vec![FILLED; room];
-    let (answer, length) = solve(file, initial, &mut buffer);
+    let (answer, length) = solve(file, construction, initial, &mut buffer);
     let sheet = &buffer[..length];
     let solving = told_solving(&answer, length / width(file));
-    let verdict = told_verdict(&judge(file, initial, sheet));
+    let verdict = told_verdict(&judge(file, construction, initial, sheet));
     let start = format!("{solving}{}", shown(sheet, width(file)));
     Told {
         line: format!("{start} sum {}; {verdict}", checksum(&buffer)),
@@ -197,16 +203,16 @@ fn tell_split(file: &Loaded, places: &[u32]) -> Told {
 }
 
 /// The sheet that is solved of a start list in the whole of the program's buffer.
-pub fn solved(file: &Loaded, initial: &[u8]) -> (Result<(), Refusal>, Vec<u8>) {
+pub fn solved(file: &Loaded, construction: Construction, initial: &[u8]) -> (Result<(), Refusal>, Vec<u8>) {
     let mut buffer = vec![FILLED; LIST];
-    let (answer, length) = solve(file, initial, &mut buffer);
+    let (answer, length) = solve(file, construction, initial, &mut buffer);
     buffer.truncate(length);
     (answer, buffer)
 }
 
 /// The memory has as many cells as the script, where that is fit.
-fn tell_follow(file: &Loaded, initial: &[u8], memory: &[i32], calls: &[u16]) -> Told {
-    let (answer, sheet) = solved(file, initial);
+fn tell_follow(file: &Loaded, construction: Construction, initial: &[u8], memory: &[i32], calls: &[u16]) -> Told {
+    let (answer, sheet) = solved(file, construction, initial);
     let listed: HashSet<&[u8]> = sheet.chunks(width(file)).collect();
     let has = |run: Run, memory: &[i32]| match file.lesson() {
         Ok(lesson) if listed.contains(&at_node(run.node, &record_of(lesson, memory))[..]) => "has",
@@ -216,7 +222,7 @@ fn tell_follow(file: &Loaded, initial: &[u8], memory: &[i32], calls: &[u16]) -> 
     let mut line = format!("{}; {}; ", told_solving(&answer, sheet.len() / width(file)), has(run, &memory));
     let mut answers = Vec::new();
     for &arrow in calls {
-        let outcome = outcome(step(file, &mut run, arrow, &mut memory));
+        let outcome = outcome(step(file, construction, &mut run, arrow, &mut memory));
         line += &format!("{outcome} {}; ", has(run, &memory));
         answers.push(format!("{} {}", counted(&outcome), has(run, &memory)));
     }

@@ -59,7 +59,7 @@ pub fn number_of(p: u16, q: u16) -> i32 {
     (u32::from(p) << 16 | u32::from(q)) as i32
 }
 
-/// A script that passed questions 1 to 11 and 20, with its graph and with the first cell of each name.
+/// A script that passed questions 1 to 11 and 20, with one of its two graphs and with the first cell of each name.
 pub struct Lesson {
     pub script: Script,
     pub graph: Graph,
@@ -70,8 +70,8 @@ pub struct Lesson {
 }
 
 impl Lesson {
-    pub fn of(script: Script) -> Lesson {
-        let graph = Graph::of(&script);
+    pub fn of(script: Script, construction: Construction) -> Lesson {
+        let graph = Graph::of(&script, construction);
         let mut first = Vec::new();
         let mut cells = 0;
         for &size in &script.names {
@@ -91,8 +91,8 @@ impl Lesson {
     }
 
     /// The arrows that leave a node of the graph, with their numbers.
-    pub fn leaving(&self, node: u16) -> impl Iterator<Item = (usize, Arrow)> + '_ {
-        self.leaving[usize::from(node)].iter().map(|&k| (k, self.graph.arrows[k]))
+    pub fn leaving(&self, node: u16) -> impl Iterator<Item = (usize, &Arrow)> + '_ {
+        self.leaving[usize::from(node)].iter().map(|&k| (k, &self.graph.arrows[k]))
     }
 
     pub fn arithmetic(&self, n: u16) -> Entry {
@@ -183,12 +183,25 @@ impl Lesson {
         Ok(left && right)
     }
 
+    /// "That guard and the falsehood of all earlier guards, all evaluated in text order, its own last, undefined if any of these is": the later ones are worked
+    /// out even where an earlier one is true.
+    fn first_to_hold(&self, earlier: &[u16], own: u16, memory: &[i32]) -> Result<bool, Reason> {
+        let mut none_before = true;
+        for &b in earlier {
+            let holds = self.truth(b, memory)?;
+            none_before = none_before && !holds;
+        }
+        let own = self.truth(own, memory)?;
+        Ok(none_before && own)
+    }
+
     /// What an arrow's action stores, if anything: a cell and its value.
-    pub fn effect(&self, arrow: Arrow, memory: &[i32]) -> Result<Option<(usize, i32)>, Reason> {
-        let holds = match arrow.action {
-            1 => return self.command_effect(arrow.entry, memory),
-            2 => self.truth(arrow.entry, memory)?,
-            _ => self.all_fail(arrow.entry, memory)?,
+    pub fn effect(&self, arrow: &Arrow, memory: &[i32]) -> Result<Option<(usize, i32)>, Reason> {
+        let holds = match &arrow.action {
+            Action::Command(n) => return self.command_effect(*n, memory),
+            Action::Condition(b) => self.truth(*b, memory)?,
+            Action::Exit(guarded) => self.all_fail(*guarded, memory)?,
+            Action::Guard { earlier, own, .. } => self.first_to_hold(earlier, *own, memory)?,
         };
         if holds {
             Ok(None)
@@ -215,22 +228,34 @@ impl Lesson {
     }
 }
 
-/// A file's bytes with what questions 1 to 11 and 20 say of them. Every entry point asks these first: here they are asked once.
+/// A file's bytes with what questions 1 to 11 and 20 say of them. Every entry point asks these first: here they are asked once, and both graphs are drawn.
 pub struct Loaded {
     pub bytes: Vec<u8>,
-    lesson: Result<Lesson, No>,
+    lessons: Result<[Lesson; 2], No>,
 }
 
 impl Loaded {
     pub fn of(bytes: &[u8]) -> Loaded {
-        Loaded { bytes: bytes.to_vec(), lesson: read(bytes, 4).map(Lesson::of) }
+        let lessons = read(bytes, 4).map(|script| CONSTRUCTIONS.map(|construction| Lesson::of(script.clone(), construction)));
+        Loaded { bytes: bytes.to_vec(), lessons }
     }
 
-    pub fn lesson(&self) -> Result<&Lesson, No> {
-        self.lesson.as_ref().map_err(|no| *no)
+    /// The lesson with the graph of a construction.
+    pub fn on(&self, construction: Construction) -> Result<&Lesson, No> {
+        self.lessons.as_ref().map(|lessons| &lessons[construction as usize]).map_err(|no| *no)
     }
-    /// The lesson of a file that is known to be fit.
+
+    /// The lesson, for what is the same on both graphs: the script, nodes and numbers of arrows, cells, widths.
+    pub fn lesson(&self) -> Result<&Lesson, No> {
+        self.on(Nondeterministic)
+    }
+
+    /// The lesson of a file that is known to be fit, for what is the same on both graphs.
     pub fn fit(&self) -> &Lesson {
         self.lesson().ok().expect("a fit file")
+    }
+
+    pub fn fit_on(&self, construction: Construction) -> &Lesson {
+        self.on(construction).ok().expect("a fit file")
     }
 }

@@ -1,4 +1,4 @@
-//! Document 01, "The sheet program": what it prints of an input.
+//! Document 01, "The sheet program": what it prints of an input. It draws document 01's graph.
 
 use super::*;
 
@@ -21,9 +21,9 @@ fn listed(input: &[u8]) -> Result<String, Refusal> {
     let list = fields(input, 5)?[4];
     let initial = &input[list.at..list.at + list.length];
     let file = Loaded::of(&input[..list.at - 3]);
-    let lesson = file.lesson()?;
+    let lesson = file.on(Nondeterministic)?;
     let mut buffer = vec![0; SHEET_BUFFER];
-    let (answer, length) = solve(&file, initial, &mut buffer);
+    let (answer, length) = solve(&file, Nondeterministic, initial, &mut buffer);
     answer?;
     let sheet = &buffer[..length];
     let width = lesson.width(List::Sheet);

@@ -1,5 +1,6 @@
-//! The language, its graph, its meaning and its sign sheets, written from document 01 and order 7 of document 02 alone. Nothing here shares a definition or code with the engine.
+//! The language, its graph, its meaning and its sign sheets, written from document 01 and orders 7 and 8 of document 02 alone. Nothing here shares a definition or code with the engine.
 
+mod both;
 mod graph;
 mod lesson;
 mod listing;
@@ -10,6 +11,7 @@ mod sheet;
 mod signs;
 mod solver;
 
+pub use both::*;
 pub use graph::*;
 pub use lesson::*;
 pub use listing::*;

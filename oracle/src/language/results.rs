@@ -56,12 +56,20 @@ impl Lesson {
         failing.reduce(Answers::and).unwrap()
     }
 
+    /// Order 8's action of a guard: ¬b of every earlier guard and the guard itself, joined by ∧ left to right.
+    fn guard_answers(&self, earlier: &[u16], own: u16, record: &[u8]) -> Answers {
+        let own = self.answers(own, record);
+        let failing = earlier.iter().map(|&b| self.answers(b, record).not());
+        failing.chain([own]).reduce(Answers::and).unwrap()
+    }
+
     /// An arrow's results from a record, in their order.
-    pub fn results(&self, arrow: Arrow, record: &[u8]) -> Vec<Vec<u8>> {
-        let answers = match arrow.action {
-            1 => return self.command_results(arrow.entry, record),
-            2 => self.answers(arrow.entry, record),
-            _ => self.exit_answers(arrow.entry, record),
+    pub fn results(&self, arrow: &Arrow, record: &[u8]) -> Vec<Vec<u8>> {
+        let answers = match &arrow.action {
+            Action::Command(n) => return self.command_results(*n, record),
+            Action::Condition(b) => self.answers(*b, record),
+            Action::Exit(guarded) => self.exit_answers(*guarded, record),
+            Action::Guard { earlier, own, .. } => self.guard_answers(earlier, *own, record),
         };
         if answers.yes {
             vec![record.to_vec()]
@@ -114,14 +122,19 @@ impl Lesson {
         }
     }
 
-    /// "An index expression, anywhere in the action."
-    pub fn indices(&self, arrow: Arrow) -> Vec<u16> {
-        match arrow.action {
-            2 => return self.boolean_indices(arrow.entry),
-            3 => return self.guards(arrow.entry).into_iter().flat_map(|b| self.boolean_indices(b)).collect(),
-            _ => {}
-        }
-        let e = self.command(arrow.entry);
+    /// "An index expression, anywhere in the action": of a guard on the deterministic graph, in the earlier ones too.
+    pub fn indices(&self, arrow: &Arrow) -> Vec<u16> {
+        let conditions = match &arrow.action {
+            Action::Command(n) => return self.command_indices(*n),
+            Action::Condition(b) => vec![*b],
+            Action::Exit(guarded) => self.guards(*guarded),
+            Action::Guard { earlier, own, .. } => [&earlier[..], &[*own]].concat(),
+        };
+        conditions.into_iter().flat_map(|b| self.boolean_indices(b)).collect()
+    }
+
+    fn command_indices(&self, n: u16) -> Vec<u16> {
+        let e = self.command(n);
         let [_, q, r] = e.operands;
         match e.kind {
             1 => self.arithmetic_indices(q),
@@ -131,7 +144,7 @@ impl Lesson {
     }
 
     /// Whether an arrow's action holds an index expression whose set has minus.
-    pub fn may_be_below_zero(&self, arrow: Arrow, record: &[u8]) -> bool {
+    pub fn may_be_below_zero(&self, arrow: &Arrow, record: &[u8]) -> bool {
         self.indices(arrow).into_iter().any(|n| self.set(n, record) & MINUS != 0)
     }
 }

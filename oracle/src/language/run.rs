@@ -19,8 +19,8 @@ pub enum Outcome {
 }
 
 /// Questions 1 to 11, 20 and 12.
-fn with_memory<'a>(file: &'a Loaded, memory: &[i32]) -> Result<&'a Lesson, No> {
-    let lesson = file.lesson()?;
+fn with_memory<'a>(file: &'a Loaded, construction: Construction, memory: &[i32]) -> Result<&'a Lesson, No> {
+    let lesson = file.on(construction)?;
     if memory.len() != lesson.cells {
         return Err(No(12, 0));
     }
@@ -29,7 +29,7 @@ fn with_memory<'a>(file: &'a Loaded, memory: &[i32]) -> Result<&'a Lesson, No> {
 
 impl Lesson {
     /// Takes an arrow that leaves the run's node, if its action is defined.
-    fn take(&self, run: &mut Run, arrow: Arrow, memory: &mut [i32]) -> Result<(), Reason> {
+    fn take(&self, run: &mut Run, arrow: &Arrow, memory: &mut [i32]) -> Result<(), Reason> {
         if let Some((cell, value)) = self.effect(arrow, memory)? {
             memory[cell] = value;
         }
@@ -40,19 +40,19 @@ impl Lesson {
     }
 
     /// Questions 14 and 15.
-    fn arrow(&self, run: Run, number: u16) -> Result<Arrow, No> {
+    fn arrow(&self, run: Run, number: u16) -> Result<&Arrow, No> {
         if run.node >= self.graph.nodes {
             return Err(No(14, 0));
         }
         match self.graph.arrows.get(usize::from(number)) {
-            Some(&arrow) if arrow.from == run.node => Ok(arrow),
+            Some(arrow) if arrow.from == run.node => Ok(arrow),
             _ => Err(No(15, 0)),
         }
     }
 }
 
-pub fn step(file: &Loaded, run: &mut Run, arrow: u16, memory: &mut [i32]) -> Outcome {
-    let asked = with_memory(file, memory).and_then(|lesson| Ok((lesson, lesson.arrow(*run, arrow)?)));
+pub fn step(file: &Loaded, construction: Construction, run: &mut Run, arrow: u16, memory: &mut [i32]) -> Outcome {
+    let asked = with_memory(file, construction, memory).and_then(|lesson| Ok((lesson, lesson.arrow(*run, arrow)?)));
     let (lesson, arrow) = match asked {
         Ok(asked) => asked,
         Err(no) => return Outcome::Refused(no),
@@ -64,8 +64,8 @@ pub fn step(file: &Loaded, run: &mut Run, arrow: u16, memory: &mut [i32]) -> Out
 }
 
 /// A run from node 0: the answer 0, 1 or 2, and where it ended. "Other counts and nodes come back as zero" where it is refused.
-pub fn budgeted(file: &Loaded, budget: u16, memory: &mut [i32]) -> (Result<u32, No>, Run) {
-    let lesson = match with_memory(file, memory) {
+pub fn budgeted(file: &Loaded, construction: Construction, budget: u16, memory: &mut [i32]) -> (Result<u32, No>, Run) {
+    let lesson = match with_memory(file, construction, memory) {
         Ok(lesson) => lesson,
         Err(no) => return (Err(no), FRESH),
     };

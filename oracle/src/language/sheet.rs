@@ -117,8 +117,8 @@ impl Lesson {
     }
 }
 
-pub fn judge(file: &Loaded, initial: &[u8], sheet: &[u8]) -> Result<Verdict, Refusal> {
-    let lesson = file.lesson()?;
+pub fn judge(file: &Loaded, construction: Construction, initial: &[u8], sheet: &[u8]) -> Result<Verdict, Refusal> {
+    let lesson = file.on(construction)?;
     lesson.ask_whole(List::Start, initial)?;
     lesson.ask_whole(List::Sheet, sheet)?;
     lesson.ask_well_formed(List::Start, initial)?;
@@ -136,11 +136,15 @@ pub fn offending<'a>(file: &Loaded, verdict: &Result<Verdict, Refusal>, initial:
     }
 }
 
+/// The mark by itself takes no construction, for it is the same on both graphs: the earlier guards that a guard's action has on the deterministic one are on
+/// lower arrows out of the same node, so that the lowest arrow with such an index stays the lowest.
 pub fn index_mark(file: &Loaded, sheet: &[u8]) -> Result<Mark, Refusal> {
     let lesson = file.lesson()?;
     lesson.ask_whole(List::Sheet, sheet)?;
     lesson.ask_well_formed(List::Sheet, sheet)?;
-    Ok(lesson.mark(sheet))
+    let mark = lesson.mark(sheet);
+    assert_eq!(mark, file.fit_on(Deterministic).mark(sheet), "the mark on both graphs");
+    Ok(mark)
 }
 
 /// "Split by dividing by the sheet's record width: quotient the record, remainder the column."

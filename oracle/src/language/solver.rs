@@ -49,9 +49,9 @@ impl Solver<'_> {
 }
 
 /// The answer, and how many bytes of records were written: at the front of the buffer, whose rest stays.
-pub fn solve(file: &Loaded, initial: &[u8], buffer: &mut [u8]) -> (Result<(), Refusal>, usize) {
+pub fn solve(file: &Loaded, construction: Construction, initial: &[u8], buffer: &mut [u8]) -> (Result<(), Refusal>, usize) {
     let asked = || -> Result<&Lesson, Refusal> {
-        let lesson = file.lesson()?;
+        let lesson = file.on(construction)?;
         lesson.ask_whole(List::Start, initial)?;
         lesson.ask_well_formed(List::Start, initial)?;
         Ok(lesson)

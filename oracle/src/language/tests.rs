@@ -1,4 +1,4 @@
-//! Document 01's worked cases, those marked (P) and those to be run; and order 7's break and continue.
+//! Document 01's worked cases, those marked (P) and those to be run; order 7's break and continue; and order 8's deterministic graph.
 
 use super::*;
 use crate::making::*;
@@ -6,7 +6,7 @@ use crate::making::*;
 /// One step of a fresh run: where it ends and the memory, or why it is undefined.
 fn stepped(names: &str, text: &str, memory: &[i32]) -> Result<(u16, Vec<i32>), Reason> {
     let (file, mut run, mut memory) = (script_of(names, text).loaded(), FRESH, memory.to_vec());
-    match step(&file, &mut run, 0, &mut memory) {
+    match step(&file, Nondeterministic, &mut run, 0, &mut memory) {
         Outcome::Taken => Ok((run.node, memory)),
         Outcome::Undefined(reason) => Err(reason),
         Outcome::Refused(no) => panic!("{}", refused(no)),
@@ -55,15 +55,15 @@ fn the_factorial_lesson_is_written_as_its_text() {
 
 #[test]
 fn its_five_arrows() {
-    let graph = Graph::of(&factorial());
-    let arrows: Vec<_> = graph.arrows.iter().map(|a| (a.from, a.to, a.action)).collect();
+    let graph = Graph::of(&factorial(), Nondeterministic);
+    let arrows: Vec<_> = graph.arrows.iter().map(|a| (a.from, a.to, a.action.kind())).collect();
     assert_eq!((graph.nodes, arrows), (5, vec![(0, 2, 1), (2, 3, 2), (3, 4, 1), (4, 2, 1), (2, 1, 3)]));
 }
 
 #[test]
 fn its_run() {
     let mut memory = [3, 0];
-    let (answer, run) = budgeted(&factorial().loaded(), 11, &mut memory);
+    let (answer, run) = budgeted(&factorial().loaded(), Nondeterministic, 11, &mut memory);
     assert_eq!((answer.ok(), run.node, run.count, memory), (Some(0), 1, 11, [0, 6]));
 }
 
@@ -72,7 +72,7 @@ const EIGHT: [[u8; 4]; 8] = [[0, 0, 4, 2], [0, 2, 4, 4], [0, 3, 4, 4], [0, 4, 4,
 #[test]
 fn its_eight_records() {
     let mut buffer = [0; 40];
-    let (answer, length) = solve(&factorial().loaded(), &[4, 2], &mut buffer);
+    let (answer, length) = solve(&factorial().loaded(), Nondeterministic, &[4, 2], &mut buffer);
     assert!(answer.is_ok());
     assert_eq!(buffer[..length], EIGHT.concat());
 }
@@ -88,16 +88,16 @@ fn its_listing() {
 fn its_sheet_without_record_7() {
     let file = factorial().loaded();
     let sheet = EIGHT[..7].concat();
-    let verdict = judge(&file, &[4, 2], &sheet);
+    let verdict = judge(&file, Nondeterministic, &[4, 2], &sheet);
     assert!(matches!(verdict, Ok(Verdict::ResultMissing(5, 4))));
     assert_eq!(offending(&file, &verdict, &[4, 2], &sheet), EIGHT[5]);
-    assert!(matches!(judge(&file, &[4, 2], &EIGHT.concat()), Ok(Verdict::Accepted(CLEAN))));
+    assert!(matches!(judge(&file, Nondeterministic, &[4, 2], &EIGHT.concat()), Ok(Verdict::Accepted(CLEAN))));
 }
 
 #[test]
 fn a_store_of_sign_zero_at_index_zero() {
-    let lesson = Lesson::of(script_of("A3", "A[0] := 0"));
-    assert_eq!(lesson.results(lesson.graph.arrows[0], &[4]), [[6], [2]]);
+    let lesson = Lesson::of(script_of("A3", "A[0] := 0"), Nondeterministic);
+    assert_eq!(lesson.results(&lesson.graph.arrows[0], &[4]), [[6], [2]]);
 }
 
 #[test]
@@ -108,7 +108,7 @@ fn plus_divided_by_plus_may_be_zero() {
 #[test]
 fn an_if_that_is_stuck() {
     let file = script_of("x", "if x > 0 -> skip fi").loaded();
-    let (answer, run) = budgeted(&file, 1, &mut [0]);
+    let (answer, run) = budgeted(&file, Nondeterministic, 1, &mut [0]);
     assert_eq!((answer.ok(), run.node, run.count), (Some(2), 0, 0));
 }
 
@@ -123,7 +123,7 @@ fn names_sizes_and_cells_at_their_ends() {
 #[test]
 fn a_loop_is_left_where_all_guards_are_false() {
     let file = script_of("x y", "do x > 0 -> skip [] y > 0 -> skip od").loaded();
-    let left = |mut memory: [i32; 2]| matches!(step(&file, &mut FRESH.clone(), 4, &mut memory), Outcome::Taken);
+    let left = |mut memory: [i32; 2]| matches!(step(&file, Nondeterministic, &mut FRESH.clone(), 4, &mut memory), Outcome::Taken);
     assert_eq!((left([1, 0]), left([0, 1]), left([0, 0])), (false, false, true));
 }
 
@@ -138,8 +138,12 @@ fn a_place_in_a_sheet() {
 type Drawn = (u16, Vec<(u16, u16, u8, u16)>);
 
 fn drawn(script: &Script) -> Drawn {
-    let graph = Graph::of(script);
-    (graph.nodes, graph.arrows.iter().map(|a| (a.from, a.to, a.action, a.entry)).collect())
+    drawn_on(Nondeterministic, script)
+}
+
+fn drawn_on(construction: Construction, script: &Script) -> Drawn {
+    let graph = Graph::of(script, construction);
+    (graph.nodes, graph.arrows.iter().map(Arrow::written).collect())
 }
 
 /// The graph of a text over x and y.
@@ -177,7 +181,7 @@ fn its_runs() {
     let elements = [3, 4, -1, 5, 0, -2, 0, 0, 0, 6];
     for (jump, steps, i, x, y) in [("break", 17, 3, 7, 2), ("continue", 52, 10, 18, 8), ("skip", 54, 10, 18, 10)] {
         let mut memory = [&[9, 9, 9], &elements[..]].concat();
-        let (answer, run) = budgeted(&adding_and_counting(jump).loaded(), 1000, &mut memory);
+        let (answer, run) = budgeted(&adding_and_counting(jump).loaded(), Nondeterministic, 1000, &mut memory);
         assert_eq!((answer.ok(), run.node, run.count, &memory[..3]), (Some(0), 1, steps, &[i, x, y][..]), "{jump}");
         assert_eq!(memory[3..], elements);
     }
@@ -230,7 +234,7 @@ fn a_command_after_a_jump() {
     let (nodes, broken) = arrows("do true -> break; x := 1 od");
     assert_eq!((nodes, broken), (4, vec![(0, 2, 2, 0), (2, 1, 1, 0), (3, 0, 1, 1), (0, 1, 3, 3)]));
     let file = script_of("x y", "do true -> break; x := 1 od").loaded();
-    let (answer, run) = budgeted(&file, 9, &mut [5, 5]);
+    let (answer, run) = budgeted(&file, Nondeterministic, 9, &mut [5, 5]);
     assert_eq!((answer.ok(), run.node, run.count), (Some(0), 1, 2));
 }
 
@@ -283,8 +287,8 @@ fn questions_beside_20() {
     assert_eq!(asked(&s), "refused 11 at 28");
     // 12 comes after.
     let file = draft_of("x", "break").loaded();
-    assert!(matches!(budgeted(&file, 9, &mut []).0, Err(No(20, 14))));
-    assert!(matches!(step(&file, &mut FRESH.clone(), 0, &mut []), Outcome::Refused(No(20, 14))));
+    assert!(matches!(budgeted(&file, Nondeterministic, 9, &mut []).0, Err(No(20, 14))));
+    assert!(matches!(step(&file, Nondeterministic, &mut FRESH.clone(), 0, &mut []), Outcome::Refused(No(20, 14))));
 }
 
 /// The sheet program asks 20 before 17, and after 1 to 5 of the fifth field.
@@ -301,31 +305,224 @@ fn an_input_with_a_loose_jump() {
 fn a_sheet_past_a_break() {
     let file = script_of("x", "do x > 0 -> x := x - 1; break od").loaded();
     let mut buffer = [0; 40];
-    let (answer, length) = solve(&file, &[4], &mut buffer);
+    let (answer, length) = solve(&file, Nondeterministic, &[4], &mut buffer);
     assert!(answer.is_ok());
     let expected = [[0, 0, 4], [0, 2, 4], [0, 3, 1], [0, 3, 2], [0, 3, 4], [0, 1, 1], [0, 1, 2], [0, 1, 4]];
     assert_eq!(buffer[..length], expected.concat());
-    assert!(matches!(judge(&file, &[4], &buffer[..length]), Ok(Verdict::Accepted(CLEAN))));
-    assert!(matches!(judge(&file, &[4], &buffer[..length - 3]), Ok(Verdict::ResultMissing(4, 2))));
+    assert!(matches!(judge(&file, Nondeterministic, &[4], &buffer[..length]), Ok(Verdict::Accepted(CLEAN))));
+    assert!(matches!(judge(&file, Nondeterministic, &[4], &buffer[..length - 3]), Ok(Verdict::ResultMissing(4, 2))));
 }
 
-/// The third term, on random lessons: the solver's sheet has each configuration, and where it is clean no arrow on the way meets an index below zero.
+/// The third term, on random lessons and both graphs: the solver's sheet has each configuration, and where it is clean no arrow on the way meets an index below zero.
 #[test]
 fn the_third_term() {
     let mut r = Random(2026);
-    for k in 0..300 {
-        let Following { file, initial, mut memory, calls } = random_following(&mut r, k);
-        let (lesson, mut buffer, mut run) = (file.fit(), vec![0; 140_000], FRESH);
-        let (answer, length) = solve(&file, &initial, &mut buffer);
+    for k in 0..600 {
+        let construction = CONSTRUCTIONS[k % 2];
+        let Following { file, initial, mut memory, calls } = random_following(&mut r, construction, k);
+        let (lesson, mut buffer, mut run) = (file.fit_on(construction), vec![0; 140_000], FRESH);
+        let (answer, length) = solve(&file, construction, &initial, &mut buffer);
         if answer.is_err() {
             continue;
         }
         let sheet = &buffer[..length];
         let (listed, mark) = (lesson.listed(sheet), lesson.mark(sheet));
         for arrow in calls {
-            let outcome = step(&file, &mut run, arrow, &mut memory);
+            let outcome = step(&file, construction, &mut run, arrow, &mut memory);
             assert!(mark != CLEAN || !matches!(outcome, Outcome::Undefined(INDEX_BELOW_ZERO)));
             assert!(listed.contains(&at_node(run.node, &record_of(lesson, &memory))[..]));
+        }
+    }
+}
+
+/// The deterministic graph of a text over x and y.
+fn deterministic(text: &str) -> Drawn {
+    drawn_on(Deterministic, &script_of("x y", text))
+}
+
+/// The earlier guards of each guard of a deterministic graph, in arrow order: boolean entries, which are numbered as the text has them.
+fn earlier(script: &Script) -> Vec<Vec<u16>> {
+    let arrows = Graph::of(script, Deterministic).arrows;
+    arrows.into_iter().filter_map(|arrow| if let Action::Guard { earlier, .. } = arrow.action { Some(earlier) } else { None }).collect()
+}
+
+fn earlier_of(text: &str) -> Vec<Vec<u16>> {
+    earlier(&script_of("x y", text))
+}
+
+/// Its one guard is the first of its loop, and of kind 4 all the same, with entry 4, the guarded command. What it does is unchanged.
+#[test]
+fn the_factorials_deterministic_graph() {
+    let expected = vec![(0, 2, 1, 0), (2, 3, 4, 4), (3, 4, 1, 1), (4, 2, 1, 2), (2, 1, 3, 4)];
+    assert_eq!(drawn_on(Deterministic, &factorial()), (5, expected));
+    let (file, mut memory, mut buffer) = (factorial().loaded(), [3, 0], [0; 40]);
+    let (answer, run) = budgeted(&file, Deterministic, 11, &mut memory);
+    assert_eq!((answer.ok(), run.node, run.count, memory), (Some(0), 1, 11, [0, 6]));
+    let (answer, length) = solve(&file, Deterministic, &[4, 2], &mut buffer);
+    assert!(answer.is_ok());
+    assert_eq!(buffer[..length], EIGHT.concat());
+    assert!(matches!(judge(&file, Deterministic, &[4, 2], &EIGHT[..7].concat()), Ok(Verdict::ResultMissing(5, 4))));
+}
+
+/// Document 002's example: of three guards that overlap, all arrows are defined for 12, and on the deterministic graph the first alone.
+#[test]
+fn ten_five_or_zero() {
+    let text = "if x >= 10 -> y := 10 [] x >= 5 -> y := 5 [] x >= 0 -> y := 0 fi";
+    assert_eq!(arrows(text).1, [(0, 2, 2, 0), (2, 1, 1, 0), (0, 3, 2, 1), (3, 1, 1, 2), (0, 4, 2, 2), (4, 1, 1, 5)]);
+    assert_eq!(deterministic(text), (5, vec![(0, 2, 4, 1), (2, 1, 1, 0), (0, 3, 4, 3), (3, 1, 1, 2), (0, 4, 4, 6), (4, 1, 1, 5)]));
+    assert_eq!(earlier_of(text), [vec![], vec![0], vec![0, 1]]);
+    let file = script_of("x y", text).loaded();
+    let defined = |construction, x| [0, 2, 4].map(|arrow| matches!(step(&file, construction, &mut FRESH.clone(), arrow, &mut [x, 9]), Outcome::Taken));
+    for (x, old, new) in [
+        (12, [true, true, true], [true, false, false]),
+        (10, [true, true, true], [true, false, false]),
+        (9, [false, true, true], [false, true, false]),
+        (4, [false, false, true], [false, false, true]),
+        (-1, [false, false, false], [false, false, false]),
+    ] {
+        assert_eq!((defined(Nondeterministic, x), defined(Deterministic, x)), (old, new), "{x}");
+    }
+}
+
+/// "Earlier in the same if or do": to the left in its choices, however they are nested and numbered. The body of a guard begins with none.
+#[test]
+fn earlier_guards() {
+    assert_eq!(earlier_of("if x > 0 -> skip [] { x > 1 -> skip [] x > 2 -> skip } fi"), [vec![], vec![0], vec![0, 1]]);
+    let halves = "do { x > 0 -> skip [] x > 1 -> skip } [] { x > 2 -> skip [] x > 3 -> skip } od";
+    assert_eq!(earlier_of(halves), [vec![], vec![0], vec![0, 1], vec![0, 1, 2]]);
+    // The outer guards are 0 and 3; arrow order is that of the text.
+    assert_eq!(earlier_of("if x > 0 -> if y > 0 -> skip [] y > 1 -> skip fi [] x > 1 -> skip fi"), [vec![], vec![], vec![1], vec![0]]);
+    assert_eq!(earlier_of("do x > 0 -> do y > 0 -> skip [] y > 1 -> skip od [] x > 1 -> skip od"), [vec![], vec![], vec![1], vec![0]]);
+    assert_eq!(earlier_of("if x > 0 -> skip [] x > 1 -> skip fi; do y > 0 -> skip [] y > 1 -> skip od"), [vec![], vec![0], vec![], vec![2]]);
+    // The later entries come first in the text.
+    let mut s = Script::new(&[0]);
+    let g: Vec<u16> = (0..3).map(|_| s.true_skip()).collect();
+    let both = s.choice(g[1], g[0]);
+    let all = s.choice(g[2], both);
+    s.if_fi(all);
+    assert_eq!(earlier(&s), [vec![], vec![2], vec![2, 1]]);
+    let guards: Vec<_> = drawn_on(Deterministic, &s).1.into_iter().filter(|arrow| arrow.2 == 4).collect();
+    assert_eq!(guards, [(0, 2, 4, g[2]), (0, 3, 4, g[1]), (0, 4, 4, g[0])]);
+}
+
+/// Every arrow of loops in one another, with jumps: kind 4 where document 01's graph has kind 2, and exits as they are.
+#[test]
+fn a_deterministic_graph_with_loops_and_jumps() {
+    let text = "do x > 0 -> if y > 0 -> break [] true -> continue fi [] y > 0 -> do x > 1 -> skip od od";
+    let expected =
+        vec![(0, 2, 4, 6), (2, 3, 4, 1), (3, 1, 1, 0), (2, 4, 4, 3), (4, 0, 1, 2), (0, 5, 4, 10), (5, 6, 4, 8), (6, 5, 1, 7), (5, 0, 3, 8), (0, 1, 3, 11)];
+    assert_eq!(deterministic(text), (7, expected));
+    assert_eq!(earlier_of(text), [vec![], vec![], vec![1], vec![0], vec![]]);
+}
+
+/// A guard that is true, false or undefined, for two reasons, over x, which is 1, and A of 4.
+const GUARDS: [(&str, Result<bool, Reason>); 4] = [("x > 0", Ok(true)), ("0 > x", Ok(false)), ("A[-1] = 0", Err(34)), ("x / 0 = 0", Err(32))];
+
+/// Each arrow out of node 0 of an if with some guards, on a graph: none where it is taken, else the reason.
+fn reasons(construction: Construction, guards: &[usize]) -> Vec<Option<Reason>> {
+    let arms: Vec<String> = guards.iter().map(|&g| format!("{} -> skip", GUARDS[g].0)).collect();
+    let file = script_of("x A4", &format!("if {} fi", arms.join(" [] "))).loaded();
+    let ask = |k: usize| match step(&file, construction, &mut FRESH.clone(), 2 * k as u16, &mut [1, 0, 0, 0, 0]) {
+        Outcome::Taken => None,
+        Outcome::Undefined(reason) => Some(reason),
+        Outcome::Refused(no) => panic!("{}", refused(no)),
+    };
+    (0..guards.len()).map(ask).collect()
+}
+
+#[test]
+fn all_earlier_guards_are_worked_out() {
+    let (t, f, below, zero) = (0, 1, 2, 3);
+    for (guards, expected) in [
+        (vec![t, t], vec![None, Some(31)]),
+        (vec![f, t], vec![Some(31), None]),
+        (vec![t, f], vec![None, Some(31)]),
+        // A later guard that is undefined gives its reason, although an earlier one is true; and an earlier one's comes first.
+        (vec![t, below], vec![None, Some(34)]),
+        (vec![below, t], vec![Some(34), Some(34)]),
+        (vec![f, below, t], vec![Some(31), Some(34), Some(34)]),
+        (vec![below, zero], vec![Some(34), Some(34)]),
+        (vec![zero, below], vec![Some(32), Some(32)]),
+        (vec![t, zero, below, t], vec![None, Some(32), Some(32), Some(32)]),
+        (vec![t, t, f, zero], vec![None, Some(31), Some(31), Some(32)]),
+        (vec![f, f, f, t], vec![Some(31), Some(31), Some(31), None]),
+    ] {
+        assert_eq!(reasons(Deterministic, &guards), expected, "{guards:?}");
+        let alone: Vec<Option<Reason>> = guards.iter().map(|&g| GUARDS[g].1.map_or_else(Some, |holds| if holds { None } else { Some(31) })).collect();
+        assert_eq!(reasons(Nondeterministic, &guards), alone, "{guards:?}");
+    }
+}
+
+/// A run whose first guard is undefined goes on by the second on document 01's graph, and is stuck on the other.
+#[test]
+fn a_run_past_an_undefined_guard() {
+    let file = script_of("x", "if 1 / x > 0 -> x := 1 [] true -> x := 2 fi").loaded();
+    for (construction, x, expected) in
+        [(Nondeterministic, 0, (2, 1, 2)), (Deterministic, 0, (0, 0, 0)), (Nondeterministic, 1, (1, 1, 2)), (Deterministic, -1, (2, 1, 2))]
+    {
+        let mut memory = [x];
+        let (_, run) = budgeted(&file, construction, 9, &mut memory);
+        assert_eq!((memory[0], run.node, run.count), expected, "{construction:?} from {x}");
+    }
+}
+
+/// On signs: the second guard may hold only where the first may fail, and has no answer where that has none.
+#[test]
+fn sheets_on_both_graphs() {
+    let sheet = |construction, text: &str, start: &[u8]| {
+        let mut buffer = [0; 60];
+        let (answer, length) = solve(&script_of("x A4", text).loaded(), construction, start, &mut buffer);
+        assert!(answer.is_ok());
+        buffer[..length].chunks(4).map(|record| (record[1], record[2])).collect::<Vec<_>>()
+    };
+    let text = "if x > 0 -> skip [] true -> x := 0 fi";
+    assert_eq!(sheet(Nondeterministic, text, &[4, 7]), [(0, 4), (2, 4), (3, 4), (1, 4), (1, 2)]);
+    assert_eq!(sheet(Deterministic, text, &[4, 7]), [(0, 4), (2, 4), (1, 4)]);
+    assert_eq!(sheet(Deterministic, text, &[1, 7]), [(0, 1), (3, 1), (1, 2)]);
+    // May hold and may fail.
+    let text = "if x > 1 -> skip [] true -> x := 0 fi";
+    assert_eq!(sheet(Deterministic, text, &[4, 7]), [(0, 4), (2, 4), (3, 4), (1, 4), (1, 2)]);
+    let text = "if A[-1] > 0 -> skip [] true -> x := 0 fi";
+    assert_eq!(sheet(Nondeterministic, text, &[4, 7]), [(0, 4), (3, 4), (1, 2)]);
+    assert_eq!(sheet(Deterministic, text, &[4, 7]), [(0, 4)]);
+    // Accepted on the one graph, and not on the other.
+    let file = script_of("x", "if x > 0 -> skip [] true -> x := 0 fi").loaded();
+    let sheet = [0, 0, 4, 0, 2, 4, 0, 1, 4];
+    assert!(matches!(judge(&file, Deterministic, &[4], &sheet), Ok(Verdict::Accepted(CLEAN))));
+    assert!(matches!(judge(&file, Nondeterministic, &[4], &sheet), Ok(Verdict::ResultMissing(0, 2))));
+}
+
+/// A guard's action holds the index expressions of the earlier guards too. The lowest arrow with one stays the same.
+#[test]
+fn indices_of_earlier_guards() {
+    let file = script_of("x y A4", "if A[x] > 0 -> skip [] y > 0 -> skip [] A[y] > 0 -> skip fi").loaded();
+    let counts = |construction| {
+        let lesson = file.fit_on(construction);
+        [0, 2, 4].map(|k| lesson.indices(&lesson.graph.arrows[k]).len())
+    };
+    assert_eq!((counts(Nondeterministic), counts(Deterministic)), ([1, 0, 1], [1, 1, 2]));
+    let below = |construction, record: &[u8]| {
+        let lesson = file.fit_on(construction);
+        [0, 2, 4].map(|k| lesson.may_be_below_zero(&lesson.graph.arrows[k], record))
+    };
+    assert_eq!((below(Nondeterministic, &[1, 4, 7]), below(Deterministic, &[1, 4, 7])), ([true, false, false], [true, true, true]));
+    assert_eq!((below(Nondeterministic, &[4, 1, 7]), below(Deterministic, &[4, 1, 7])), ([false, false, true], [false, false, true]));
+    for (record, mark) in [([0, 0, 1, 4, 7], Some((0, 0))), ([0, 0, 4, 1, 7], Some((0, 4))), ([0, 0, 4, 4, 7], CLEAN)] {
+        assert_eq!(index_mark(&file, &record).ok().unwrap(), mark);
+    }
+}
+
+/// What must hold of both graphs, of random scripts in random memories.
+#[test]
+fn both_graphs_of_random_scripts() {
+    let mut r = Random(2027);
+    for k in 0..1500 {
+        let file = random_lesson(&mut r, k);
+        assert_alike(&file);
+        for _ in 0..4 {
+            let memory = random_memory(&mut r, file.fit().cells);
+            assert_deterministic(&file, &memory);
+            assert_same_run(&file, 300, &memory);
         }
     }
 }

@@ -124,8 +124,8 @@ pub fn random_memory(r: &mut Random, cells: usize) -> Vec<i32> {
     (0..cells).map(|_| random_number(r)).collect()
 }
 
-/// Step calls, most of them of arrows that leave the node which the run is at.
-pub fn random_calls(r: &mut Random, file: &Loaded, memory: &[i32], length: usize) -> Vec<u16> {
+/// Step calls on a graph, most of them of arrows that leave the node which the run is at.
+pub fn random_calls(r: &mut Random, file: &Loaded, construction: Construction, memory: &[i32], length: usize) -> Vec<u16> {
     let lesson = file.fit();
     let (mut memory, mut run) = (memory.to_vec(), FRESH);
     let mut calls = Vec::new();
@@ -137,7 +137,7 @@ pub fn random_calls(r: &mut Random, file: &Loaded, memory: &[i32], length: usize
             _ if leaving.is_empty() => r.below(lesson.graph.arrows.len()) as u16,
             _ => leaving[r.below(leaving.len())],
         };
-        step(file, &mut run, arrow, &mut memory);
+        step(file, construction, &mut run, arrow, &mut memory);
         calls.push(arrow);
     }
     calls

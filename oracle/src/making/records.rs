@@ -40,28 +40,33 @@ pub struct Following {
     pub calls: Vec<u16>,
 }
 
-pub fn random_following(r: &mut Random, k: usize) -> Following {
+pub fn random_following(r: &mut Random, construction: Construction, k: usize) -> Following {
     // Two of three are loops and ifs that mostly go on.
     let file = if k.is_multiple_of(3) { random_lesson(r, k / 3) } else { lesson_of(&format!("{}; {}", random_command(r, 3, 0), random_command(r, 2, 0))) };
+    following(r, construction, file)
+}
+
+/// A file, and what else the third term speaks of.
+pub fn following(r: &mut Random, construction: Construction, file: Loaded) -> Following {
     let lesson = file.fit();
     let memory = random_memory(r, lesson.cells);
     let mut initial = if r.chance(2) { random_start(r, lesson) } else { Vec::new() };
     let at = r.below(initial.len() / lesson.names() + 1) * lesson.names();
     initial.splice(at..at, record_of(lesson, &memory));
     let length = 4 + r.below(60);
-    let mut calls = random_calls(r, &file, &memory, length);
-    calls.truncate(arrival(&file, &memory, &calls) + 2);
+    let mut calls = random_calls(r, &file, construction, &memory, length);
+    calls.truncate(arrival(&file, construction, &memory, &calls) + 2);
     Following { file, initial, memory, calls }
 }
 
-/// How many calls bring a run to node 1, if any do: nothing leaves it.
-pub fn arrival(file: &Loaded, memory: &[i32], calls: &[u16]) -> usize {
+/// How many calls bring a run on a graph to node 1, if any do: nothing leaves it.
+pub fn arrival(file: &Loaded, construction: Construction, memory: &[i32], calls: &[u16]) -> usize {
     let (mut run, mut memory) = (FRESH, memory.to_vec());
     for (k, &arrow) in calls.iter().enumerate() {
         if run.node == 1 {
             return k;
         }
-        step(file, &mut run, arrow, &mut memory);
+        step(file, construction, &mut run, arrow, &mut memory);
     }
     calls.len()
 }

@@ -323,7 +323,7 @@ fn marked(inputs: &mut Inputs) {
 /// The counts of a sheet whose last records are not counted by hand.
 fn counts(script: &Script, list: &[u8]) -> String {
     let (file, mut buffer) = (script.loaded(), vec![0; 65536]);
-    let (lesson, length) = (file.fit(), solve(&file, list, &mut buffer).1);
+    let (lesson, length) = (file.fit(), solve(&file, Nondeterministic, list, &mut buffer).1);
     format!("nodes {} arrows {} records {}", lesson.graph.nodes, lesson.graph.arrows.len(), length / lesson.width(List::Sheet))
 }
 

@@ -209,7 +209,7 @@ impl Maker<'_> {
         let budget = runs::Ask::Budget(needs::budget(r));
         self.ask(Operation::Budget, &made.file, &runs::on(&memory, &budget));
         let memory = needs::any_memory(r, made);
-        let calls = runs::Ask::Calls(FRESH, needs::calls(r, made, &memory));
+        let calls = runs::Ask::Calls(FRESH, needs::calls(r, made, Nondeterministic, &memory));
         self.ask(Operation::Steps, &made.file, &runs::on(&memory, &calls));
         let memory = needs::any_memory(r, made);
         let calls = runs::Ask::Calls(needs::any_run(r, made), needs::any_calls(r, made));
@@ -218,7 +218,7 @@ impl Maker<'_> {
 
     fn of_sheets(&mut self, r: &mut Random, list: &[u8]) {
         let made = self.made;
-        let (_, solved) = solved(&made.source, list);
+        let (_, solved) = solved(&made.source, Nondeterministic, list);
         let sheet = Chunks::of(&needs::any_sheet(r, made, &solved));
         self.ask(Operation::Judge, &made.file, &Ask::Judge(needs::any_start_list(r, made, list), sheet));
         self.ask(Operation::Mark, &made.file, &marking(&needs::any_sheet(r, made, &solved)));
@@ -242,7 +242,7 @@ impl Maker<'_> {
         let made = self.made;
         let lesson = made.file.lesson().unwrap_or(made.source.fit());
         let memory = needs::memory(r, made, lesson);
-        let mut calls = needs::calls(r, made, &memory);
+        let mut calls = needs::calls(r, made, Nondeterministic, &memory);
         // The program looks a configuration up after each call, and in a long sheet that takes long.
         let records = solved.len() / made.source.fit().width(List::Sheet);
         calls.truncate((MOST_LOOKUPS / records.max(1)).clamp(4, 20));

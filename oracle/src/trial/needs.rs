@@ -40,14 +40,14 @@ pub fn budget(r: &mut Random) -> u16 {
     }
 }
 
-/// Step calls that mostly go on from a fresh run. Of a file that is refused, those of its source.
-pub fn calls(r: &mut Random, made: &Made, memory: &[i32]) -> Vec<u16> {
+/// Step calls that mostly go on from a fresh run on a graph. Of a file that is refused, those of its source.
+pub fn calls(r: &mut Random, made: &Made, construction: Construction, memory: &[i32]) -> Vec<u16> {
     let file = if made.file.lesson().is_ok() { &made.file } else { &made.source };
     let length = r.below(MOST_CALLS);
-    let mut calls = random_calls(r, file, memory, length);
+    let mut calls = random_calls(r, file, construction, memory, length);
     // Where the file is refused or the memory doesn't fit, or once the run is at node 1, all calls are answered alike: a few are enough.
     let takes = made.file.lesson().is_ok_and(|lesson| lesson.cells == memory.len());
-    calls.truncate(if takes { arrival(file, memory, &calls) + 2 } else { 3 });
+    calls.truncate(if takes { arrival(file, construction, memory, &calls) + 2 } else { 3 });
     calls
 }
 

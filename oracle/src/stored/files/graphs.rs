@@ -154,7 +154,7 @@ pub fn rooms(out: &mut Out) {
     out.group("room");
     for (name, s) in [("skip", sequence(1, 0)), ("factorial", factorial()), ("tour", tour()), ("127 loops", loops(127))] {
         let file = s.bytes();
-        let need = Graph::of(&s).bytes().len() as u16;
+        let need = Graph::of(&s, Nondeterministic).bytes().len() as u16;
         for room in [0, 6, 7, need - 7, need - 1, need, need + 1, need + 7, 1785, 1999, 2000] {
             out.put(&format!("{name}, {room} bytes"), &file, &Mode::Sum(room));
         }

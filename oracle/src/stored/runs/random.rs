@@ -70,7 +70,7 @@ pub fn random(out: &mut Out) {
         let file = small_script(&mut r, [6, 12, 20, 32, 50, 80][k % 6]).loaded();
         let memory = random_memory(&mut r, file.fit().cells);
         let length = 8 + r.below(40);
-        let calls = random_calls(&mut r, &file, &memory, length);
+        let calls = random_calls(&mut r, &file, Nondeterministic, &memory, length);
         out.put(&k.to_string(), &file.bytes, &on(&memory, &steps(&calls)));
     }
     out.group("random lesson");

@@ -74,9 +74,9 @@ pub fn indices(out: &mut Out) {
         out.known(&format!("{text}, {sheet}"), &file_of(names, text), &ask, &told_mark(mark));
     }
     // The exit's own indices, with the guards' arrows left out of sight: asked of the arrow itself.
-    let lesson = Lesson::of(script_of("x y A4", "do x > 0 -> skip [] A[y] > 0 -> skip od"));
-    let exit = lesson.graph.arrows[4];
-    assert_eq!((exit.action, lesson.may_be_below_zero(exit, &[4, 1, 7]), lesson.may_be_below_zero(exit, &[4, 4, 7])), (3, true, false));
+    let lesson = Lesson::of(script_of("x y A4", "do x > 0 -> skip [] A[y] > 0 -> skip od"), Nondeterministic);
+    let exit = &lesson.graph.arrows[4];
+    assert_eq!((exit.action.kind(), lesson.may_be_below_zero(exit, &[4, 1, 7]), lesson.may_be_below_zero(exit, &[4, 4, 7])), (3, true, false));
     let file = file_of("x A4", "x := A[x]");
     let empty = Chunks(Vec::new());
     out.known("empty sheet", &file, &Ask::Mark(empty), "index clean");

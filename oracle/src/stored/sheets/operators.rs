@@ -229,7 +229,7 @@ fn store_case(out: &mut Out, text: &str, value: Set, index: Set, lands: bool) {
     let told = out.put(&format!("{text}, {value} {index}"), &file, &solving(&initial, 100));
     assert!(told.starts_with("finished"));
     for old in 1..=7 {
-        let (_, sheet) = solved(&Loaded::of(&file), &[old, value, index]);
+        let (_, sheet) = solved(&Loaded::of(&file), Nondeterministic, &[old, value, index]);
         let found: BTreeSet<Set> = sheet.chunks(5).filter(|record| record[1] == 1).map(|record| record[2]).collect();
         let expected = if lands { stored(old, value) } else { BTreeSet::new() };
         assert_eq!(found, expected, "{text}, {old} {value} {index}");

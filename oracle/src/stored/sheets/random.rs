@@ -5,7 +5,7 @@ use super::*;
 /// A solver's sheet as it is, with each record left out, with records twice, in other orders, and with a byte changed.
 fn changes(out: &mut Out, r: &mut Random, title: &str, file: &[u8], initial: &[u8], all: bool) {
     let width = Loaded::of(file).fit().width(List::Sheet);
-    let (answer, sheet) = solved(&Loaded::of(file), initial);
+    let (answer, sheet) = solved(&Loaded::of(file), Nondeterministic, initial);
     if answer.is_err() || sheet.is_empty() || sheet.len() > 1200 {
         return;
     }
@@ -61,7 +61,7 @@ pub fn changed(out: &mut Out) {
 
 fn replaced(out: &mut Out, r: &mut Random, title: &str, file: &[u8], initial: &[u8], places: &[usize]) {
     let width = Loaded::of(file).fit().width(List::Sheet);
-    let (_, sheet) = solved(&Loaded::of(file), initial);
+    let (_, sheet) = solved(&Loaded::of(file), Nondeterministic, initial);
     let mut records: Vec<&[u8]> = sheet.chunks(width).collect();
     assert!(title.starts_with(&records.len().to_string()));
     for k in (1..records.len()).rev() {
@@ -103,7 +103,7 @@ pub fn random(out: &mut Out) {
 /// Exactly enough room, a byte or a record short, a part, or more.
 fn random_solve(out: &mut Out, r: &mut Random, k: usize, file: &Loaded, initial: &[u8]) {
     let width = file.fit().width(List::Sheet);
-    let (answer, sheet) = solved(file, initial);
+    let (answer, sheet) = solved(file, Nondeterministic, initial);
     let all = sheet.len();
     let room = [all, all.saturating_sub(1), all.saturating_sub(width), r.below(all + 1), all + r.below(3 * width)][r.below(5)].min(LIST);
     let told = out.put(&format!("{k}, {room} bytes"), &file.bytes, &solving(initial, room));
@@ -136,7 +136,7 @@ fn random_sheet(out: &mut Out, r: &mut Random, k: usize) {
 fn damaged(out: &mut Out, r: &mut Random, k: usize) {
     let fit = random_lesson(r, k);
     let initial = random_start(r, fit.fit());
-    let (_, sheet) = solved(&fit, &initial);
+    let (_, sheet) = solved(&fit, Nondeterministic, &initial);
     let sheet = &sheet[..sheet.len().min(600)];
     let mut file = fit.bytes.clone();
     if k.is_multiple_of(2) {

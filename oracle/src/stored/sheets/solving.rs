@@ -53,7 +53,7 @@ fn room_by_names(out: &mut Out) {
         let names = WIDE_NAMES[..count].join(" ");
         let file = file_of(&names, "a := a - 1");
         let start = vec![PLUS; count];
-        let (_, sheet) = solved(&Loaded::of(&file), &start);
+        let (_, sheet) = solved(&Loaded::of(&file), Nondeterministic, &start);
         assert_eq!(sheet.len(), 4 * (2 + count));
         for (bytes, fits) in [(sheet.len(), 4), (sheet.len() - 1, 3), (sheet.len() - 2 - count, 3), (sheet.len() + 1, 4), (1 + count, 0), (2 + count, 1)] {
             let told = out.put(&format!("{count} names, {bytes} bytes"), &file, &solving(&start, bytes));
@@ -209,7 +209,7 @@ pub fn limits(out: &mut Out) {
         finishes(out, &format!("85 arms, {special} at {at}"), &file_of("x", &text), &[4], &sheet_of(sheet), CLEAN);
     }
     // A record at every node, so that every entry is asked about: the assignment of the deepest element is that of the innermost loop.
-    let largest = Lesson::of(exact(&full_names(), 512, 256, 256));
+    let largest = Lesson::of(exact(&full_names(), 512, 256, 256), Nondeterministic);
     let file = largest.script.bytes();
     for array in [1, 2, 4, 5, 7] {
         let record = [vec![MINUS; 20], vec![array; 12]].concat();

@@ -24,7 +24,7 @@ pub fn judges(out: &mut Out, title: &str, file: &[u8], initial: &str, sheet: &st
 /// A start list solved with room to spare: the sheet, which is accepted with its mark.
 pub fn finishes(out: &mut Out, title: &str, file: &[u8], initial: &[u8], sheet: &[u8], mark: Mark) {
     let width = Loaded::of(file).fit().width(List::Sheet);
-    assert_eq!(solved(&Loaded::of(file), initial).1, sheet, "{} {title}", out.group);
+    assert_eq!(solved(&Loaded::of(file), Nondeterministic, initial).1, sheet, "{} {title}", out.group);
     let expected = format!("finished with {}{}; accepted {}", sheet.len() / width, shown(sheet, width), told_mark(mark));
     out.known(title, file, &solving(initial, sheet.len() + 50), &expected);
 }

@@ -17,12 +17,12 @@ struct Trials {
     longest: usize,
 }
 
-/// "A sheet has a memory's record at a node": asked before the first call and after each, of the solver's sheet. And where the mark is clean, no call and no other arrow out of
-/// the run's node meets an index below zero.
-fn tried(trials: &mut Trials, following: &Following) -> bool {
+/// "A sheet has a memory's record at a node": asked before the first call and after each, of the solver's sheet on a graph. And where the mark is clean, no call and no other
+/// arrow out of the run's node meets an index below zero.
+fn tried(trials: &mut Trials, construction: Construction, following: &Following) -> bool {
     let Following { file, initial, memory, calls } = following;
-    let lesson = file.fit();
-    let (answer, sheet) = solved(file, initial);
+    let lesson = file.fit_on(construction);
+    let (answer, sheet) = solved(file, construction, initial);
     if answer.is_err() {
         trials.unfinished += 1;
         return false;
@@ -35,10 +35,10 @@ fn tried(trials: &mut Trials, following: &Following) -> bool {
     for &arrow in calls {
         // Every arrow out of the node is tried as well, on a copy.
         for (other, _) in lesson.leaving(run.node) {
-            let outcome = step(file, &mut run.clone(), other as u16, &mut memory.clone());
+            let outcome = step(file, construction, &mut run.clone(), other as u16, &mut memory.clone());
             assert!(!(is_clean && matches!(outcome, Outcome::Undefined(INDEX_BELOW_ZERO))));
         }
-        if let Outcome::Undefined(INDEX_BELOW_ZERO) = step(file, &mut run, arrow, &mut memory) {
+        if let Outcome::Undefined(INDEX_BELOW_ZERO) = step(file, construction, &mut run, arrow, &mut memory) {
             assert!(!is_clean);
             trials.below_zero += 1;
         }
@@ -94,10 +94,10 @@ pub fn third_term(out: &mut Out) {
     let mut r = Random(20_260_301_003);
     let (mut trials, mut written, mut k) = (Trials::default(), 0, 0);
     while written < 260 {
-        let following = random_following(&mut r, k);
+        let following = random_following(&mut r, Nondeterministic, k);
         k += 1;
         let is_short = following.file.bytes.len() <= 1500;
-        if is_short && tried(&mut trials, &following) {
+        if is_short && tried(&mut trials, Nondeterministic, &following) {
             let Following { file, initial, memory, calls } = following;
             out.put(&k.to_string(), &file.bytes, &Ask::Follow(Chunks::of(&initial), memory, calls));
             written += 1;
@@ -107,7 +107,7 @@ pub fn third_term(out: &mut Out) {
     // Many more that are not written.
     let mut trials = Trials::default();
     for k in 0..6000 {
-        tried(&mut trials, &random_following(&mut r, k));
+        tried(&mut trials, Nondeterministic, &random_following(&mut r, Nondeterministic, k));
     }
     println!("third term, not written: {}", trials.said());
 }
