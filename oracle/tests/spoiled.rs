@@ -60,7 +60,7 @@ const SOME: [&str; 2] = ["5", "300"];
 fn the_engine_as_it_is() {
     let (text, status) = spoilt("fine", "sheet", "exec PROGRAM", &SOME);
     assert_eq!(status, 0, "{text}");
-    assert!(text.ends_with("300 files, 4,800 operations, 0 differences\n"), "{text}");
+    assert!(text.ends_with("300 files, 7,200 operations, 0 differences\n"), "{text}");
 }
 
 #[test]
@@ -91,7 +91,7 @@ fn one_checksum() {
     assert!(text.contains("file 123,") && text.ends_with(" 1 differences\n"), "{text}");
     // The file alone, and the one before it.
     let (text, status) = spoilt("sum1", "program_files", "PROGRAM | sed '/^123a: /s/sum ./sum x/'", &["5", "1", "123"]);
-    assert!(status == 1 && text.contains("file 123,") && text.ends_with("1 files, 16 operations, 1 differences\n"), "{text}");
+    assert!(status == 1 && text.contains("file 123,") && text.ends_with("1 files, 24 operations, 1 differences\n"), "{text}");
     let (text, status) = spoilt("sum0", "program_files", "PROGRAM | sed '/^123a: /s/sum ./sum x/'", &["5", "1", "122"]);
     assert_eq!(status, 0, "{text}");
 }

@@ -1,6 +1,7 @@
 //! Makers of scripts, files, memories, step calls, records and classes: by hand, from text, and from a seed.
 
 mod arrays;
+mod choices;
 mod classes;
 mod damage;
 mod known;
@@ -12,6 +13,7 @@ mod text;
 mod writing;
 
 pub use arrays::*;
+pub use choices::*;
 pub use classes::*;
 pub use damage::*;
 pub use known::*;

@@ -1,6 +1,6 @@
 //! What was covered, counted, and told as Markdown.
 
-use super::cases::{Asked, Operation};
+use super::cases::{Asked, Operation, Way};
 use super::kinds::Kind;
 use std::collections::BTreeMap;
 
@@ -12,8 +12,8 @@ pub struct Counts {
     pub files: u64,
     pub differences: u64,
     kinds: BTreeMap<Kind, u64>,
-    asked: BTreeMap<Operation, u64>,
-    answers: BTreeMap<Operation, BTreeMap<String, u64>>,
+    asked: BTreeMap<Way, u64>,
+    answers: BTreeMap<Way, BTreeMap<String, u64>>,
 }
 
 impl Counts {
@@ -22,10 +22,10 @@ impl Counts {
         self.files += 1;
         *self.kinds.entry(cases[0].kind).or_default() += 1;
         for case in cases {
-            *self.asked.entry(case.operation).or_default() += 1;
-            let answers = self.answers.entry(case.operation).or_default();
+            *self.asked.entry(case.way).or_default() += 1;
+            let answers = self.answers.entry(case.way).or_default();
             // What the solver says; the verdict on what it wrote comes second and is not counted.
-            let told = if case.operation == Operation::Solve { &case.answers[..1] } else { &case.answers[..] };
+            let told = if case.way.operation == Operation::Solve { &case.answers[..1] } else { &case.answers[..] };
             for answer in told {
                 match answers.get_mut(answer) {
                     Some(count) => *count += 1,
@@ -40,12 +40,12 @@ impl Counts {
         self.differences += other.differences;
         add_all(&mut self.kinds, other.kinds);
         add_all(&mut self.asked, other.asked);
-        for (operation, answers) in other.answers {
-            add_all(self.answers.entry(operation).or_default(), answers);
+        for (way, answers) in other.answers {
+            add_all(self.answers.entry(way).or_default(), answers);
         }
     }
 
-    /// Tables in Markdown: files by kind, answers by operation, refusals by operation and number.
+    /// Tables in Markdown: files by kind, answers by operation and by the graph that is named, refusals by these and by number.
     pub fn table(&self) -> String {
         let mut text = String::from("| files | kind |\n|---:|---|\n");
         for kind in Kind::all() {
@@ -53,30 +53,30 @@ impl Counts {
         }
         text += &format!("| {} | in all |\n\n", grouped(self.files));
         text += "| operation | asked | answers, refusals apart |\n|---|---:|---|\n";
-        for operation in Operation::ALL {
-            text += &format!("| {} | {} | {} |\n", operation.name(), grouped(self.asked_of(operation)), self.answers_of(operation));
+        for way in Way::all() {
+            text += &format!("| {} | {} | {} |\n", way.name(), grouped(self.asked_of(way)), self.answers_of(way));
         }
         text += &format!("| in all | {} | |\n\n", grouped(self.asked.values().sum()));
         text += &format!("| refusals |{}\n|---|{}\n", REFUSALS.map(|n| format!(" {n} |")).concat(), "---:|".repeat(REFUSALS.len()));
-        for operation in Operation::ALL {
-            let refused = REFUSALS.iter().map(|&n| self.refusals(operation, n)).map(|n| if n == 0 { " |".to_string() } else { format!(" {} |", grouped(n)) });
-            text += &format!("| {} |{}\n", operation.name(), refused.collect::<String>());
+        for way in Way::all() {
+            let refused = REFUSALS.iter().map(|&n| self.refusals(way, n)).map(|n| if n == 0 { " |".to_string() } else { format!(" {} |", grouped(n)) });
+            text += &format!("| {} |{}\n", way.name(), refused.collect::<String>());
         }
         text + &format!("\n{} files, {} operations, {} differences\n", grouped(self.files), grouped(self.asked.values().sum()), self.differences)
     }
 
-    fn asked_of(&self, operation: Operation) -> u64 {
-        self.asked.get(&operation).copied().unwrap_or(0)
+    fn asked_of(&self, way: Way) -> u64 {
+        self.asked.get(&way).copied().unwrap_or(0)
     }
 
-    fn answers_of(&self, operation: Operation) -> String {
-        let Some(answers) = self.answers.get(&operation) else { return String::new() };
+    fn answers_of(&self, way: Way) -> String {
+        let Some(answers) = self.answers.get(&way) else { return String::new() };
         let listed = answers.iter().filter(|(answer, _)| refusal(answer).is_none());
         listed.map(|(answer, count)| format!("{answer}: {}", grouped(*count))).collect::<Vec<_>>().join("; ")
     }
 
-    fn refusals(&self, operation: Operation, number: u32) -> u64 {
-        let Some(answers) = self.answers.get(&operation) else { return 0 };
+    fn refusals(&self, way: Way, number: u32) -> u64 {
+        let Some(answers) = self.answers.get(&way) else { return 0 };
         answers.iter().filter(|(answer, _)| refusal(answer) == Some(number)).map(|(_, count)| count).sum()
     }
 }

@@ -9,6 +9,7 @@ pub enum Kind {
     SmallNumbers,
     Lesson,
     ArrayLesson,
+    Choices,
     LongSheet,
     Limits,
     EntryDamage,
@@ -24,21 +25,22 @@ pub enum Kind {
 }
 
 /// How many of a thousand files are of each kind. Those at the limits and those of long sheets are few: they take long.
-const SHARES: [(Kind, usize); 16] = [
-    (Kind::Script, 160),
-    (Kind::SmallNumbers, 160),
-    (Kind::Lesson, 155),
-    (Kind::ArrayLesson, 120),
+const SHARES: [(Kind, usize); 17] = [
+    (Kind::Script, 130),
+    (Kind::SmallNumbers, 130),
+    (Kind::Lesson, 120),
+    (Kind::ArrayLesson, 115),
+    (Kind::Choices, 150),
     (Kind::LongSheet, 5),
     (Kind::Limits, 5),
-    (Kind::EntryDamage, 100),
-    (Kind::ByteDamage, 85),
+    (Kind::EntryDamage, 85),
+    (Kind::ByteDamage, 70),
     (Kind::OtherReference, 40),
     (Kind::GuardedLast, 20),
     (Kind::LooseJump, 30),
-    (Kind::Truncated, 30),
-    (Kind::Extended, 20),
-    (Kind::WrongHead, 40),
+    (Kind::Truncated, 25),
+    (Kind::Extended, 15),
+    (Kind::WrongHead, 30),
     (Kind::WrongSize, 15),
     (Kind::Noise, 15),
 ];
@@ -54,6 +56,7 @@ impl Kind {
             Kind::SmallNumbers => "fit script of mostly small numbers",
             Kind::Lesson => "lesson of counted loops and ifs",
             Kind::ArrayLesson => "array lesson: sorting, searching, summing",
+            Kind::Choices => "lesson of choices whose guards overlap or are undefined",
             Kind::LongSheet => "assignments of any sign: long sheets",
             Kind::Limits => "at the limits, and one past them",
             Kind::EntryDamage => "entries or names damaged",
@@ -93,9 +96,9 @@ pub struct Made {
 pub fn random_file(r: &mut Random) -> Made {
     let kind = Kind::random(r);
     let base = match kind {
-        Kind::Script | Kind::SmallNumbers | Kind::Lesson | Kind::ArrayLesson | Kind::LongSheet => kind,
+        Kind::Script | Kind::SmallNumbers | Kind::Lesson | Kind::ArrayLesson | Kind::Choices | Kind::LongSheet => kind,
         Kind::Limits => return limits(r),
-        _ => [Kind::Script, Kind::SmallNumbers, Kind::Lesson, Kind::ArrayLesson][r.below(4)],
+        _ => [Kind::Script, Kind::SmallNumbers, Kind::Lesson, Kind::ArrayLesson, Kind::Choices][r.below(5)],
     };
     let script = fit_script(r, base);
     let source = script.loaded();
@@ -115,6 +118,7 @@ fn fit_script(r: &mut Random, kind: Kind) -> Script {
                 break script;
             }
         },
+        Kind::Choices => random_choice_script(r),
         Kind::LongSheet => many_signs(r),
         _ => random_array_script(r),
     }

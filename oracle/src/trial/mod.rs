@@ -126,7 +126,7 @@ impl Worker<'_> {
         }
         let mut differing = Vec::new();
         for program in CONTAINED {
-            let (of_program, others) = all.into_iter().partition(|case| case.operation.program() == program);
+            let (of_program, others) = all.into_iter().partition(|case| case.way.operation.program() == program);
             all = others;
             differing.extend(self.contained(program, of_program)?);
         }
@@ -152,7 +152,7 @@ impl Worker<'_> {
 
     /// The sheet program on one input.
     fn listed(&self, case: Asked) -> io::Result<Option<Differing>> {
-        debug_assert!(case.operation == Operation::Listing);
+        debug_assert!(case.way.operation == Operation::Listing);
         let printed = self.engine.list(&case.bytes, &self.scratch)?;
         if printed.text == case.expected && printed.status.success() {
             return Ok(None);
@@ -178,8 +178,8 @@ fn ending(printed: &Printed) -> String {
 }
 
 fn tell(plan: &Plan, case: &Asked, got: &str, ended: &str) {
-    let Asked { number, kind, operation, expected, .. } = case;
-    println!("difference: seed {} file {number}, {}: {}{ended}", plan.seed, kind.name(), operation.name());
+    let Asked { number, kind, way, expected, .. } = case;
+    println!("difference: seed {} file {number}, {}: {}{ended}", plan.seed, kind.name(), way.name());
     let (expected, got): (Vec<&str>, Vec<&str>) = (expected.lines().collect(), got.lines().collect());
     // Of many lines, those from the first that differs on.
     let same = expected.iter().zip(&got).take_while(|(e, g)| e == g).count();
@@ -192,10 +192,10 @@ fn tell(plan: &Plan, case: &Asked, got: &str, ended: &str) {
 
 /// The file, what the program was given, what is expected and what was printed, each as a file. A container or an input can be handed to the program again by itself.
 fn save(plan: &Plan, case: &Asked, got: &str) -> io::Result<()> {
-    let folder = plan.differences.join(format!("{}-{}-{:?}", plan.seed, case.number, case.operation));
+    let folder = plan.differences.join(format!("{}-{}-{}", plan.seed, case.number, case.way.folder()));
     fs::create_dir_all(&folder)?;
     fs::write(folder.join("file"), cases::file_bytes(plan.seed, case.number))?;
-    fs::write(folder.join(case.operation.program().container()), &case.bytes)?;
+    fs::write(folder.join(case.way.operation.program().container()), &case.bytes)?;
     fs::write(folder.join("expected"), &case.expected)?;
     fs::write(folder.join("got"), got)
 }
