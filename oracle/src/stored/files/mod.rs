@@ -1,5 +1,6 @@
 //! The cases of `program_files`.
 
+mod by_name;
 mod entries;
 mod graphs;
 mod inputs;
@@ -10,6 +11,7 @@ mod refusals;
 
 use super::Out;
 use crate::answers::files::Mode;
+use crate::answers::{self, Case};
 use crate::language::Operand::*;
 use crate::language::*;
 use crate::making::*;
@@ -32,5 +34,7 @@ pub fn store(folder: &Path) -> io::Result<()> {
     random::neighbours(&mut out);
     random::random(&mut out);
     inputs::parts(&mut out);
+    by_name::deterministic(&mut out);
+    by_name::by_name(&mut out);
     out.write(folder, "files.bin")
 }

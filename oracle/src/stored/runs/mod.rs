@@ -1,7 +1,10 @@
 //! The cases of `semantics_runs`.
 
 mod budgets;
+mod by_name;
+mod guards;
 mod jumps;
+mod overlap;
 mod random;
 mod reasons;
 mod refusals;
@@ -10,9 +13,10 @@ mod worked;
 
 use super::Out;
 use crate::answers::runs::*;
-use crate::answers::spaced;
+use crate::answers::{self, spaced};
 use crate::language::*;
 use crate::making::*;
+use by_name::known;
 use std::io;
 use std::path::Path;
 use steps::*;
@@ -38,5 +42,8 @@ pub fn store(folder: &Path) -> io::Result<()> {
     budgets::budgets(&mut out);
     random::limits(&mut out);
     random::random(&mut out);
+    overlap::overlaps(&mut out);
+    guards::guards(&mut out);
+    by_name::by_name(&mut out);
     out.write(folder, "runs.bin")
 }

@@ -1,8 +1,11 @@
 //! The cases of `analysis_sheets`.
 
+mod by_name;
+mod guards;
 mod jumps;
 mod marks;
 mod operators;
+mod overlap;
 mod random;
 mod refusals;
 mod solving;
@@ -12,7 +15,7 @@ mod worked;
 
 use super::Out;
 use crate::answers::sheets::*;
-use crate::answers::spaced;
+use crate::answers::{self, spaced};
 use crate::language::*;
 use crate::making::*;
 use std::io;
@@ -41,5 +44,9 @@ pub fn store(folder: &Path) -> io::Result<()> {
     random::changed(&mut out);
     random::random(&mut out);
     third_term::third_term(&mut out);
+    overlap::overlaps(&mut out);
+    guards::guards(&mut out);
+    by_name::by_name(&mut out);
+    third_term::by_name(&mut out);
     out.write(folder, "sheets.bin")
 }

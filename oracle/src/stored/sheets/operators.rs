@@ -115,7 +115,7 @@ pub fn comparisons(out: &mut Out) {
 }
 
 /// Conditions over x, which is plus, and A of 4 that have each of the truth answers.
-const CONDITIONS: [(&str, &str); 4] = [("true", "T"), ("!true", "F"), ("x > x", "TF"), ("A[-1] = 0", "")];
+pub const CONDITIONS: [(&str, &str); 4] = [("true", "T"), ("!true", "F"), ("x > x", "TF"), ("A[-1] = 0", "")];
 
 /// ∧, && and ¬ over every pair of truth answers, worked out by hand.
 pub fn truths(out: &mut Out) {

@@ -29,6 +29,19 @@ pub fn finishes(out: &mut Out, title: &str, file: &[u8], initial: &[u8], sheet: 
     out.known(title, file, &solving(initial, sheet.len() + 50), &expected);
 }
 
+/// The same on the graph of a construction by name, with which the title ends.
+pub fn finishes_on(out: &mut Out, construction: Construction, title: &str, file: &[u8], initial: &[u8], sheet: &[u8], mark: Mark) {
+    let width = Loaded::of(file).fit().width(List::Sheet);
+    assert_eq!(solved(&Loaded::of(file), construction, initial).1, sheet, "{} {title}", out.group);
+    let expected = format!("finished with {}{}; accepted {}", sheet.len() / width, shown(sheet, width), told_mark(mark));
+    known_on(out, construction, title, file, &solving(initial, sheet.len() + 50), &expected);
+}
+
+/// A case on the graph of a construction by name, with which the title ends.
+pub fn known_on(out: &mut Out, construction: Construction, title: &str, file: &[u8], ask: &Ask, expected: &str) {
+    out.known(&format!("{title}, {construction:?}"), file, &answers::by_name(construction, ask), expected);
+}
+
 /// The same with all in text.
 pub fn solves(out: &mut Out, names: &str, text: &str, initial: &str, sheet: &str, mark: Mark) {
     finishes(out, &format!("{text} from {initial}"), &file_of(names, text), &starts(initial), &sheet_of(sheet), mark);

@@ -112,6 +112,36 @@ pub fn third_term(out: &mut Out) {
     println!("third term, not written: {}", trials.said());
 }
 
+/// The same on graphs by name, mostly the deterministic one, of lessons whose guards overlap or are undefined.
+pub fn by_name(out: &mut Out) {
+    out.group("third term by name");
+    let mut r = Random(20_260_601_004);
+    let graph = |k: usize| if k.is_multiple_of(8) { Nondeterministic } else { Deterministic };
+    let random = |r: &mut Random, k: usize| {
+        let file = random_choice_script(r).loaded();
+        following(r, graph(k), file)
+    };
+    let (mut trials, mut written, mut k) = (Trials::default(), 0, 0);
+    while written < 120 {
+        k += 1;
+        let following = random(&mut r, k);
+        let is_short = following.file.bytes.len() <= 1000;
+        if is_short && tried(&mut trials, graph(k), &following) {
+            let Following { file, initial, memory, calls } = following;
+            let ask = Ask::Follow(Chunks::of(&initial), memory, calls);
+            out.put(&format!("{k}, {:?}", graph(k)), &file.bytes, &answers::by_name(graph(k), &ask));
+            written += 1;
+        }
+    }
+    println!("third term by name, written: {}", trials.said());
+    let mut trials = Trials::default();
+    for k in 0..3000 {
+        let following = random(&mut r, k);
+        tried(&mut trials, graph(k), &following);
+    }
+    println!("third term by name, not written: {}", trials.said());
+}
+
 /// All elements are below zero: the book's Example 2.25 meets its jump, arrow 9, in the first round.
 fn through_jumps(out: &mut Out) {
     let memory = [vec![0; 3], vec![-1; 10]].concat();
