@@ -1,4 +1,4 @@
-//! An oracle for the engine: document 01, and orders 7 and 13 of document 02, as a program of its own, makers of test cases, and the answers to them. It shares no definition and no code with the engine.
+//! An oracle for the engine: document 01, and orders 7, 8 and 13 of document 02, as a program of its own, makers of test cases, and the answers to them. It shares no definition and no code with the engine.
 
 pub mod answers;
 pub mod figures;

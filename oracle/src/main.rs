@@ -1,4 +1,4 @@
-//! An oracle for the engine: expected answers, computed by a program that is written from document 01 and orders 7 and 13 of document 02 alone.
+//! An oracle for the engine: expected answers, computed by a program that is written from document 01 and orders 7, 8 and 13 of document 02 alone.
 //!
 //!     oracle store                       writes every stored file that `rt ci` compares
 //!     oracle run SEED COUNT [FIRST]      runs COUNT random files through every operation of the compiled engine
