@@ -79,6 +79,29 @@ fn every_call_is_the_same_in_the_sources_the_header_and_the_crate() {
     assert_eq!(functions(ours, "fn ", |kind| vec![kind.to_string()]), sources);
 }
 
+/// The calls that take a graph, each as its third parameter in the header and the crate, after the program's pointer and length; and those of the sources, as the second.
+#[test]
+fn five_calls_take_a_graph() {
+    let taking = |text: &str, start: &str, before: &str| -> Vec<String> {
+        let calls = text.split(start).skip(1).map(|rest| rest.split_once('(').unwrap());
+        let taking = calls.filter(|(_, rest)| rest.split_once(')').unwrap().0.contains("construction"));
+        let mut names: Vec<String> = taking
+            .map(|(name, rest)| {
+                let parameters = rest.split_whitespace().collect::<Vec<_>>().join(" ");
+                assert!(parameters.starts_with(before), "{name}: {parameters}");
+                name.to_string()
+            })
+            .collect();
+        names.sort();
+        names
+    };
+    let five = ["draw", "judge", "run", "solve", "step"].map(|name| format!("pizwoter_{name}"));
+    let code = HEADER.split("\n#define PIZWOTER_H\n").nth(1).unwrap();
+    assert_eq!(taking(code, "\nint32_t ", "const uint8_t *program, size_t program_length, uint32_t construction, "), five);
+    assert_eq!(taking(DESK.split("\n}").next().unwrap(), "fn ", "program: *const u8, program_length: usize, construction: u32, "), five);
+    assert_eq!(taking(&SOURCES.concat(), "pub extern \"C\" fn ", "program: &[u8], construction: u32, "), five);
+}
+
 #[test]
 fn every_row_has_its_length() {
     let defined = |name: &str| HEADER.split(&format!("#define PIZWOTER_{name} ")).nth(1).unwrap().split_whitespace().next().unwrap();
