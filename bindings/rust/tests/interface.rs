@@ -1,11 +1,12 @@
 //! The interface is written down three times: the engine's sources, the C header and the `extern` block of this crate. Each call is the same in all, parameter by parameter; and each row is
-//! as long in the header as in the engine's definitions.
+//! as long in the header as in the engine's definitions, and graphs and action kinds have the same numbers.
 
 use std::collections::BTreeMap;
 
 const HEADER: &str = include_str!("../../../include/pizwoter.h");
 const DESK: &str = include_str!("../src/desk.rs");
 const ROWS: &str = include_str!("../../../crates/desk/specs/Rows.antt");
+const GRAPH: &str = include_str!("../../../crates/program/specs/Graph.antt");
 const SOURCES: [&str; 6] = [
     include_str!("../../../crates/desk/src/lib.rt"),
     include_str!("../../../crates/desk/src/files.rt"),
@@ -102,9 +103,22 @@ fn five_calls_take_a_graph() {
     assert_eq!(taking(&SOURCES.concat(), "pub extern \"C\" fn ", "program: &[u8], construction: u32, "), five);
 }
 
+/// A number of the header.
+fn defined(name: &str) -> &'static str {
+    HEADER.split(&format!("#define PIZWOTER_{name} ")).nth(1).unwrap().split_whitespace().next().unwrap()
+}
+
+#[test]
+fn graphs_and_actions_have_their_numbers() {
+    let (old, new) = (defined("NONDETERMINISTIC_GRAPH"), defined("DETERMINISTIC_GRAPH"));
+    assert!(GRAPH.contains(&format!("\nnamed n = cond (eqb n {old}) Nondeterministic (cond (eqb n {new}) Deterministic unnamed)\n")));
+    for (action, header) in [("perform c", "COMMAND"), ("test b", "BOOLEAN"), ("leave c", "EXIT"), ("select k earlier b", "GUARD")] {
+        assert!(GRAPH.contains(&format!("\nactionKind ({action}) = {}\n", defined(&format!("ACTION_{header}")))), "{action}");
+    }
+}
+
 #[test]
 fn every_row_has_its_length() {
-    let defined = |name: &str| HEADER.split(&format!("#define PIZWOTER_{name} ")).nth(1).unwrap().split_whitespace().next().unwrap();
     let rows = [
         ("validationRoom", "VALIDATE_ROW"),
         ("partsRoom", "PARTS_ROW"),
