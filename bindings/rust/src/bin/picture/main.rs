@@ -82,7 +82,7 @@ fn after(notation: &Notation, earlier: &[u16]) -> String {
     let shown: Vec<String> = earlier.iter().take(EARLIER).map(|&entry| notation.falsehood(entry)).collect();
     match earlier.len() {
         0 => String::new(),
-        ..=EARLIER => format!("\\nafter {}", shown.join(", ")),
+        1..=EARLIER => format!("\\nafter {}", shown.join(", ")),
         many => format!("\\nafter {} and {} more", shown.join(", "), many - EARLIER),
     }
 }
