@@ -1,10 +1,10 @@
 /* A desk in small: loads a lesson, prints its graph, its sheet and the verdict, and steps it from the keyboard or from
  * a script.
  *
- *     lesson INPUT [CELL ...]
+ *     lesson [-d] INPUT [CELL ...]
  *
  * INPUT is what the sheet program reads: a program and its start list. The cells are the memory, 0 where they are not
- * given. On standard input, a word at a time: the number of an arrow takes a step along it, `r N` runs from node 0 with
+ * given. With -d all is on the deterministic graph. On standard input, a word at a time: the number of an arrow takes a step along it, `r N` runs from node 0 with
  * a budget of N, `q` leaves. The status is 1 where the engine refuses the lesson, and 2 where INPUT cannot be read or a
  * cell is no number.
  *
@@ -21,6 +21,7 @@ struct lesson {
     uint8_t input[PIZWOTER_MOST_INPUT_BYTES + 1]; /* one byte more, so that a longer file is seen to be longer */
     const uint8_t *program;
     size_t program_length;
+    uint32_t construction;
     const uint8_t *start;
     size_t start_length;
     uint8_t arrows[PIZWOTER_MOST_ARROWS * PIZWOTER_ARROW_BYTES];
@@ -128,14 +129,15 @@ static void print_arrow(const struct lesson *l, unsigned k) {
     const uint8_t *arrow = l->arrows + PIZWOTER_ARROW_BYTES * k;
     const char *kind = arrow[4] == PIZWOTER_ACTION_COMMAND   ? "command"
                        : arrow[4] == PIZWOTER_ACTION_BOOLEAN ? "condition"
-                                                             : "exit of";
+                       : arrow[4] == PIZWOTER_ACTION_EXIT    ? "exit of"
+                                                             : "guard of";
     printf("  arrow %u: %u to %u, %s %u\n", k, word(arrow), word(arrow + 2), kind, word(arrow + 5));
 }
 
 static void print_graph(struct lesson *l) {
     int64_t reply[PIZWOTER_REPLY];
-    int32_t status =
-        pizwoter_draw(l->program, l->program_length, l->arrows, sizeof l->arrows, reply, PIZWOTER_REPLY);
+    int32_t status = pizwoter_draw(l->program, l->program_length, l->construction, l->arrows, sizeof l->arrows,
+                                   reply, PIZWOTER_REPLY);
     check("the graph", status, reply);
     l->nodes = at(reply, PIZWOTER_DRAW_NODES);
     l->arrow_count = at(reply, PIZWOTER_DRAW_ARROWS);
@@ -183,14 +185,14 @@ static void print_verdict(const struct lesson *l, const int64_t *reply) {
 
 static void solve(struct lesson *l) {
     int64_t reply[PIZWOTER_REPLY];
-    int32_t status = pizwoter_solve(l->program, l->program_length, l->start, l->start_length, l->sheet,
-                                    sizeof l->sheet, reply, PIZWOTER_REPLY);
+    int32_t status = pizwoter_solve(l->program, l->program_length, l->construction, l->start, l->start_length,
+                                    l->sheet, sizeof l->sheet, reply, PIZWOTER_REPLY);
     check("the solver", status, reply);
     l->sheet_length = (size_t)reply[PIZWOTER_SOLVE_RECORDS] * l->width;
     printf("sheet: %u records, by node\n", at(reply, PIZWOTER_SOLVE_RECORDS));
     print_sheet(l);
-    status = pizwoter_judge(l->program, l->program_length, l->start, l->start_length, l->sheet, l->sheet_length,
-                            reply, PIZWOTER_REPLY);
+    status = pizwoter_judge(l->program, l->program_length, l->construction, l->start, l->start_length, l->sheet,
+                            l->sheet_length, reply, PIZWOTER_REPLY);
     check("the sheet", status, reply);
     print_verdict(l, reply);
 }
@@ -251,8 +253,8 @@ struct run {
 
 static struct run step(struct lesson *l, struct run run, uint16_t arrow) {
     int64_t reply[PIZWOTER_REPLY];
-    int32_t status = pizwoter_step(l->program, l->program_length, run.node, run.count, arrow, l->memory, l->cells,
-                                   reply, PIZWOTER_REPLY);
+    int32_t status = pizwoter_step(l->program, l->program_length, l->construction, run.node, run.count, arrow,
+                                   l->memory, l->cells, reply, PIZWOTER_REPLY);
     if (status != PIZWOTER_ANSWERED)
         printf("\narrow %u: refused %d at %u\n", arrow, (int)status, at(reply, PIZWOTER_PLACE));
     else if (reply[PIZWOTER_ANSWER] == PIZWOTER_TAKEN)
@@ -266,8 +268,8 @@ static struct run step(struct lesson *l, struct run run, uint16_t arrow) {
 
 static struct run run_from_start(struct lesson *l, uint16_t budget) {
     int64_t reply[PIZWOTER_REPLY];
-    int32_t status =
-        pizwoter_run(l->program, l->program_length, budget, l->memory, l->cells, reply, PIZWOTER_REPLY);
+    int32_t status = pizwoter_run(l->program, l->program_length, l->construction, budget, l->memory, l->cells,
+                                  reply, PIZWOTER_REPLY);
     check("the run", status, reply);
     switch (reply[PIZWOTER_ANSWER]) {
     case PIZWOTER_ARRIVED: printf("\nrun: arrived\n"); break;
@@ -299,12 +301,15 @@ static void follow(struct lesson *l) {
 
 int main(int argc, char **argv) {
     static struct lesson l;
-    if (argc < 2) {
-        fprintf(stderr, "usage: lesson INPUT [CELL ...]\n");
+    int is_deterministic = argc > 1 && strcmp(argv[1], "-d") == 0;
+    int first = is_deterministic ? 2 : 1;
+    if (argc <= first) {
+        fprintf(stderr, "usage: lesson [-d] INPUT [CELL ...]\n");
         return 2;
     }
-    load(&l, argv[1]);
-    read_cells(&l, argc - 2, argv + 2);
+    l.construction = is_deterministic ? PIZWOTER_DETERMINISTIC_GRAPH : PIZWOTER_NONDETERMINISTIC_GRAPH;
+    load(&l, argv[first]);
+    read_cells(&l, argc - first - 1, argv + first + 1);
     print_graph(&l);
     solve(&l);
     follow(&l);

@@ -21,7 +21,8 @@
  *
  *     void tell(const uint8_t *program, size_t length, int32_t *memory, size_t cells) {
  *         int64_t reply[PIZWOTER_REPLY];
- *         int32_t status = pizwoter_run(program, length, 1000, memory, cells, reply, PIZWOTER_REPLY);
+ *         int32_t status = pizwoter_run(program, length, PIZWOTER_NONDETERMINISTIC_GRAPH, 1000,
+ *                                       memory, cells, reply, PIZWOTER_REPLY);
  *         if (status != PIZWOTER_ANSWERED)
  *             printf("question %d: no, place %d\n", (int)status, (int)reply[PIZWOTER_PLACE]);
  *         else if (reply[PIZWOTER_ANSWER] == PIZWOTER_ARRIVED)
@@ -34,6 +35,19 @@
  * and two bytes for each name, 0 for a variable or the size of an array, 1 to 64. So a program that is fit
  * has length / 2 names, and a memory for it has one cell for a variable and one for each element of an
  * array, in name order. The rest of the file, its expressions and commands, is the editor's business.
+ *
+ * THE GRAPHS. A program has two graphs. Their nodes and arrows are the same; only what a guard's arrow does
+ * is not. In the nondeterministic graph it passes where its guard is true, so that several arrows out of a
+ * node may be defined at once. In the deterministic graph it passes where its guard is true and all earlier
+ * guards of the same if or do are false. The earlier ones are worked out in text order and its own last, each
+ * of them whatever the others are; the first that is undefined gives the arrow's reason, and where none is it
+ * is 31. There at most one arrow out of a node is defined, in any memory. Commands and exits do the same in
+ * both graphs.
+ *
+ * Five calls take the number of a graph, `construction`: pizwoter_draw, pizwoter_step, pizwoter_run,
+ * pizwoter_judge and pizwoter_solve. 1 is the nondeterministic graph, 2 the deterministic one. Any other
+ * number names none: it is not refused, and the call is as with 1. The other calls take no graph, since what
+ * they answer is the same for both; so is the index mark of a sheet.
  *
  * THE RETURN VALUE is 0 (PIZWOTER_ANSWERED) where the call is answered; the number of the question that is
  * answered no, 1 to 18, 20, 23 or 24, where it is refused; and -1 (PIZWOTER_SHORT_REPLY) where the reply is
@@ -60,15 +74,15 @@
  *
  * NUMBERS OF 16 BITS. Node, count, arrow and budget are uint16_t. C converts an argument that is wider
  * modulo 65,536 before the call, so that 65,536 arrives as 0 and -1 as 65,535: the caller tests wider
- * numbers first. The same goes for the place and the counts of 32 bits that two calls take.
+ * numbers first. The same goes for the numbers of 32 bits: a construction, a place and the counts of a join.
  *
  * THREADS. Calls may be made from several threads at once, as long as none writes a buffer that another
  * uses. On the largest programs a call takes less than 130 KB of stack (measured, not proved): a thread that
  * makes calls should have 256 KB.
  *
- * VERSIONS. A later version may add a call, a question, a place at a row's end, or a parameter; it moves no
- * place. A program is linked with the library of the header that it was compiled with: pizwoter_version() is
- * PIZWOTER_VERSION.
+ * VERSIONS. A later version may add a call, a question, a place at a row's end, or a parameter, and may have
+ * a call that names no graph take the deterministic one; it moves no place. A program is linked with the
+ * library of the header that it was compiled with: pizwoter_version() is PIZWOTER_VERSION.
  */
 #ifndef PIZWOTER_H
 #define PIZWOTER_H
@@ -80,7 +94,7 @@
 extern "C" {
 #endif
 
-#define PIZWOTER_VERSION 2
+#define PIZWOTER_VERSION 3
 
 /* Return values beside the numbers of the questions. */
 #define PIZWOTER_ANSWERED 0
@@ -144,6 +158,11 @@ extern "C" {
 #define PIZWOTER_ZERO 2
 #define PIZWOTER_PLUS 4
 
+/* The graphs of a program, by their numbers. */
+#define PIZWOTER_UNNAMED_GRAPH 0          /* as any number but 1 and 2: none is named */
+#define PIZWOTER_NONDETERMINISTIC_GRAPH 1
+#define PIZWOTER_DETERMINISTIC_GRAPH 2
+
 /* The number of the library's version. */
 uint32_t pizwoter_version(void);
 
@@ -168,9 +187,10 @@ int32_t pizwoter_validate_input(const uint8_t *input, size_t input_length,
 int32_t pizwoter_input_parts(const uint8_t *input, size_t input_length,
                              int64_t *reply, size_t reply_length);
 
-/* The program graph: its arrows, PIZWOTER_ARROW_BYTES each, at the front of `buffer`, whose other bytes
- * stay. Node 0 is the start, node 1 the end. A buffer of PIZWOTER_MOST_ARROWS * PIZWOTER_ARROW_BYTES holds
- * any graph.
+/* A graph of the program: its arrows, PIZWOTER_ARROW_BYTES each, at the front of `buffer`, whose other bytes
+ * stay. Node 0 is the start, node 1 the end. A guard's arrow is of kind 2 in the nondeterministic graph and
+ * of kind 4 in the deterministic one, the first of an if or do too. A buffer of PIZWOTER_MOST_ARROWS *
+ * PIZWOTER_ARROW_BYTES holds any graph.
  * Answer: 0. Refused: 1 to 11, 20, 13. */
 #define PIZWOTER_DRAW_ROW 5
 #define PIZWOTER_DRAW_NODES 3         /* how many nodes there are */
@@ -179,11 +199,16 @@ int32_t pizwoter_input_parts(const uint8_t *input, size_t input_length,
                                          store, break or continue; the last two act as skip */
 #define PIZWOTER_ACTION_BOOLEAN 2     /* the condition of that boolean entry */
 #define PIZWOTER_ACTION_EXIT 3        /* the exit of the do whose operand is that command entry */
-int32_t pizwoter_draw(const uint8_t *program, size_t program_length, uint8_t *buffer, size_t buffer_length,
+#define PIZWOTER_ACTION_GUARD 4       /* the guard of that guarded entry, a command entry of kind 6, after the
+                                         earlier guards of the same if or do: those of the lower arrows of
+                                         kind 4 that leave the same node */
+int32_t pizwoter_draw(const uint8_t *program, size_t program_length, uint32_t construction,
+                      uint8_t *buffer, size_t buffer_length,
                       int64_t *reply, size_t reply_length);
 
 /* One step of a run that is at `node` with `count` arrows taken, along the arrow of that number; a fresh run
- * is at node 0 with 0. A step that is taken changes at most one cell of `memory`, any other none.
+ * is at node 0 with 0. A run belongs to neither graph: a step is on the one that it names. A step that is
+ * taken changes at most one cell of `memory`, any other none.
  * Answer: 0, the step is taken; or the reason for which it is undefined. Refused: 1 to 11, 20, 12, 14, 15. */
 #define PIZWOTER_STEP_ROW 5
 #define PIZWOTER_STEP_NODE 3          /* the run afterwards: as handed in where the step is undefined or */
@@ -195,7 +220,7 @@ int32_t pizwoter_draw(const uint8_t *program, size_t program_length, uint8_t *bu
 #define PIZWOTER_INDEX_BELOW_ZERO 34
 #define PIZWOTER_INDEX_PAST_SIZE 35   /* the index is the array's size or above */
 #define PIZWOTER_OUT_OF_RANGE 36      /* the exact result is not in the range of 32 bits */
-int32_t pizwoter_step(const uint8_t *program, size_t program_length,
+int32_t pizwoter_step(const uint8_t *program, size_t program_length, uint32_t construction,
                       uint16_t node, uint16_t count, uint16_t arrow, int32_t *memory, size_t memory_length,
                       int64_t *reply, size_t reply_length);
 
@@ -208,7 +233,7 @@ int32_t pizwoter_step(const uint8_t *program, size_t program_length,
 #define PIZWOTER_ARRIVED 0            /* at node 1 */
 #define PIZWOTER_BUDGET_USED_UP 1
 #define PIZWOTER_NO_ARROW_DEFINED 2
-int32_t pizwoter_run(const uint8_t *program, size_t program_length,
+int32_t pizwoter_run(const uint8_t *program, size_t program_length, uint32_t construction,
                      uint16_t budget, int32_t *memory, size_t memory_length,
                      int64_t *reply, size_t reply_length);
 
@@ -217,12 +242,12 @@ int32_t pizwoter_run(const uint8_t *program, size_t program_length,
  * first. A memory's record has its variables' signs and exactly the signs of each array's elements.
  * Answer: accepted, or 41 or 42. Refused: 1 to 11, 20, 16, 17.
  *
- * What "accepted" means, and it is proved. Take any memory whose record is in the start list. Whatever steps
- * are called on it from a fresh run, and however many, refused and undefined ones among them: the sheet has
- * a record with the node that is then reached and exactly the memory's signs there. The same holds of where
- * pizwoter_run ends, with any budget. And where the mark is clean: no step that is called is undefined for
- * reason 34, and no arrow out of the node then reached is, taken or not; nor is any arrow out of the node
- * where pizwoter_run ends. */
+ * What "accepted" means, and it is proved. It is about the graph that the sheet was judged on, and steps and
+ * runs on that one. Take any memory whose record is in the start list. Whatever steps are called on it from a
+ * fresh run, and however many, refused and undefined ones among them: the sheet has a record with the node
+ * that is then reached and exactly the memory's signs there. The same holds of where pizwoter_run ends, with
+ * any budget. And where the mark is clean: no step that is called is undefined for reason 34, and no arrow
+ * out of the node then reached is, taken or not; nor is any arrow out of the node where pizwoter_run ends. */
 #define PIZWOTER_JUDGE_ROW 10
 #define PIZWOTER_JUDGE_RECORD 3       /* the record of 41 in the start list, or of 42 in the sheet, from 0 */
 #define PIZWOTER_JUDGE_ARROW 4        /* the arrow of 42 */
@@ -237,12 +262,12 @@ int32_t pizwoter_run(const uint8_t *program, size_t program_length,
                                          then its lowest arrow */
 #define PIZWOTER_CLEAN 1              /* index marks */
 #define PIZWOTER_UNCLEAN 2
-int32_t pizwoter_judge(const uint8_t *program, size_t program_length,
+int32_t pizwoter_judge(const uint8_t *program, size_t program_length, uint32_t construction,
                        const uint8_t *start_list, size_t start_list_length,
                        const uint8_t *sheet, size_t sheet_length,
                        int64_t *reply, size_t reply_length);
 
-/* The index mark of a sheet by itself, accepted or not.
+/* The index mark of a sheet by itself, accepted or not. It is the same for both graphs.
  * Answer: PIZWOTER_CLEAN or PIZWOTER_UNCLEAN. Refused: 1 to 11, 20, 16, 17. */
 #define PIZWOTER_MARK_ROW 5
 #define PIZWOTER_MARK_RECORD 3        /* of an unclean mark, as of pizwoter_judge */
@@ -256,7 +281,7 @@ int32_t pizwoter_index_mark(const uint8_t *program, size_t program_length,
  * Answer: 0. Refused: 1 to 11, 20, 16, 17, and 18 where there was no room for the next record. */
 #define PIZWOTER_SOLVE_ROW 4
 #define PIZWOTER_SOLVE_RECORDS 3      /* how many records the buffer holds: after 18 the leading ones */
-int32_t pizwoter_solve(const uint8_t *program, size_t program_length,
+int32_t pizwoter_solve(const uint8_t *program, size_t program_length, uint32_t construction,
                        const uint8_t *start_list, size_t start_list_length,
                        uint8_t *buffer, size_t buffer_length,
                        int64_t *reply, size_t reply_length);

@@ -1,5 +1,6 @@
 /* How much stack the calls take: each in a thread whose stack is painted beforehand, on programs that nest as deep as a
- * file allows. Prints the most of each program, and of all; the status is 1 where that is more than LIMIT bytes.
+ * file allows, and on both graphs of each. Prints the most of each program, and of all; the status is 1 where that is more
+ * than LIMIT bytes.
  *
  *     stack LIMIT */
 #define _POSIX_C_SOURCE 200809L
@@ -77,15 +78,19 @@ static void store(struct program *p, unsigned value) {
 }
 
 /* Deep conditions, in the first or the last of as many guards as there is room for, each choice the left or the right
- * side of the next. The deep guard has an even number of negations, so many at most, over a comparison of deep elements. */
-static void guards(struct program *p, unsigned loop, unsigned count, int left) {
+ * side of the next. The deep guard has an even number of negations, so many at most, over a comparison of deep elements.
+ * The others are true, or false, so that on the deterministic graph a deep one after them is worked out for its result. */
+static void guards(struct program *p, unsigned loop, unsigned count, int left, int others_hold) {
     unsigned zero = add(p, NUMBERS, 0, 0, 0, 0);
     unsigned deep = add(p, CONDITIONS, 1, elements(p, 510), zero, 0);
-    for (unsigned k = (256 - count) / 2 * 2; k > 0; k--)
+    unsigned room = 255 - (count - 1) * (others_hold ? 1 : 2);
+    for (unsigned k = room / 2 * 2; k > 0; k--)
         deep = add(p, CONDITIONS, 6, deep, 0, 0);
     unsigned last = add(p, COMMANDS, 6, deep, add(p, COMMANDS, 0, 0, 0, 0), 0);
     for (unsigned k = 1; k < count; k++) {
         unsigned condition = add(p, CONDITIONS, 0, 0, 0, 0);
+        if (!others_hold)
+            condition = add(p, CONDITIONS, 6, condition, 0, 0);
         unsigned other = add(p, COMMANDS, 6, condition, add(p, COMMANDS, 0, 0, 0, 0), 0);
         last = left ? add(p, COMMANDS, 7, last, other, 0) : add(p, COMMANDS, 7, other, last, 0);
     }
@@ -129,21 +134,24 @@ static void build(struct program *p, int which) {
     case 0: assignment(p, elements(p, 511)); break;
     case 1: store(p, elements(p, 510)); break;
     case 2: case 3: assignment(p, sums(p, 255, which == 2)); break;
-    case 4: case 5: guards(p, 1, 85, which == 4); break;
-    case 6: case 7: guards(p, 0, 85, which == 6); break;
-    case 8: case 9: guards(p, 1, 1 + 2 * (which == 8), 1); break;
+    case 4: case 5: guards(p, 1, 85, which == 4, 1); break;
+    case 6: case 7: guards(p, 0, 85, which == 6, 1); break;
+    case 8: case 9: guards(p, 1, 1 + 2 * (which == 8), 1, 1); break;
     case 10: case 11: case 12: case 13: conjunctions(p, 4 + (unsigned)which % 2, which < 12); break;
     case 14: about(p, 4, 127, single(p, 0)); break;
     case 15: about(p, 5, 127, single(p, 8)); break;
     case 16: case 17: sequence(p, 127, which == 16, single(p, 0)); break;
-    default: sequence(p, 126, 1, about(p, 5, 1, single(p, 8)));
+    case 18: sequence(p, 126, 1, about(p, 5, 1, single(p, 8))); break;
+    case 19: case 20: guards(p, which == 19, 85, 0, 0); break;
+    default: guards(p, 1, 3, 0, 0);
     }
     finish(p);
 }
 
-#define PROGRAMS 19
+#define PROGRAMS 22
 
 static struct program program;
+static uint32_t construction;
 static uint8_t start[] = {PIZWOTER_ZERO, PIZWOTER_ZERO};
 static uint8_t sheet[PIZWOTER_MOST_RECORDS * 4], arrows[PIZWOTER_MOST_ARROWS * PIZWOTER_ARROW_BYTES];
 static int32_t memory[10];
@@ -164,28 +172,31 @@ static void *validate(void *unused) {
     return unused;
 }
 static void *draw(void *unused) {
-    expect(pizwoter_draw(program.file, program.length, arrows, sizeof arrows, reply, PIZWOTER_REPLY));
+    expect(pizwoter_draw(program.file, program.length, construction, arrows, sizeof arrows, reply, PIZWOTER_REPLY));
     return unused;
 }
 static void *step(void *unused) {
     int64_t count = reply[PIZWOTER_DRAW_ARROWS];
     for (uint16_t k = 0; k < count; k++) {
         uint16_t from = (uint16_t)(arrows[PIZWOTER_ARROW_BYTES * k] << 8 | arrows[PIZWOTER_ARROW_BYTES * k + 1]);
-        expect(pizwoter_step(program.file, program.length, from, 0, k, memory, 10, reply, PIZWOTER_REPLY));
+        expect(pizwoter_step(program.file, program.length, construction, from, 0, k, memory, 10, reply,
+                             PIZWOTER_REPLY));
     }
     return unused;
 }
 static void *run(void *unused) {
-    expect(pizwoter_run(program.file, program.length, 300, memory, 10, reply, PIZWOTER_REPLY));
+    expect(pizwoter_run(program.file, program.length, construction, 300, memory, 10, reply, PIZWOTER_REPLY));
     return unused;
 }
 static void *solve(void *unused) {
-    expect(pizwoter_solve(program.file, program.length, start, 2, sheet, sizeof sheet, reply, PIZWOTER_REPLY));
+    expect(pizwoter_solve(program.file, program.length, construction, start, 2, sheet, sizeof sheet, reply,
+                          PIZWOTER_REPLY));
     sheet_length = 4 * (size_t)reply[PIZWOTER_SOLVE_RECORDS];
     return unused;
 }
 static void *judge(void *unused) {
-    expect(pizwoter_judge(program.file, program.length, start, 2, sheet, sheet_length, reply, PIZWOTER_REPLY));
+    expect(pizwoter_judge(program.file, program.length, construction, start, 2, sheet, sheet_length, reply,
+                          PIZWOTER_REPLY));
     return unused;
 }
 static void *mark(void *unused) {
@@ -226,9 +237,10 @@ int main(int argc, char **argv) {
         return 2;
     }
     base = taken(stack, nothing);
-    for (int which = 0; which < PROGRAMS; which++) {
-        build(&program, which);
-        printf("program %2d:", which);
+    for (int which = 0; which < 2 * PROGRAMS; which++) {
+        build(&program, which / 2);
+        construction = which % 2 == 0 ? PIZWOTER_NONDETERMINISTIC_GRAPH : PIZWOTER_DETERMINISTIC_GRAPH;
+        printf("program %2d, %s:", which / 2, which % 2 == 0 ? "nondeterministic" : "deterministic");
         for (size_t i = 0; i < sizeof calls / sizeof *calls; i++) {
             memset(memory, 0, sizeof memory);
             size_t bytes = taken(stack, calls[i].call) - base;

@@ -45,10 +45,17 @@ pub fn endless() -> Vec<Lesson> {
     ]
 }
 
-/// A lesson whose sheet has 16 records for each start record: 15 assignments in turn, none of which changes a sign.
+/// Those that are run on the deterministic graph: single guards, an if of two, and many.
+pub fn endless_choices() -> Vec<Lesson> {
+    endless().into_iter().filter(|lesson| ["factorial again and again", "sorting", "40 guards, 160 operators"].contains(&lesson.title)).collect()
+}
+
+/// A lesson whose sheet has so many records for each start record: mostly 16, 15 assignments in turn, none of which changes a sign.
 pub struct Walk {
     pub title: &'static str,
     pub file: Vec<u8>,
+    /// Records of the sheet for each start record.
+    pub each: usize,
     /// Names of any sign, names after them that are plus, and arrays after these of any set.
     names: usize,
     plus: usize,
@@ -65,14 +72,14 @@ fn walk(title: &'static str, count: usize, factor: &str) -> Walk {
     let letters: Vec<char> = LETTERS.chars().take(count).collect();
     let steps: Vec<String> = (0..15).map(|k| letters[k % count]).map(|x| format!("{x} := {x} * {factor}")).collect();
     let script = script_of(&names(count), &steps.join("; "));
-    Walk { title, file: script.bytes(), names: count, plus: 0, arrays: 0 }
+    Walk { title, file: script.bytes(), each: 16, names: count, plus: 0, arrays: 0 }
 }
 
 /// The same with an element in one step, whose index is a variable: plus in all records, but it might not be.
 fn indexed_walk() -> Walk {
     let steps: Vec<String> = "abcdef".chars().cycle().take(14).map(|x| format!("{x} := {x} * 1")).collect();
     let file = file_of("a b c d e f g h A4", &format!("h := A[g]; {}", steps.join("; ")));
-    Walk { title: "9 names, an index", file, names: 6, plus: 3, arrays: 0 }
+    Walk { title: "9 names, an index", file, each: 16, names: 6, plus: 3, arrays: 0 }
 }
 
 /// The same with nine elements and eight operators in each step, on sets of up to three signs. A power of 0 is plus, whatever the set.
@@ -80,7 +87,29 @@ fn array_walk() -> Walk {
     let value = "A[0] * B[0] + C[0] * D[0] - A[0] * C[0] + B[0] * D[0] - A[0]";
     let steps: Vec<String> = "abcdefgh".chars().cycle().take(15).map(|x| format!("{x} := {x} * ({value}) ^ 0")).collect();
     let file = file_of("a b c d e f g h A4 B4 C4 D4", &steps.join("; "));
-    Walk { title: "8 names, 4 arrays, 450 entries", file, names: 8, plus: 0, arrays: 4 }
+    Walk { title: "8 names, 4 arrays, 450 entries", file, each: 16, names: 8, plus: 0, arrays: 4 }
+}
+
+/// So many guards of 8 names, none of which any sign makes true.
+fn guards(count: usize) -> String {
+    "abcdefgh".chars().cycle().take(count).map(|x| format!("0 > {x} * {x} -> skip [] ")).collect()
+}
+
+/// Seven ifs in turn of which only the last guard is true, and an assignment: nodes with many guards.
+fn choice_walk() -> Walk {
+    let steps = vec![format!("if {}true -> skip fi", guards(10)); 7].join("; ");
+    Walk { title: "8 names, 7 ifs of 11 guards", file: file_of(&names(8), &format!("{steps}; a := a * 1")), each: 16, names: 8, plus: 0, arrays: 0 }
+}
+
+/// A loop with as many guards as there is room for, which is left at once.
+fn loop_walk() -> Walk {
+    let guards = guards(85);
+    Walk { title: "8 names, 85 guards", file: file_of(&names(8), &format!("do {} od", guards.trim_end_matches(" [] "))), each: 2, names: 8, plus: 0, arrays: 0 }
+}
+
+/// Walks on the deterministic graph: no guard, many nodes with several, one node with many.
+pub fn choices() -> Vec<Walk> {
+    vec![walk("8 names", 8, "1"), choice_walk(), loop_walk()]
 }
 
 /// Of 8 names with short actions, of 9 with an index, of 32 names, of 32 names with actions of 31 entries each, 465 in all, and of 12 names, four of them arrays, with actions of 30.

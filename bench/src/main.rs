@@ -8,11 +8,16 @@ mod timing;
 
 use lessons::{Lesson, Walk};
 use oracle::making::Random;
+use pizwoter::Construction::{self, Deterministic, Nondeterministic};
 use pizwoter::{Ending, Figures, Fraction, Mark, Outcome, Run, Verdict};
 use std::process::ExitCode;
 use timing::{side_by_side, Timed};
 
-const OPERATIONS: [&str; 8] = ["validate", "draw", "step", "split", "run", "judge", "solve", "figures"];
+const OPERATIONS: [&str; 11] =
+    ["validate", "draw", "step", "split", "run", "judge", "solve", "run deterministic", "judge deterministic", "solve deterministic", "figures"];
+
+/// The first version whose calls take a graph. An earlier engine is timed too, by bench/before: it has document 01's graph alone.
+const WITH_GRAPHS: u32 = 3;
 
 fn main() -> ExitCode {
     let words: Vec<String> = std::env::args().skip(1).collect();
@@ -21,7 +26,8 @@ fn main() -> ExitCode {
         eprintln!("bench: no operation's name has '{}'; the operations are {}", words.join(" "), OPERATIONS.join(", "));
         return ExitCode::from(2);
     }
-    table(|name| name.contains(&only));
+    let has_graphs = pizwoter::version() >= WITH_GRAPHS;
+    table(|name| name.contains(&only) && (has_graphs || !name.contains("deterministic")));
     ExitCode::SUCCESS
 }
 
@@ -54,21 +60,42 @@ fn table(wanted: impl Fn(&str) -> bool) {
     for lesson in lessons::endless() {
         for budget in [1_000, 8_000, 65_535] {
             if wanted("run") {
-                row("run", &format!("{}, {} steps", lesson.title, grouped(budget)), run(&lesson, budget as u16));
+                row("run", &format!("{}, {} steps", lesson.title, grouped(budget)), run(&lesson, Nondeterministic, budget as u16));
             }
         }
     }
     for walk in lessons::walks() {
         for records in [16, 256, 4096] {
             if wanted("judge") {
-                row("judge", &format!("{}, {} records", walk.title, grouped(records)), judge(&walk, records));
+                row("judge", &format!("{}, {} records", walk.title, grouped(records)), judge(&walk, Nondeterministic, records));
             }
         }
     }
     for walk in lessons::walks() {
         for records in [16, 256, 4096] {
             if wanted("solve") {
-                row("solve", &format!("{}, {} records", walk.title, grouped(records)), solve(&walk, records));
+                row("solve", &format!("{}, {} records", walk.title, grouped(records)), solve(&walk, Nondeterministic, records));
+            }
+        }
+    }
+    for lesson in lessons::endless_choices() {
+        for budget in [1_000, 65_535] {
+            if wanted("run deterministic") {
+                row("run deterministic", &format!("{}, {} steps", lesson.title, grouped(budget)), run(&lesson, Deterministic, budget as u16));
+            }
+        }
+    }
+    for walk in lessons::choices() {
+        for records in [256, 4096] {
+            if wanted("judge deterministic") {
+                row("judge deterministic", &format!("{}, {} records", walk.title, grouped(records)), judge(&walk, Deterministic, records));
+            }
+        }
+    }
+    for walk in lessons::choices() {
+        for records in [256, 4096] {
+            if wanted("solve deterministic") {
+                row("solve deterministic", &format!("{}, {} records", walk.title, grouped(records)), solve(&walk, Deterministic, records));
             }
         }
     }
@@ -124,23 +151,25 @@ fn validate(lesson: &Lesson) -> Timed {
 fn draw(lesson: &Lesson) -> Timed {
     let file = &lesson.file[..];
     let (mut ours, mut theirs) = ([170; 2000], [170; 2000]);
-    let drawn = pizwoter::draw(file, &mut ours).unwrap();
-    assert_eq!(plain::draw(file, &mut theirs), Ok((drawn.nodes as u16, drawn.arrows as u16)));
+    let on = the_same(Nondeterministic);
+    let drawn = pizwoter::draw_on(file, Nondeterministic, &mut ours).unwrap();
+    assert_eq!(plain::draw(file, on, &mut theirs), Ok((drawn.nodes as u16, drawn.arrows as u16)));
     assert_eq!(ours, theirs);
-    side_by_side(|| pizwoter::draw(file, &mut ours).is_ok(), || plain::draw(file, &mut theirs).is_ok())
+    side_by_side(|| pizwoter::draw_on(file, Nondeterministic, &mut ours).is_ok(), || plain::draw(file, on, &mut theirs).is_ok())
 }
 
 /// The first arrow, from a fresh run.
 fn step(lesson: &Lesson) -> Timed {
     let file = &lesson.file[..];
     let (mut ours, mut theirs) = (memory(file), memory(file));
-    let stepped = Run::FRESH.step(file, 0, &mut ours).unwrap();
-    match plain::step(file, 0, 0, 0, &mut theirs).unwrap() {
+    let on = the_same(Nondeterministic);
+    let stepped = Run::FRESH.step_on(file, Nondeterministic, 0, &mut ours).unwrap();
+    match plain::step(file, on, 0, 0, 0, &mut theirs).unwrap() {
         Ok((node, count)) => assert_eq!((stepped.outcome, stepped.run), (Outcome::Taken, Run { node, count })),
         Err(reason) => assert!(matches!(stepped.outcome, Outcome::Undefined(r) if r.number() == reason)),
     }
     assert_eq!(ours, theirs);
-    side_by_side(|| Run::FRESH.step(file, 0, &mut ours), || plain::step(file, 0, 0, 0, &mut theirs).is_ok())
+    side_by_side(|| Run::FRESH.step_on(file, Nondeterministic, 0, &mut ours), || plain::step(file, on, 0, 0, 0, &mut theirs).is_ok())
 }
 
 /// Places in no order, so that no branch of a splitter can be learnt.
@@ -161,49 +190,57 @@ fn memory(file: &[u8]) -> Vec<i32> {
     (0..cells).map(|k| (k * 7 + 5) % 9).collect()
 }
 
-fn run(lesson: &Lesson, budget: u16) -> Timed {
-    let (file, memory) = (&lesson.file[..], memory(&lesson.file));
+/// The plain program's construction of the same graph.
+fn the_same(construction: Construction) -> plain::Construction {
+    match construction {
+        Nondeterministic => plain::Construction::Nondeterministic,
+        Deterministic => plain::Construction::Deterministic,
+    }
+}
+
+fn run(lesson: &Lesson, construction: Construction, budget: u16) -> Timed {
+    let (file, memory, on) = (&lesson.file[..], memory(&lesson.file), the_same(construction));
     let (mut ours, mut theirs) = (memory.clone(), memory.clone());
-    let ended = pizwoter::run(file, budget, &mut ours).unwrap();
+    let ended = pizwoter::run_on(file, construction, budget, &mut ours).unwrap();
     assert_eq!((ended.ending, ended.run.count), (Ending::Spent, budget), "{}", lesson.title);
-    assert_eq!(plain::run(file, budget, &mut theirs), Ok((1, ended.run.node, ended.run.count)));
+    assert_eq!(plain::run(file, on, budget, &mut theirs), Ok((1, ended.run.node, ended.run.count)));
     assert_eq!(ours, theirs);
     let anew = |kept: &mut Vec<i32>| kept.copy_from_slice(&memory);
     side_by_side(
         || {
             anew(&mut ours);
-            pizwoter::run(file, budget, &mut ours).is_ok()
+            pizwoter::run_on(file, construction, budget, &mut ours).is_ok()
         },
         || {
             anew(&mut theirs);
-            plain::run(file, budget, &mut theirs).is_ok()
+            plain::run(file, on, budget, &mut theirs).is_ok()
         },
     )
 }
 
 /// The solver's sheet of a walk, with as many records as are wanted.
-fn solved(walk: &Walk, records: usize) -> (Vec<u8>, Vec<u8>) {
-    let start = walk.starts(records / 16);
+fn solved(walk: &Walk, construction: Construction, records: usize) -> (Vec<u8>, Vec<u8>) {
+    let start = walk.starts(records / walk.each);
     let mut sheet = vec![0; walk.width() * records];
-    assert_eq!(pizwoter::solve(&walk.file, &start, &mut sheet), Ok(records), "{}", walk.title);
+    assert_eq!(pizwoter::solve_on(&walk.file, construction, &start, &mut sheet), Ok(records), "{}", walk.title);
     (start, sheet)
 }
 
-fn judge(walk: &Walk, records: usize) -> Timed {
-    let (start, sheet) = solved(walk, records);
-    let file = &walk.file[..];
-    assert_eq!(pizwoter::judge(file, &start, &sheet), Ok(Verdict::Accepted(Mark::Clean)));
-    assert_eq!(plain::judge(file, &start, &sheet), [0]);
-    side_by_side(|| pizwoter::judge(file, &start, &sheet).is_ok(), || plain::judge(file, &start, &sheet)[0])
+fn judge(walk: &Walk, construction: Construction, records: usize) -> Timed {
+    let (start, sheet) = solved(walk, construction, records);
+    let (file, on) = (&walk.file[..], the_same(construction));
+    assert_eq!(pizwoter::judge_on(file, construction, &start, &sheet), Ok(Verdict::Accepted(Mark::Clean)));
+    assert_eq!(plain::judge(file, on, &start, &sheet), [0]);
+    side_by_side(|| pizwoter::judge_on(file, construction, &start, &sheet).is_ok(), || plain::judge(file, on, &start, &sheet)[0])
 }
 
-fn solve(walk: &Walk, records: usize) -> Timed {
-    let (start, mut ours) = solved(walk, records);
-    let file = &walk.file[..];
+fn solve(walk: &Walk, construction: Construction, records: usize) -> Timed {
+    let (start, mut ours) = solved(walk, construction, records);
+    let (file, on) = (&walk.file[..], the_same(construction));
     let mut theirs = vec![0; ours.len()];
-    assert_eq!(plain::solve(file, &start, &mut theirs), [0, records as u32]);
+    assert_eq!(plain::solve(file, on, &start, &mut theirs), [0, records as u32]);
     assert_eq!(ours, theirs);
-    side_by_side(|| pizwoter::solve(file, &start, &mut ours).is_ok(), || plain::solve(file, &start, &mut theirs)[0])
+    side_by_side(|| pizwoter::solve_on(file, construction, &start, &mut ours).is_ok(), || plain::solve(file, on, &start, &mut theirs)[0])
 }
 
 /// Marks all over the range, in no order.

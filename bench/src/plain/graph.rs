@@ -1,10 +1,17 @@
-//! The program graph.
+//! The program graph, in either construction.
 
 use super::file::{Command, Program, Refusal};
+
+#[derive(Clone, Copy, PartialEq, Debug)]
+pub enum Construction {
+    Nondeterministic,
+    Deterministic,
+}
 
 #[derive(Clone, Copy)]
 pub enum Action {
     Command(u16),
+    /// A guard. In the deterministic graph the earlier ones are those of the lower arrows out of the same node: no two ifs or dos begin at one node.
     Condition(u16),
     Exit(u16),
 }
@@ -17,8 +24,11 @@ pub struct Arrow {
 }
 
 pub struct Graph {
+    construction: Construction,
     pub nodes: u16,
     pub arrows: Vec<Arrow>,
+    /// Of the deterministic graph the guarded entries, guard by guard.
+    guarded: Vec<u16>,
 }
 
 /// The first and the last node of a do.
@@ -29,8 +39,8 @@ struct Loop {
 }
 
 impl Graph {
-    pub fn of(program: &Program) -> Graph {
-        let mut graph = Graph { nodes: 2, arrows: Vec::with_capacity(program.commands.len()) };
+    pub fn of(program: &Program, construction: Construction) -> Graph {
+        let mut graph = Graph { construction, nodes: 2, arrows: Vec::with_capacity(program.commands.len()), guarded: Vec::new() };
         // No jump is outside every do, so that the loop there is never asked for.
         graph.command(program, program.commands.len() as u16 - 1, 0, 1, Loop { first: 0, last: 1 });
         graph
@@ -73,6 +83,9 @@ impl Graph {
             Command::Guarded(b, c) => {
                 let middle = self.fresh();
                 self.arrow(from, middle, Action::Condition(b));
+                if self.construction == Construction::Deterministic {
+                    self.guarded.push(n);
+                }
                 self.command(program, c, middle, to, around);
             }
             _ => unreachable!(),
@@ -91,15 +104,16 @@ impl Graph {
 
 /// The arrows at the front of a buffer; nodes and arrows.
 #[inline(never)]
-pub fn draw(file: &[u8], buffer: &mut [u8]) -> Result<(u16, u16), Refusal> {
-    let graph = Graph::of(&Program::read(file)?);
+pub fn draw(file: &[u8], construction: Construction, buffer: &mut [u8]) -> Result<(u16, u16), Refusal> {
+    let graph = Graph::of(&Program::read(file)?, construction);
     if buffer.len() < 7 * graph.arrows.len() {
         return Err((13, 0));
     }
+    let mut guarded = graph.guarded.iter();
     for (arrow, bytes) in graph.arrows.iter().zip(buffer.chunks_exact_mut(7)) {
         let (kind, entry) = match arrow.action {
             Action::Command(n) => (1, n),
-            Action::Condition(n) => (2, n),
+            Action::Condition(n) => guarded.next().map_or((2, n), |&n| (4, n)),
             Action::Exit(n) => (3, n),
         };
         bytes[..2].copy_from_slice(&arrow.from.to_be_bytes());

@@ -1,7 +1,7 @@
 //! Values, the step and the budgeted run.
 
 use super::file::{Arith, Boolean, Command, Comparison, Operator, Program, Refusal};
-use super::graph::{Action, Graph};
+use super::graph::{Action, Arrow, Construction, Graph};
 
 /// 31 to 36.
 type Reason = u32;
@@ -104,32 +104,70 @@ impl Program {
             Err(31)
         }
     }
+
+    /// A guard of the deterministic graph after the lower arrows: all are worked out in turn.
+    fn first_to_hold<'a>(&self, lower: impl Iterator<Item = &'a Arrow>, own: u16, memory: &[i32]) -> Result<(), Reason> {
+        let mut none_before = true;
+        for arrow in lower {
+            if let Action::Condition(b) = arrow.action {
+                none_before &= !self.truth(b, memory)?;
+            }
+        }
+        if self.truth(own, memory)? && none_before {
+            Ok(())
+        } else {
+            Err(31)
+        }
+    }
+
+    /// Where the only defined arrow of those out of a node of the deterministic graph goes, with its action performed. Each guard is worked out once: one that is
+    /// undefined leaves no arrow defined, and an exit that is come to is defined.
+    fn take_only(&self, arrows: impl Iterator<Item = Arrow>, memory: &mut [i32]) -> Option<u16> {
+        for arrow in arrows {
+            let taken = match arrow.action {
+                Action::Condition(b) => self.truth(b, memory).ok()?,
+                Action::Exit(_) => true,
+                Action::Command(_) => self.perform(arrow.action, memory).is_ok(),
+            };
+            if taken {
+                return Some(arrow.to);
+            }
+        }
+        None
+    }
 }
 
-fn load(file: &[u8], memory: &[i32]) -> Result<(Program, Graph), Refusal> {
+fn load(file: &[u8], construction: Construction, memory: &[i32]) -> Result<(Program, Graph), Refusal> {
     let program = Program::read(file)?;
     if memory.len() != program.cells {
         return Err((12, 0));
     }
-    let graph = Graph::of(&program);
+    let graph = Graph::of(&program, construction);
     Ok((program, graph))
 }
 
 /// A step of a run: the run afterwards, or the reason.
 #[inline(never)]
-pub fn step(file: &[u8], node: u16, count: u16, arrow: u16, memory: &mut [i32]) -> Result<Result<(u16, u16), Reason>, Refusal> {
-    let (program, graph) = load(file, memory)?;
+pub fn step(file: &[u8], construction: Construction, node: u16, count: u16, arrow: u16, memory: &mut [i32]) -> Result<Result<(u16, u16), Reason>, Refusal> {
+    let (program, graph) = load(file, construction, memory)?;
     if node >= graph.nodes {
         return Err((14, 0));
     }
-    let arrow = graph.arrows.get(usize::from(arrow)).filter(|arrow| arrow.from == node).ok_or((15, 0))?;
-    Ok(program.perform(arrow.action, memory).map(|()| (arrow.to, count.saturating_add(1))))
+    let number = usize::from(arrow);
+    let arrow = graph.arrows.get(number).filter(|arrow| arrow.from == node).ok_or((15, 0))?;
+    let performed = match (construction, arrow.action) {
+        (Construction::Deterministic, Action::Condition(b)) => {
+            program.first_to_hold(graph.arrows[..number].iter().filter(|lower| lower.from == node), b, memory)
+        }
+        _ => program.perform(arrow.action, memory),
+    };
+    Ok(performed.map(|()| (arrow.to, count.saturating_add(1))))
 }
 
 /// A budgeted run: its answer, node and count.
 #[inline(never)]
-pub fn run(file: &[u8], budget: u16, memory: &mut [i32]) -> Result<(u32, u16, u16), Refusal> {
-    let (program, graph) = load(file, memory)?;
+pub fn run(file: &[u8], construction: Construction, budget: u16, memory: &mut [i32]) -> Result<(u32, u16, u16), Refusal> {
+    let (program, graph) = load(file, construction, memory)?;
     let leaving = graph.leaving();
     let (mut node, mut count) = (0, 0);
     loop {
@@ -141,10 +179,14 @@ pub fn run(file: &[u8], budget: u16, memory: &mut [i32]) -> Result<(u32, u16, u1
         }
         let arrows = leaving[usize::from(node)].iter().map(|&k| graph.arrows[usize::from(k)]);
         let mut taken = None;
-        for arrow in arrows {
-            if program.perform(arrow.action, memory).is_ok() {
-                taken = Some(arrow.to);
-                break;
+        if construction == Construction::Deterministic {
+            taken = program.take_only(arrows, memory);
+        } else {
+            for arrow in arrows {
+                if program.perform(arrow.action, memory).is_ok() {
+                    taken = Some(arrow.to);
+                    break;
+                }
             }
         }
         match taken {

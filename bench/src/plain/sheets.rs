@@ -1,7 +1,7 @@
 //! Sign analysis: results of arrows, checker, solver and splitter.
 
 use super::file::{name_count, Arith, Boolean, Command, Comparison, Operator, Program, Refusal};
-use super::graph::{Action, Arrow, Graph};
+use super::graph::{Action, Arrow, Construction, Graph};
 use std::collections::HashSet;
 
 const GRIDS: [[[u8; 3]; 3]; 5] = [
@@ -155,7 +155,7 @@ impl Program {
         }
     }
 
-    /// Whether an index of an action may be below zero.
+    /// Whether an index of an action may be below zero; in the deterministic graph those of earlier guards are asked about with the lower arrows.
     fn index_below(&self, action: Action, record: &[u8]) -> bool {
         match action {
             Action::Condition(b) => self.boolean_below(b, record),
@@ -186,6 +186,7 @@ impl Program {
 }
 
 struct Analysis {
+    construction: Construction,
     program: Program,
     arrows: Vec<Arrow>,
     nodes: u16,
@@ -193,11 +194,11 @@ struct Analysis {
 }
 
 impl Analysis {
-    fn of(file: &[u8]) -> Result<Analysis, Refusal> {
+    fn of(file: &[u8], construction: Construction) -> Result<Analysis, Refusal> {
         let program = Program::read(file)?;
-        let graph = Graph::of(&program);
+        let graph = Graph::of(&program, construction);
         let leaving = graph.leaving();
-        Ok(Analysis { program, nodes: graph.nodes, arrows: graph.arrows, leaving })
+        Ok(Analysis { construction, program, nodes: graph.nodes, arrows: graph.arrows, leaving })
     }
 
     fn width(&self) -> usize {
@@ -221,6 +222,31 @@ impl Analysis {
             each(key)
         })
     }
+
+    /// Calls back with each result of each arrow out of the node of a record, until it says to stop: the arrow then. On the deterministic graph each guard is worked
+    /// out once, and later arrows are gone on to only while all guards before may be false; so an exit that is come to passes.
+    fn successors(&self, record: &[u8], key: &mut [u8], mut each: impl FnMut(&[u8]) -> bool) -> Option<u16> {
+        let is_deterministic = self.construction == Construction::Deterministic;
+        for (k, arrow) in self.arrows_from(record) {
+            let (passes, goes_on) = match arrow.action {
+                Action::Condition(b) if is_deterministic => self.program.answers(b, &record[2..]),
+                Action::Exit(_) if is_deterministic => (true, true),
+                _ if self.results(arrow, record, key, &mut each) => return Some(k),
+                _ => continue,
+            };
+            if passes {
+                key[..2].copy_from_slice(&arrow.to.to_be_bytes());
+                key[2..].copy_from_slice(&record[2..]);
+                if each(key) {
+                    return Some(k);
+                }
+            }
+            if !goes_on {
+                return None;
+            }
+        }
+        None
+    }
 }
 
 fn is_whole(list: &[u8], width: usize) -> bool {
@@ -229,8 +255,8 @@ fn is_whole(list: &[u8], width: usize) -> bool {
 
 /// The verdict in document 01's numbers, as the engine's row has them.
 #[inline(never)]
-pub fn judge(file: &[u8], start: &[u8], sheet: &[u8]) -> Vec<u32> {
-    let analysis = match Analysis::of(file) {
+pub fn judge(file: &[u8], construction: Construction, start: &[u8], sheet: &[u8]) -> Vec<u32> {
+    let analysis = match Analysis::of(file, construction) {
         Ok(analysis) => analysis,
         Err((number, place)) => return vec![number, place as u32],
     };
@@ -253,10 +279,8 @@ pub fn judge(file: &[u8], start: &[u8], sheet: &[u8]) -> Vec<u32> {
         }
     }
     for (i, record) in sheet.chunks_exact(width).enumerate() {
-        for (k, arrow) in analysis.arrows_from(record) {
-            if analysis.results(arrow, record, &mut key, |result| !listed.contains(result)) {
-                return vec![42, i as u32, u32::from(k)];
-            }
+        if let Some(k) = analysis.successors(record, &mut key, |result| !listed.contains(result)) {
+            return vec![42, i as u32, u32::from(k)];
         }
     }
     for (i, record) in sheet.chunks_exact(width).enumerate() {
@@ -271,8 +295,8 @@ pub fn judge(file: &[u8], start: &[u8], sheet: &[u8]) -> Vec<u32> {
 
 /// The solver's records in a buffer, and its answer in document 01's numbers.
 #[inline(never)]
-pub fn solve(file: &[u8], start: &[u8], buffer: &mut [u8]) -> Vec<u32> {
-    let analysis = match Analysis::of(file) {
+pub fn solve(file: &[u8], construction: Construction, start: &[u8], buffer: &mut [u8]) -> Vec<u32> {
+    let analysis = match Analysis::of(file, construction) {
         Ok(analysis) => analysis,
         Err((number, place)) => return vec![number, place as u32, 0],
     };
@@ -310,10 +334,8 @@ pub fn solve(file: &[u8], start: &[u8], buffer: &mut [u8]) -> Vec<u32> {
     let mut record = vec![0; width];
     while at < count {
         record.copy_from_slice(&buffer[at * width..(at + 1) * width]);
-        for (_, arrow) in analysis.arrows_from(&record) {
-            if analysis.results(arrow, &record, &mut key, |result| append(result, buffer, &mut count)) {
-                return vec![18, count as u32];
-            }
+        if analysis.successors(&record, &mut key, |result| append(result, buffer, &mut count)).is_some() {
+            return vec![18, count as u32];
         }
         at += 1;
     }

@@ -134,6 +134,24 @@ impl Reason {
     }
 }
 
+/// Which graph of a program a call works on. Both have the same nodes and arrows; only what a guard's arrow does is not the same.
+#[derive(Clone, Copy, Debug, PartialEq, Eq, Hash)]
+#[repr(u32)]
+pub enum Construction {
+    /// Document 01's: a guard's arrow passes where its guard is true, so that several arrows out of a node may be defined at once.
+    Nondeterministic = NONDETERMINISTIC_GRAPH,
+    /// Document 02's, order 8: it passes where its guard is true and all earlier guards of the same if or do are false. The earlier ones are worked out in text order
+    /// and its own last, each of them whatever the others are; the first that is undefined gives the reason. At most one arrow out of a node is defined, in any memory.
+    Deterministic = DETERMINISTIC_GRAPH,
+}
+
+impl Construction {
+    /// Its number in the C library.
+    pub fn number(self) -> u32 {
+        self as u32
+    }
+}
+
 /// The graph's counts.
 #[derive(Clone, Copy, Debug, PartialEq, Eq)]
 pub struct Drawn {
@@ -150,6 +168,8 @@ pub enum Action {
     Condition(u16),
     /// The exit of the do whose operand is that command entry.
     Exit(u16),
+    /// The guard of that guarded command entry (kind 6), after the [earlier ones](Graph::earlier_guards): every guard's arrow of the deterministic graph.
+    Guard(u16),
 }
 
 /// An arrow of a program graph.
@@ -167,7 +187,19 @@ pub struct Graph {
     pub arrows: Vec<Arrow>,
 }
 
-/// A run: the node that it is at, and how many arrows it has taken, which stays at 65,535. The memory is beside it.
+impl Graph {
+    /// The guarded entries of the guards that come before an arrow's in the same if or do, in text order; none where the arrow is not an [`Action::Guard`].
+    pub fn earlier_guards(&self, arrow: usize) -> Vec<u16> {
+        let Some(Arrow { from, action: Action::Guard(_), .. }) = self.arrows.get(arrow) else {
+            return Vec::new();
+        };
+        // No two ifs or dos begin at one node.
+        let lower = self.arrows[..arrow].iter().filter(|lower| lower.from == *from);
+        lower.filter_map(|lower| if let Action::Guard(entry) = lower.action { Some(entry) } else { None }).collect()
+    }
+}
+
+/// A run: the node that it is at, and how many arrows it has taken, which stays at 65,535. The memory is beside it. A run belongs to neither graph.
 #[derive(Clone, Copy, Debug, Default, PartialEq, Eq, Hash)]
 pub struct Run {
     pub node: u16,
@@ -215,10 +247,11 @@ pub enum Mark {
 
 /// The verdict on a sheet. The offending record is a part of the list that it lies in.
 ///
-/// What [`Verdict::Accepted`] means is proved. Take any memory whose signs are in the start list. Whatever steps are called on it from [`Run::FRESH`], refused and
-/// undefined ones among them, the sheet has a record with the node that is then reached and exactly the memory's signs there; the same of where [`run`](crate::run)
-/// ends, with any budget. And where the mark is clean, no step that is called is undefined for [`Reason::IndexBelowZero`], and no arrow out of the node then reached
-/// is, taken or not; nor is any arrow out of the node where [`run`](crate::run) ends.
+/// What [`Verdict::Accepted`] means is proved. It is about the graph that the sheet was judged on, and steps and runs on that one. Take any memory whose signs are in
+/// the start list. Whatever steps are called on it from [`Run::FRESH`], refused and undefined ones among them, the sheet has a record with the node that is then
+/// reached and exactly the memory's signs there; the same of where [`run_on`](crate::run_on) ends, with any budget. And where the mark is clean, no step that is called
+/// is undefined for [`Reason::IndexBelowZero`], and no arrow out of the node then reached is, taken or not; nor is any arrow out of the node where
+/// [`run_on`](crate::run_on) ends.
 #[derive(Clone, Copy, Debug, PartialEq, Eq)]
 pub enum Verdict<'a> {
     /// 41: that record of the start list is missing at node 0; the first such.

@@ -10,11 +10,20 @@ extern "C" {
     fn pizwoter_validate(program: *const u8, program_length: usize, reply: *mut i64, reply_length: usize) -> i32;
     fn pizwoter_validate_input(input: *const u8, input_length: usize, reply: *mut i64, reply_length: usize) -> i32;
     fn pizwoter_input_parts(input: *const u8, input_length: usize, reply: *mut i64, reply_length: usize) -> i32;
-    fn pizwoter_draw(program: *const u8, program_length: usize, buffer: *mut u8, buffer_length: usize, reply: *mut i64, reply_length: usize) -> i32;
+    fn pizwoter_draw(
+        program: *const u8,
+        program_length: usize,
+        construction: u32,
+        buffer: *mut u8,
+        buffer_length: usize,
+        reply: *mut i64,
+        reply_length: usize,
+    ) -> i32;
     #[rustfmt::skip]
     fn pizwoter_step(
         program: *const u8,
         program_length: usize,
+        construction: u32,
         node: u16,
         count: u16,
         arrow: u16,
@@ -26,6 +35,7 @@ extern "C" {
     fn pizwoter_run(
         program: *const u8,
         program_length: usize,
+        construction: u32,
         budget: u16,
         memory: *mut i32,
         memory_length: usize,
@@ -36,6 +46,7 @@ extern "C" {
     fn pizwoter_judge(
         program: *const u8,
         program_length: usize,
+        construction: u32,
         start: *const u8,
         start_length: usize,
         sheet: *const u8,
@@ -48,6 +59,7 @@ extern "C" {
     fn pizwoter_solve(
         program: *const u8,
         program_length: usize,
+        construction: u32,
         start: *const u8,
         start_length: usize,
         buffer: *mut u8,
@@ -86,32 +98,33 @@ pub fn input_parts(input: &[u8], reply: &mut [i64]) -> i32 {
     unsafe { pizwoter_input_parts(input.as_ptr(), input.len(), reply.as_mut_ptr(), reply.len()) }
 }
 
-pub fn draw(program: &[u8], buffer: &mut [u8], reply: &mut [i64]) -> i32 {
-    unsafe { pizwoter_draw(program.as_ptr(), program.len(), buffer.as_mut_ptr(), buffer.len(), reply.as_mut_ptr(), reply.len()) }
+pub fn draw(program: &[u8], construction: u32, buffer: &mut [u8], reply: &mut [i64]) -> i32 {
+    let (p, n) = (program.as_ptr(), program.len());
+    unsafe { pizwoter_draw(p, n, construction, buffer.as_mut_ptr(), buffer.len(), reply.as_mut_ptr(), reply.len()) }
 }
 
-pub fn step(program: &[u8], node: u16, count: u16, arrow: u16, memory: &mut [i32], reply: &mut [i64]) -> i32 {
+pub fn step(program: &[u8], construction: u32, node: u16, count: u16, arrow: u16, memory: &mut [i32], reply: &mut [i64]) -> i32 {
     let (p, n) = (program.as_ptr(), program.len());
-    unsafe { pizwoter_step(p, n, node, count, arrow, memory.as_mut_ptr(), memory.len(), reply.as_mut_ptr(), reply.len()) }
+    unsafe { pizwoter_step(p, n, construction, node, count, arrow, memory.as_mut_ptr(), memory.len(), reply.as_mut_ptr(), reply.len()) }
 }
 
-pub fn run(program: &[u8], budget: u16, memory: &mut [i32], reply: &mut [i64]) -> i32 {
+pub fn run(program: &[u8], construction: u32, budget: u16, memory: &mut [i32], reply: &mut [i64]) -> i32 {
     let (p, n) = (program.as_ptr(), program.len());
-    unsafe { pizwoter_run(p, n, budget, memory.as_mut_ptr(), memory.len(), reply.as_mut_ptr(), reply.len()) }
+    unsafe { pizwoter_run(p, n, construction, budget, memory.as_mut_ptr(), memory.len(), reply.as_mut_ptr(), reply.len()) }
 }
 
-pub fn judge(program: &[u8], start: &[u8], sheet: &[u8], reply: &mut [i64]) -> i32 {
+pub fn judge(program: &[u8], construction: u32, start: &[u8], sheet: &[u8], reply: &mut [i64]) -> i32 {
     let (p, n) = (program.as_ptr(), program.len());
-    unsafe { pizwoter_judge(p, n, start.as_ptr(), start.len(), sheet.as_ptr(), sheet.len(), reply.as_mut_ptr(), reply.len()) }
+    unsafe { pizwoter_judge(p, n, construction, start.as_ptr(), start.len(), sheet.as_ptr(), sheet.len(), reply.as_mut_ptr(), reply.len()) }
 }
 
 pub fn index_mark(program: &[u8], sheet: &[u8], reply: &mut [i64]) -> i32 {
     unsafe { pizwoter_index_mark(program.as_ptr(), program.len(), sheet.as_ptr(), sheet.len(), reply.as_mut_ptr(), reply.len()) }
 }
 
-pub fn solve(program: &[u8], start: &[u8], buffer: &mut [u8], reply: &mut [i64]) -> i32 {
+pub fn solve(program: &[u8], construction: u32, start: &[u8], buffer: &mut [u8], reply: &mut [i64]) -> i32 {
     let (p, n) = (program.as_ptr(), program.len());
-    unsafe { pizwoter_solve(p, n, start.as_ptr(), start.len(), buffer.as_mut_ptr(), buffer.len(), reply.as_mut_ptr(), reply.len()) }
+    unsafe { pizwoter_solve(p, n, construction, start.as_ptr(), start.len(), buffer.as_mut_ptr(), buffer.len(), reply.as_mut_ptr(), reply.len()) }
 }
 
 pub fn split(program: &[u8], place: u32, reply: &mut [i64]) -> i32 {

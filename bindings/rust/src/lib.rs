@@ -5,8 +5,11 @@
 //! and any numbers whatever and has one answer, which is proved to be the one of the two documents: this crate only turns the C library's rows of numbers
 //! (`include/pizwoter.h`) into Rust's enums. A call that is refused gives a [`Refusal`], which is an error with words.
 //!
+//! A program has two graphs ([`Construction`]). A function whose name ends in `_on` takes the one that it works on; the function without it names none, which is the
+//! nondeterministic one.
+//!
 //! ```
-//! use pizwoter::{judge, run, Ending, Mark, Outcome, Run, Verdict};
+//! use pizwoter::{judge, run, run_on, Construction, Ending, Mark, Outcome, Run, Verdict};
 //!
 //! # fn main() -> Result<(), Box<dyn std::error::Error>> {
 //! // y := 1; do x > 0 -> y := x * y; x := x - 1 od
@@ -14,6 +17,10 @@
 //! let mut memory = [3, 0];
 //! let ended = run(lesson, 11, &mut memory)?;
 //! assert_eq!((ended.ending, memory), (Ending::Arrived, [0, 6]));
+//!
+//! // On the deterministic graph it is the same run: the loop has one guard.
+//! let mut again = [3, 0];
+//! assert_eq!(run_on(lesson, Construction::Deterministic, 11, &mut again)?, ended);
 //!
 //! // A step along arrow 0, which is y := 1; and one that does not leave the node then reached.
 //! let stepped = Run::FRESH.step(lesson, 0, &mut memory)?;
@@ -111,14 +118,32 @@ fn part(bytes: &[u8], offset: i64, length: i64) -> &[u8] {
 /// The arrows at the front of a buffer, [`ARROW_BYTES`] each: from, to, action kind, entry. [`MOST_ARROW_BYTES`] hold any graph; with less room
 /// [`Question::RoomForArrows`] may be refused.
 pub fn draw(program: &[u8], buffer: &mut [u8]) -> Result<Drawn, Refusal> {
-    let row = told::<DRAW_ROW>(|reply| desk::draw(program, buffer, reply))?;
+    draw_numbered(program, UNNAMED_GRAPH, buffer)
+}
+
+/// The same of the graph that is named.
+pub fn draw_on(program: &[u8], construction: Construction, buffer: &mut [u8]) -> Result<Drawn, Refusal> {
+    draw_numbered(program, construction.number(), buffer)
+}
+
+fn draw_numbered(program: &[u8], graph: u32, buffer: &mut [u8]) -> Result<Drawn, Refusal> {
+    let row = told::<DRAW_ROW>(|reply| desk::draw(program, graph, buffer, reply))?;
     Ok(Drawn { nodes: row[DRAW_NODES] as usize, arrows: row[DRAW_ARROWS] as usize })
 }
 
 /// The program graph.
 pub fn graph(program: &[u8]) -> Result<Graph, Refusal> {
+    graph_numbered(program, UNNAMED_GRAPH)
+}
+
+/// The graph that is named.
+pub fn graph_on(program: &[u8], construction: Construction) -> Result<Graph, Refusal> {
+    graph_numbered(program, construction.number())
+}
+
+fn graph_numbered(program: &[u8], graph: u32) -> Result<Graph, Refusal> {
     let mut buffer = [0; MOST_ARROW_BYTES];
-    let drawn = draw(program, &mut buffer)?;
+    let drawn = draw_numbered(program, graph, &mut buffer)?;
     let arrows = buffer.chunks(ARROW_BYTES).take(drawn.arrows).map(arrow).collect();
     Ok(Graph { nodes: drawn.nodes, arrows })
 }
@@ -129,7 +154,9 @@ fn arrow(bytes: &[u8]) -> Arrow {
     let action = match bytes[4] {
         ACTION_COMMAND => Action::Command(entry),
         ACTION_BOOLEAN => Action::Condition(entry),
-        _ => Action::Exit(entry),
+        ACTION_EXIT => Action::Exit(entry),
+        ACTION_GUARD => Action::Guard(entry),
+        other => unreachable!("an action has no kind {other}"),
     };
     Arrow { from: word(0), to: word(2), action }
 }
@@ -149,7 +176,16 @@ impl Run {
 
     /// A step along an arrow, by its number. Where the step is undefined or refused, run and memory are as they were.
     pub fn step(self, program: &[u8], arrow: u16, memory: &mut [i32]) -> Result<Stepped, Refusal> {
-        let row = told::<STEP_ROW>(|reply| desk::step(program, self.node, self.count, arrow, memory, reply))?;
+        self.step_numbered(program, UNNAMED_GRAPH, arrow, memory)
+    }
+
+    /// The same on the graph that is named.
+    pub fn step_on(self, program: &[u8], construction: Construction, arrow: u16, memory: &mut [i32]) -> Result<Stepped, Refusal> {
+        self.step_numbered(program, construction.number(), arrow, memory)
+    }
+
+    fn step_numbered(self, program: &[u8], graph: u32, arrow: u16, memory: &mut [i32]) -> Result<Stepped, Refusal> {
+        let row = told::<STEP_ROW>(|reply| desk::step(program, graph, self.node, self.count, arrow, memory, reply))?;
         Ok(Stepped { outcome: outcome(row[ANSWER]), run: Run { node: row[STEP_NODE] as u16, count: row[STEP_COUNT] as u16 } })
     }
 }
@@ -170,7 +206,16 @@ fn outcome(answer: i64) -> Outcome {
 
 /// A run from node 0 that takes the lowest-numbered defined arrow each time, at most `budget` of them.
 pub fn run(program: &[u8], budget: u16, memory: &mut [i32]) -> Result<Ended, Refusal> {
-    let row = told::<RUN_ROW>(|reply| desk::run(program, budget, memory, reply))?;
+    run_numbered(program, UNNAMED_GRAPH, budget, memory)
+}
+
+/// The same on the graph that is named: on the deterministic one it takes the only defined arrow each time.
+pub fn run_on(program: &[u8], construction: Construction, budget: u16, memory: &mut [i32]) -> Result<Ended, Refusal> {
+    run_numbered(program, construction.number(), budget, memory)
+}
+
+fn run_numbered(program: &[u8], graph: u32, budget: u16, memory: &mut [i32]) -> Result<Ended, Refusal> {
+    let row = told::<RUN_ROW>(|reply| desk::run(program, graph, budget, memory, reply))?;
     let ending = match row[ANSWER] {
         ARRIVED => Ending::Arrived,
         BUDGET_USED_UP => Ending::Spent,
@@ -191,7 +236,16 @@ fn mark(number: i64, record: i64, arrow: i64) -> Mark {
 
 /// The verdict on a sheet over a start list.
 pub fn judge<'a>(program: &[u8], start: &'a [u8], sheet: &'a [u8]) -> Result<Verdict<'a>, Refusal> {
-    let row = told::<JUDGE_ROW>(|reply| desk::judge(program, start, sheet, reply))?;
+    judge_numbered(program, UNNAMED_GRAPH, start, sheet)
+}
+
+/// The same on the graph that is named.
+pub fn judge_on<'a>(program: &[u8], construction: Construction, start: &'a [u8], sheet: &'a [u8]) -> Result<Verdict<'a>, Refusal> {
+    judge_numbered(program, construction.number(), start, sheet)
+}
+
+fn judge_numbered<'a>(program: &[u8], graph: u32, start: &'a [u8], sheet: &'a [u8]) -> Result<Verdict<'a>, Refusal> {
+    let row = told::<JUDGE_ROW>(|reply| desk::judge(program, graph, start, sheet, reply))?;
     let (record, arrow) = (row[JUDGE_RECORD] as usize, row[JUDGE_ARROW] as usize);
     let offending = |list| part(list, row[JUDGE_OFFSET], row[JUDGE_LENGTH]);
     Ok(match row[ANSWER] {
@@ -202,7 +256,7 @@ pub fn judge<'a>(program: &[u8], start: &'a [u8], sheet: &'a [u8]) -> Result<Ver
     })
 }
 
-/// The index mark of a sheet by itself, accepted or not.
+/// The index mark of a sheet by itself, accepted or not. It is the same for both graphs.
 pub fn index_mark(program: &[u8], sheet: &[u8]) -> Result<Mark, Refusal> {
     let row = told::<MARK_ROW>(|reply| desk::index_mark(program, sheet, reply))?;
     Ok(mark(row[ANSWER], row[MARK_RECORD], row[MARK_ARROW]))
@@ -210,8 +264,17 @@ pub fn index_mark(program: &[u8], sheet: &[u8]) -> Result<Mark, Refusal> {
 
 /// The solver's sheet for a start list, at the front of a buffer; answers how many records it has. A record has two bytes of node and one for each name.
 pub fn solve(program: &[u8], start: &[u8], buffer: &mut [u8]) -> Result<usize, Unsolved> {
+    solve_numbered(program, UNNAMED_GRAPH, start, buffer)
+}
+
+/// The same on the graph that is named.
+pub fn solve_on(program: &[u8], construction: Construction, start: &[u8], buffer: &mut [u8]) -> Result<usize, Unsolved> {
+    solve_numbered(program, construction.number(), start, buffer)
+}
+
+fn solve_numbered(program: &[u8], graph: u32, start: &[u8], buffer: &mut [u8]) -> Result<usize, Unsolved> {
     let mut row = [0; SOLVE_ROW];
-    let status = desk::solve(program, start, buffer, &mut row);
+    let status = desk::solve(program, graph, start, buffer, &mut row);
     let records = row[SOLVE_RECORDS] as usize;
     match status {
         ANSWERED => Ok(records),

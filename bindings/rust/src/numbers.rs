@@ -11,7 +11,7 @@ macro_rules! numbers {
 }
 
 numbers! {
-    VERSION: u32 = 2;
+    VERSION: u32 = 3;
 
     // Return values beside the questions' numbers.
     ANSWERED: i32 = 0;
@@ -80,6 +80,11 @@ numbers! {
     /// Of a set of signs, plus.
     PLUS: u8 = 4;
 
+    // The graphs of a program.
+    UNNAMED_GRAPH: u32 = 0;
+    NONDETERMINISTIC_GRAPH: u32 = 1;
+    DETERMINISTIC_GRAPH: u32 = 2;
+
     // Each call's row: its length, its places, and its answers.
     VALIDATE_ROW: usize = 3;
 
@@ -94,6 +99,7 @@ numbers! {
     ACTION_COMMAND: u8 = 1;
     ACTION_BOOLEAN: u8 = 2;
     ACTION_EXIT: u8 = 3;
+    ACTION_GUARD: u8 = 4;
 
     STEP_ROW: usize = 5;
     STEP_NODE: usize = 3;

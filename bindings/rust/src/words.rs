@@ -1,6 +1,6 @@
 //! Answers in words, and which of them are errors.
 
-use crate::{Ending, Fraction, List, Mark, Outcome, Place, Question, Reason, Refusal, Unsolved, Verdict};
+use crate::{Action, Construction, Ending, Fraction, List, Mark, Outcome, Place, Question, Reason, Refusal, Unsolved, Verdict};
 use std::error::Error;
 use std::fmt::{Display, Formatter, Result};
 
@@ -73,6 +73,26 @@ impl From<Refusal> for Unsolved {
     }
 }
 
+impl Display for Construction {
+    fn fmt(&self, f: &mut Formatter) -> Result {
+        f.write_str(match self {
+            Construction::Nondeterministic => "nondeterministic",
+            Construction::Deterministic => "deterministic",
+        })
+    }
+}
+
+impl Display for Action {
+    fn fmt(&self, f: &mut Formatter) -> Result {
+        match self {
+            Action::Command(entry) => write!(f, "command {entry}"),
+            Action::Condition(entry) => write!(f, "condition {entry}"),
+            Action::Exit(entry) => write!(f, "exit of {entry}"),
+            Action::Guard(entry) => write!(f, "guard of {entry} after the earlier ones"),
+        }
+    }
+}
+
 impl Display for Reason {
     fn fmt(&self, f: &mut Formatter) -> Result {
         f.write_str(match self {
@@ -140,13 +160,17 @@ mod tests {
     #[test]
     fn answers_have_words() {
         let refused = |question, place| Refusal { question, place };
-        let words: [(&dyn Display, &str); 14] = [
+        let words: [(&dyn Display, &str); 18] = [
             (&refused(Question::Tag, Place::Byte(8)), "a field's tag is not the one due (question 2, byte 8)"),
             (&refused(Question::JumpInDo, Place::Byte(14)), "a break or continue is outside every do (question 20, byte 14)"),
             (&refused(Question::Memory, Place::None), "the memory has not as many cells as the program (question 12)"),
             (&refused(Question::Record, Place::InList(List::Sheet, 5)), "a byte of a record is wrong (question 17, byte 5 of the sheet)"),
             (&refused(Question::Mark, Place::Mark(1)), "a mark is not from -10,000 to 10,000 (question 24, mark 1)"),
             (&Unsolved::NoRoom { records: 3 }, "there is no room for the solver's next record after 3 (question 18)"),
+            (&Construction::Deterministic, "deterministic"),
+            (&Action::Command(0), "command 0"),
+            (&Action::Exit(4), "exit of 4"),
+            (&Action::Guard(4), "guard of 4 after the earlier ones"),
             (&Outcome::Taken, "taken"),
             (&Outcome::Undefined(Reason::DivisorZero), "undefined: a divisor is zero"),
             (&Ending::Spent, "the budget is used up"),

@@ -1,12 +1,73 @@
-//! Every function of the crate on random files, fit and damaged, against the oracle, which is written from document 01 and order 7 of document 02 alone.
+//! Every function of the crate on random files, fit and damaged, against the oracle, which is written from document 01 and orders 7 and 8 of document 02 alone. What is
+//! about a graph is tried on both by name, and with none named, which is document 01's.
 
 use oracle::language::{self, Loaded, No};
 use oracle::making::Random;
 use oracle::trial::kinds::{random_file, Made};
 use oracle::trial::needs;
-use pizwoter::{Drawn, Ended, Ending, Input, List, Mark, Outcome, Place, Question, Refusal, Run, Split, Stepped, Unsolved, Verdict};
+use pizwoter::{
+    Action, Construction, Drawn, Ended, Ending, Graph, Input, List, Mark, Outcome, Place, Question, Refusal, Run, Split, Stepped, Unsolved, Verdict,
+};
+use std::collections::HashMap;
 
 const FILES: u64 = 20_000;
+
+/// A graph as a caller names it, or doesn't.
+type Named = Option<Construction>;
+
+const NAMED: [Named; 3] = [None, Some(Construction::Nondeterministic), Some(Construction::Deterministic)];
+
+/// What the oracle calls it.
+fn oracles(named: Named) -> language::Construction {
+    match named {
+        None | Some(Construction::Nondeterministic) => language::Nondeterministic,
+        Some(Construction::Deterministic) => language::Deterministic,
+    }
+}
+
+// The functions that are about a graph, with or without its name.
+
+fn draw(file: &[u8], named: Named, buffer: &mut [u8]) -> Result<Drawn, Refusal> {
+    match named {
+        None => pizwoter::draw(file, buffer),
+        Some(construction) => pizwoter::draw_on(file, construction, buffer),
+    }
+}
+
+fn graph(file: &[u8], named: Named) -> Result<Graph, Refusal> {
+    match named {
+        None => pizwoter::graph(file),
+        Some(construction) => pizwoter::graph_on(file, construction),
+    }
+}
+
+fn step(run: Run, file: &[u8], named: Named, arrow: u16, memory: &mut [i32]) -> Result<Stepped, Refusal> {
+    match named {
+        None => run.step(file, arrow, memory),
+        Some(construction) => run.step_on(file, construction, arrow, memory),
+    }
+}
+
+fn run(file: &[u8], named: Named, budget: u16, memory: &mut [i32]) -> Result<Ended, Refusal> {
+    match named {
+        None => pizwoter::run(file, budget, memory),
+        Some(construction) => pizwoter::run_on(file, construction, budget, memory),
+    }
+}
+
+fn solve(file: &[u8], named: Named, start: &[u8], buffer: &mut [u8]) -> Result<usize, Unsolved> {
+    match named {
+        None => pizwoter::solve(file, start, buffer),
+        Some(construction) => pizwoter::solve_on(file, construction, start, buffer),
+    }
+}
+
+fn judge<'a>(file: &[u8], named: Named, start: &'a [u8], sheet: &'a [u8]) -> Result<Verdict<'a>, Refusal> {
+    match named {
+        None => pizwoter::judge(file, start, sheet),
+        Some(construction) => pizwoter::judge_on(file, construction, start, sheet),
+    }
+}
 
 fn question(No(number, place): No) -> Refusal {
     let of_the_file = number <= 11 || number == 20;
@@ -49,19 +110,45 @@ fn files_are_validated_and_drawn() {
         assert_eq!(pizwoter::validate(file), lesson.map(|_| ()));
         assert_eq!(pizwoter::cells(file), lesson.map(|l| l.cells));
         let room = usize::from(needs::arrow_room(r, made));
-        let (mut ours, mut theirs) = (vec![170; room], vec![170; room]);
-        let drawn = pizwoter::draw(file, &mut ours);
-        let expected = lesson.and_then(|l| {
-            let bytes = l.graph.bytes();
-            if bytes.len() > room {
-                return Err(question(No(13, 0)));
-            }
-            theirs[..bytes.len()].copy_from_slice(&bytes);
-            Ok(Drawn { nodes: usize::from(l.graph.nodes), arrows: bytes.len() / 7 })
-        });
-        assert_eq!((drawn, ours), (expected, theirs));
-        assert_eq!(pizwoter::graph(file).map(|g| (g.nodes, g.arrows.len())), lesson.map(|l| (usize::from(l.graph.nodes), l.graph.arrows.len())));
+        for named in NAMED {
+            let expected = made.file.on(oracles(named)).map_err(question).map(|l| &l.graph);
+            let (mut ours, mut theirs) = (vec![170; room], vec![170; room]);
+            let drawn = draw(file, named, &mut ours);
+            let fits = expected.and_then(|g| {
+                let bytes = g.bytes();
+                if bytes.len() > room {
+                    return Err(question(No(13, 0)));
+                }
+                theirs[..bytes.len()].copy_from_slice(&bytes);
+                Ok(Drawn { nodes: usize::from(g.nodes), arrows: bytes.len() / 7 })
+            });
+            assert_eq!((drawn, ours), (fits, theirs));
+            same_graph(graph(file, named), expected);
+        }
     });
+}
+
+/// A graph's arrows, each with its action; and the earlier guards of each, whose guarded entries the oracle tells by their conditions.
+fn same_graph(ours: Result<Graph, Refusal>, expected: Result<&language::Graph, Refusal>) {
+    let (ours, expected) = match (ours, expected) {
+        (Ok(ours), Ok(expected)) => (ours, expected),
+        (ours, expected) => return assert_eq!(ours.err(), expected.err()),
+    };
+    assert_eq!((ours.nodes, ours.arrows.len()), (usize::from(expected.nodes), expected.arrows.len()));
+    let mut conditions = HashMap::new();
+    for (k, (arrow, theirs)) in ours.arrows.iter().zip(&expected.arrows).enumerate() {
+        let (action, earlier) = match &theirs.action {
+            language::Action::Command(n) => (Action::Command(*n), &[][..]),
+            language::Action::Condition(n) => (Action::Condition(*n), &[][..]),
+            language::Action::Exit(n) => (Action::Exit(*n), &[][..]),
+            language::Action::Guard { guarded, earlier, own } => {
+                conditions.insert(*guarded, *own);
+                (Action::Guard(*guarded), &earlier[..])
+            }
+        };
+        assert_eq!((arrow.from, arrow.to, arrow.action), (theirs.from, theirs.to, action));
+        assert_eq!(ours.earlier_guards(k).iter().map(|guarded| conditions[guarded]).collect::<Vec<_>>(), earlier);
+    }
 }
 
 #[test]
@@ -95,15 +182,15 @@ fn number(stepped: Stepped) -> u32 {
     }
 }
 
-/// Step calls from a run, each compared.
-fn follow(file: &Loaded, from: language::Run, calls: &[u16], memory: &[i32]) {
+/// Step calls from a run on a graph, each compared.
+fn follow(file: &Loaded, named: Named, from: language::Run, calls: &[u16], memory: &[i32]) {
     let (mut ours, mut theirs) = (memory.to_vec(), memory.to_vec());
-    let (mut run, mut expected) = (Run { node: from.node, count: from.count }, from);
+    let (mut at, mut expected) = (Run { node: from.node, count: from.count }, from);
     for &arrow in calls {
-        let stepped = run.step(&file.bytes, arrow, &mut ours);
-        assert_eq!(stepped.map(number), outcome(language::step(file, &mut expected, arrow, &mut theirs)));
-        run = stepped.map_or(run, |s| s.run);
-        assert_eq!((run.node, run.count, &ours), (expected.node, expected.count, &theirs));
+        let stepped = step(at, &file.bytes, named, arrow, &mut ours);
+        assert_eq!(stepped.map(number), outcome(language::step(file, oracles(named), &mut expected, arrow, &mut theirs)));
+        at = stepped.map_or(at, |s| s.run);
+        assert_eq!((at.node, at.count, &ours), (expected.node, expected.count, &theirs));
     }
 }
 
@@ -111,53 +198,74 @@ fn follow(file: &Loaded, from: language::Run, calls: &[u16], memory: &[i32]) {
 fn programs_are_stepped_and_run() {
     on_files(|r, made| {
         let memory = needs::any_memory(r, made);
-        let calls = needs::calls(r, made, &memory);
-        follow(&made.file, language::FRESH, &calls, &memory);
-        follow(&made.file, needs::any_run(r, made), &needs::any_calls(r, made), &memory);
-        let budget = needs::budget(r).min(2000);
-        let (mut ours, mut theirs) = (memory.clone(), memory);
-        let (answer, ended) = language::budgeted(&made.file, budget, &mut theirs);
-        let expected = answer.map_err(question).map(|answer| Ended {
-            ending: [Ending::Arrived, Ending::Spent, Ending::Stuck][answer as usize],
-            run: Run { node: ended.node, count: ended.count },
-        });
-        assert_eq!((pizwoter::run(&made.file.bytes, budget, &mut ours), ours), (expected, theirs));
+        let (from, any_calls, budget) = (needs::any_run(r, made), needs::any_calls(r, made), needs::budget(r).min(2000));
+        for named in NAMED {
+            let calls = needs::calls(r, made, oracles(named), &memory);
+            follow(&made.file, named, language::FRESH, &calls, &memory);
+            follow(&made.file, named, from, &any_calls, &memory);
+            let (mut ours, mut theirs) = (memory.clone(), memory.clone());
+            let (answer, ended) = language::budgeted(&made.file, oracles(named), budget, &mut theirs);
+            let expected = answer.map_err(question).map(|answer| Ended {
+                ending: [Ending::Arrived, Ending::Spent, Ending::Stuck][answer as usize],
+                run: Run { node: ended.node, count: ended.count },
+            });
+            assert_eq!((run(&made.file.bytes, named, budget, &mut ours), ours), (expected, theirs));
+        }
     });
 }
 
+/// The sheet that the oracle solves of a file's source.
+fn solved(made: &Made, named: Named, start: &[u8]) -> Vec<u8> {
+    let mut whole = vec![0; 20_000];
+    let (_, length) = language::solve(&made.source, oracles(named), start, &mut whole);
+    whole.truncate(length);
+    whole
+}
+
+fn is_solved(r: &mut Random, made: &Made, named: Named, start: &[u8]) {
+    let room = needs::sheet_room(r, made, &solved(made, named, start)).min(20_000);
+    let (mut ours, mut theirs) = (vec![170; room], vec![170; room]);
+    let (answer, written) = language::solve(&made.file, oracles(named), start, &mut theirs);
+    let width = made.file.lesson().map_or(1, |l| l.width(language::List::Sheet));
+    let expected = answer.map(|()| written / width).map_err(|refused| match refused {
+        language::Refusal::Number(No(18, _)) => Unsolved::NoRoom { records: written / width },
+        other => Unsolved::Refused(refusal(other)),
+    });
+    assert_eq!((solve(&made.file.bytes, named, start, &mut ours), ours), (expected, theirs));
+}
+
+fn is_judged(made: &Made, named: Named, start: &[u8], sheet: &[u8]) {
+    let judged = language::judge(&made.file, oracles(named), start, sheet);
+    let offending = language::offending(&made.file, &judged, start, sheet);
+    let expected = judged.map_err(refusal).map(|verdict| match verdict {
+        language::Verdict::StartMissing(record) => Verdict::StartMissing { record, offending },
+        language::Verdict::ResultMissing(record, arrow) => Verdict::ResultMissing { record, arrow, offending },
+        language::Verdict::Accepted(of) => Verdict::Accepted(mark(of)),
+    });
+    let verdict = judge(&made.file.bytes, named, start, sheet);
+    assert_eq!(verdict, expected);
+    // The offending record is the very bytes of the list that it lies in.
+    if let Some((list, record)) = verdict.ok().and_then(|v| v.offending()) {
+        let within = if list == List::Start { start } else { sheet };
+        assert!(within.as_ptr_range().contains(&record.as_ptr()) && record == offending);
+    }
+}
+
+/// A sheet of each graph, mostly, is judged on both: one may be accepted on the deterministic graph and not on document 01's.
 #[test]
 fn sheets_are_solved_judged_and_marked() {
     on_files(|r, made| {
-        let file = &made.file.bytes;
         let start = needs::start_list(r, made);
-        let mut whole = vec![0; 20_000];
-        let (_, length) = language::solve(&made.source, &start, &mut whole);
-        whole.truncate(length);
-        let room = needs::sheet_room(r, made, &whole).min(20_000);
-        let (mut ours, mut theirs) = (vec![170; room], vec![170; room]);
-        let (answer, written) = language::solve(&made.file, &start, &mut theirs);
-        let width = made.file.lesson().map_or(1, |l| l.width(language::List::Sheet));
-        let expected = answer.map(|()| written / width).map_err(|refused| match refused {
-            language::Refusal::Number(No(18, _)) => Unsolved::NoRoom { records: written / width },
-            other => Unsolved::Refused(refusal(other)),
-        });
-        assert_eq!((pizwoter::solve(file, &start, &mut ours), ours), (expected, theirs));
-        let sheet = needs::any_sheet(r, made, &whole);
-        let judged = language::judge(&made.file, &start, &sheet);
-        let offending = language::offending(&made.file, &judged, &start, &sheet);
-        let expected = judged.map_err(refusal).map(|verdict| match verdict {
-            language::Verdict::StartMissing(record) => Verdict::StartMissing { record, offending },
-            language::Verdict::ResultMissing(record, arrow) => Verdict::ResultMissing { record, arrow, offending },
-            language::Verdict::Accepted(of) => Verdict::Accepted(mark(of)),
-        });
-        let verdict = pizwoter::judge(file, &start, &sheet);
-        assert_eq!(verdict, expected);
-        // The offending record is the very bytes of the list that it lies in.
-        if let Some((list, record)) = verdict.ok().and_then(|v| v.offending()) {
-            let within = if list == List::Start { &start } else { &sheet };
-            assert!(within.as_ptr_range().contains(&record.as_ptr()) && record == offending);
+        for named in NAMED {
+            is_solved(r, made, named, &start);
         }
-        assert_eq!(pizwoter::index_mark(file, &sheet), language::index_mark(&made.file, &sheet).map(mark).map_err(refusal));
+        for of in [Some(Construction::Nondeterministic), Some(Construction::Deterministic)] {
+            let sheet = needs::any_sheet(r, made, &solved(made, of, &start));
+            for named in NAMED {
+                is_judged(made, named, &start, &sheet);
+            }
+            assert_eq!(pizwoter::index_mark(&made.file.bytes, &sheet), language::index_mark(&made.file, &sheet).map(mark).map_err(refusal));
+        }
     });
 }
 

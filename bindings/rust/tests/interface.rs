@@ -1,11 +1,12 @@
 //! The interface is written down three times: the engine's sources, the C header and the `extern` block of this crate. Each call is the same in all, parameter by parameter; and each row is
-//! as long in the header as in the engine's definitions.
+//! as long in the header as in the engine's definitions, and graphs and action kinds have the same numbers.
 
 use std::collections::BTreeMap;
 
 const HEADER: &str = include_str!("../../../include/pizwoter.h");
 const DESK: &str = include_str!("../src/desk.rs");
 const ROWS: &str = include_str!("../../../crates/desk/specs/Rows.antt");
+const GRAPH: &str = include_str!("../../../crates/program/specs/Graph.antt");
 const SOURCES: [&str; 6] = [
     include_str!("../../../crates/desk/src/lib.rt"),
     include_str!("../../../crates/desk/src/files.rt"),
@@ -79,9 +80,45 @@ fn every_call_is_the_same_in_the_sources_the_header_and_the_crate() {
     assert_eq!(functions(ours, "fn ", |kind| vec![kind.to_string()]), sources);
 }
 
+/// The calls that take a graph, each as its third parameter in the header and the crate, after the program's pointer and length; and those of the sources, as the second.
+#[test]
+fn five_calls_take_a_graph() {
+    let taking = |text: &str, start: &str, before: &str| -> Vec<String> {
+        let calls = text.split(start).skip(1).map(|rest| rest.split_once('(').unwrap());
+        let taking = calls.filter(|(_, rest)| rest.split_once(')').unwrap().0.contains("construction"));
+        let mut names: Vec<String> = taking
+            .map(|(name, rest)| {
+                let parameters = rest.split_whitespace().collect::<Vec<_>>().join(" ");
+                assert!(parameters.starts_with(before), "{name}: {parameters}");
+                name.to_string()
+            })
+            .collect();
+        names.sort();
+        names
+    };
+    let five = ["draw", "judge", "run", "solve", "step"].map(|name| format!("pizwoter_{name}"));
+    let code = HEADER.split("\n#define PIZWOTER_H\n").nth(1).unwrap();
+    assert_eq!(taking(code, "\nint32_t ", "const uint8_t *program, size_t program_length, uint32_t construction, "), five);
+    assert_eq!(taking(DESK.split("\n}").next().unwrap(), "fn ", "program: *const u8, program_length: usize, construction: u32, "), five);
+    assert_eq!(taking(&SOURCES.concat(), "pub extern \"C\" fn ", "program: &[u8], construction: u32, "), five);
+}
+
+/// A number of the header.
+fn defined(name: &str) -> &'static str {
+    HEADER.split(&format!("#define PIZWOTER_{name} ")).nth(1).unwrap().split_whitespace().next().unwrap()
+}
+
+#[test]
+fn graphs_and_actions_have_their_numbers() {
+    let (old, new) = (defined("NONDETERMINISTIC_GRAPH"), defined("DETERMINISTIC_GRAPH"));
+    assert!(GRAPH.contains(&format!("\nnamed n = cond (eqb n {old}) Nondeterministic (cond (eqb n {new}) Deterministic unnamed)\n")));
+    for (action, header) in [("perform c", "COMMAND"), ("test b", "BOOLEAN"), ("leave c", "EXIT"), ("select k earlier b", "GUARD")] {
+        assert!(GRAPH.contains(&format!("\nactionKind ({action}) = {}\n", defined(&format!("ACTION_{header}")))), "{action}");
+    }
+}
+
 #[test]
 fn every_row_has_its_length() {
-    let defined = |name: &str| HEADER.split(&format!("#define PIZWOTER_{name} ")).nth(1).unwrap().split_whitespace().next().unwrap();
     let rows = [
         ("validationRoom", "VALIDATE_ROW"),
         ("partsRoom", "PARTS_ROW"),

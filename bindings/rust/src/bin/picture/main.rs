@@ -1,26 +1,35 @@
 //! A picture of a lesson: its program graph in Graphviz's language, on standard output.
 //!
 //!     picture < INPUT > PICTURE.dot         INPUT is what the sheet program reads: a program and its start list, five fields
+//!     picture deterministic < INPUT         the deterministic graph, with the sheet that is solved on it
 //!
-//! A node shows the abstract memories that the solver's sheet has there, an arrow its number and its action in document 02's notation. Where the sheet's index mark
-//! names a record and an arrow, that arrow is red.
+//! A node shows the abstract memories that the solver's sheet has there, an arrow its number and its action in document 02's notation. In the deterministic graph a
+//! guard shows also the falsehood of the earlier ones. Where the sheet's index mark names a record and an arrow, that arrow is red.
 
 mod notation;
 
 use notation::Notation;
-use pizwoter::{Graph, Mark, Unsolved};
+use pizwoter::{Construction, Graph, Mark, Unsolved};
 use std::io::{self, Read};
 use std::process::ExitCode;
 
 /// The most abstract memories that a node shows.
 const SHOWN: usize = 12;
 
+/// The most earlier guards that an arrow shows.
+const EARLIER: usize = 3;
+
 fn main() -> ExitCode {
+    let construction = match std::env::args().skip(1).collect::<Vec<_>>().as_slice() {
+        [] => Construction::Nondeterministic,
+        [word] if word == "deterministic" => Construction::Deterministic,
+        _ => return fail("usage: picture [deterministic] < INPUT"),
+    };
     let mut input = Vec::new();
     if let Err(error) = io::stdin().read_to_end(&mut input) {
         return fail(&error.to_string());
     }
-    match picture(&input) {
+    match picture(&input, construction) {
         Ok(text) => {
             print!("{text}");
             ExitCode::SUCCESS
@@ -34,21 +43,26 @@ fn fail(reason: &str) -> ExitCode {
     ExitCode::FAILURE
 }
 
-fn picture(input: &[u8]) -> Result<String, Unsolved> {
+fn picture(input: &[u8], construction: Construction) -> Result<String, Unsolved> {
     let parts = pizwoter::input_parts(input)?;
-    let graph = pizwoter::graph(parts.program)?;
+    let graph = pizwoter::graph_on(parts.program, construction)?;
     let notation = Notation::of(parts.program);
     let width = 2 + notation.names();
     let mut sheet = vec![0; width * pizwoter::MOST_RECORDS];
-    let records = pizwoter::solve(parts.program, parts.start, &mut sheet)?;
+    let records = pizwoter::solve_on(parts.program, construction, parts.start, &mut sheet)?;
     sheet.truncate(width * records);
     let mark = pizwoter::index_mark(parts.program, &sheet)?;
-    Ok(drawn(&graph, &notation, &sheet, mark))
+    let title = match construction {
+        Construction::Nondeterministic => "",
+        Construction::Deterministic => "  label=\"the deterministic graph\";\n",
+    };
+    Ok(drawn(title, &graph, &notation, &sheet, mark))
 }
 
-fn drawn(graph: &Graph, notation: &Notation, sheet: &[u8], mark: Mark) -> String {
+fn drawn(title: &str, graph: &Graph, notation: &Notation, sheet: &[u8], mark: Mark) -> String {
     let mut text =
         String::from("digraph lesson {\n  rankdir=LR;\n  node [shape=box, style=rounded, fontname=\"monospace\"];\n  edge [fontname=\"monospace\"];\n");
+    text += title;
     for node in 0..graph.nodes {
         text += &format!("  n{node} [label=\"{}\"{}];\n", node_label(node, notation, sheet), node_style(node));
     }
@@ -57,9 +71,20 @@ fn drawn(graph: &Graph, notation: &Notation, sheet: &[u8], mark: Mark) -> String
             Mark::At { record, arrow } if arrow == k => (format!("\\nindex may be below 0 (record {record})"), ", color=red, fontcolor=red"),
             _ => (String::new(), ""),
         };
-        text += &format!("  n{} -> n{} [label=\"{k}: {}{note}\"{style}];\n", arrow.from, arrow.to, notation.action(arrow.action));
+        let action = notation.action(arrow.action) + &after(notation, &graph.earlier_guards(k));
+        text += &format!("  n{} -> n{} [label=\"{k}: {action}{note}\"{style}];\n", arrow.from, arrow.to);
     }
     text + "}\n"
+}
+
+/// What must be false before a guard is asked: the earlier guards, by their guarded entries.
+fn after(notation: &Notation, earlier: &[u16]) -> String {
+    let shown: Vec<String> = earlier.iter().take(EARLIER).map(|&entry| notation.falsehood(entry)).collect();
+    match earlier.len() {
+        0 => String::new(),
+        1..=EARLIER => format!("\\nafter {}", shown.join(", ")),
+        many => format!("\\nafter {} and {} more", shown.join(", "), many - EARLIER),
+    }
 }
 
 fn node_style(node: usize) -> &'static str {
@@ -87,6 +112,12 @@ fn node_label(node: usize, notation: &Notation, sheet: &[u8]) -> String {
 #[cfg(test)]
 mod tests {
     use super::*;
+    use oracle::making::{field, file_of};
+    use Construction::{Deterministic, Nondeterministic};
+
+    fn picture(input: &[u8]) -> Result<String, Unsolved> {
+        super::picture(input, Nondeterministic)
+    }
 
     #[test]
     fn the_factorial_has_its_arrows_and_signs() {
@@ -101,6 +132,34 @@ mod tests {
         ] {
             assert!(text.contains(line), "{line}\n{text}");
         }
+    }
+
+    #[test]
+    fn a_guard_comes_after_the_earlier_ones() {
+        let lesson = file_of("x y", "if x >= y -> x := 1 [] y >= x -> x := 2 [] x > 1 -> skip [] x > 2 -> skip [] true -> skip fi");
+        let input = [lesson, field(5, &[4, 4])].concat();
+        let text = super::picture(&input, Deterministic).unwrap();
+        for line in [
+            "label=\"the deterministic graph\";",
+            "n0 -> n2 [label=\"0: v0>=v1\"];",
+            "n2 -> n1 [label=\"1: v0:=1\"];",
+            "n0 -> n3 [label=\"2: v1>=v0\\nafter !{v0>=v1}\"];",
+            "n0 -> n5 [label=\"6: v0>2\\nafter !{v0>=v1}, !{v1>=v0}, !{v0>1}\"];",
+            "n0 -> n6 [label=\"8: true\\nafter !{v0>=v1}, !{v1>=v0}, !{v0>1} and 1 more\"];",
+        ] {
+            assert!(text.contains(line), "{line}\n{text}");
+        }
+        assert!(!picture(&input).unwrap().contains("after"));
+        let single = super::picture(include_bytes!("../../../../../crates/sheet/stdin"), Deterministic).unwrap();
+        assert!(single.contains("n2 -> n3 [label=\"1: v0>0\"];"), "{single}");
+    }
+
+    /// The first guard is undefined where y is zero: on the deterministic graph no node but the start has a memory.
+    #[test]
+    fn the_sheet_is_that_of_the_graph() {
+        let input = [file_of("x y", "if x / y > 0 -> skip [] x >= 0 -> skip fi"), field(5, &[4, 2])].concat();
+        let ends = [Nondeterministic, Deterministic].map(|construction| super::picture(&input, construction).unwrap().contains("n1 [label=\"1\\n+ 0\""));
+        assert_eq!(ends, [true, false]);
     }
 
     #[test]

@@ -92,13 +92,19 @@ impl Notation {
         }
     }
 
-    /// What an arrow does.
+    /// What an arrow does; of a guard of the deterministic graph its own condition alone.
     pub fn action(&self, action: Action) -> String {
         match action {
             Action::Command(n) => self.command(n),
             Action::Condition(n) => unbraced(self.condition(n)),
             Action::Exit(n) => unbraced(self.exit(n)),
+            Action::Guard(n) => unbraced(self.condition(self.entry(2, n).operands[0])),
         }
+    }
+
+    /// The falsehood of a guard, by its guarded entry.
+    pub fn falsehood(&self, n: u16) -> String {
+        unbraced(self.exit(n))
     }
 
     /// An abstract memory: a variable's sign, an array's signs in square brackets.
