@@ -10,6 +10,7 @@ use lib.Dec.{eqb}
 use lib.ListN.{length, getD, set}
 use lib.Seq.{set-out}
 use Rattle.signs.specs.Lists.{anyOf}
+use Rattle.signs.proofs.Lists.{or-false}
 use Rattle.signs.specs.declared.Truths.{Truths}
 use Rattle.program.specs.File.{wordAt}
 use Rattle.program.specs.FirstSuch.{firstOf, firstSuch}
@@ -37,7 +38,7 @@ use Rattle.analysis.specs.declared.Spot.{Spot}
 use Rattle.analysis.specs.declared.Spot.the-variants.{At as Here, Nowhere}
 use Rattle.analysis.specs.declared.judging.Query.{Query}
 use Rattle.analysis.specs.declared.judging.Query.the-variants.{MissingResult, NegativeIndex}
-use Rattle.analysis.proofs.Alike.{truths-alike, negative-alike, as-it-is}
+use Rattle.analysis.proofs.Alike.{truths-alike, negative-alike}
 use Rattle.analysis.proofs.Among.{has-among}
 use Rattle.analysis.proofs.Digits.{sets-none, sets-next}
 use Rattle.analysis.proofs.Laid.{record-inside, changed-record, start-reads, memory-reads, node-reads, node-formed}
@@ -83,13 +84,11 @@ module _ {ns : List ℕ} {g : Graph} {code graph : List ℕ} (p : Prepared ns g 
   unfolding picks
   picks-missing plainly r k node t = rw (← k .gives ρ (omega (arith, y .sized, p .coded .few)) (y .alike), ← plain-meaning p e h told plainly, t ∙ p .edge e h .target)
 
-  -- where the abstract memory is a result as it is, or none is
-  pub own-missing : (b : Bool) {r node : ℕ} → r ≡ cond b 96 32 → node ≡ targetIn graph e
-      → anyMissing ns solution node (map (set ρ (r % 64)) (setsOf (r / 64))) ≡ anyMissing ns solution (edgeAt g e .target) (cond b (ρ ∷ []) [])
-  own-missing b {r} {node} k t =
-      ap (λ (n : ℕ). anyMissing ns solution node (map (set ρ (n % 64)) (setsOf (n / 64)))) k
-      ∙ ap (anyMissing ns solution node) (sym (as-it-is b ρ (omega (arith, y .sized, p .coded .few))))
-      ∙ ap (λ (n : ℕ). anyMissing ns solution n (cond b (ρ ∷ []) [])) (t ∙ p .edge e h .target)
+  -- where the abstract memory is a result as it is
+  pub own-missing : (s : ℕ) {there : Bool} {node : ℕ} → node ≡ targetIn graph e → there ≡ hasAt ns solution node (set ρ 32 s)
+      → not there ≡ anyMissing ns solution (edgeAt g e .target) (ρ ∷ [])
+  unfolding anyMissing anyOf
+  own-missing s t k = rw (k, set-out ρ 32 s (omega (arith, y .sized, p .coded .few)), t ∙ p .edge e h .target) (sym (or-false _))
 
   pub picks-negative : mayBeNegative rho (decodedMeaning (entriesIn code graph) a) ≡ picks ns g solution NegativeIndex ρ e
   unfolding picks

@@ -29,7 +29,6 @@ use crate::lists;
 use crate::membership;
 use crate::membership::INDEX;
 use crate::set_table;
-use program::ActionNode;
 use program::Construction;
 use program::First;
 use program::Refusal;
@@ -95,12 +94,12 @@ fn any_missing(
     false
 }
 
-// Whether a query is handed over at an edge of this action: 42 is, at a guard's of the deterministic graph, whose results depend on the guards before it.
-fn handed_over(query: Query, action: ActionNode) -> bool
-    ensures { λ r. ⌜ r ≡ parts.handedOver query action ⌝ }
+// Whether a query is handed over at an edge: 42 is, at a guard's of the deterministic graph, whose results depend on the guards before it.
+fn handed_over(query: Query, graph: &[u16; GRAPH], e: u16) -> bool
+    ensures { λ r. ⌜ r ≡ parts.handedOver query (Prepared.actionIn (now (graph .entry)) e) ⌝ }
 {
     match query {
-        Query::MissingResult => prepared::is_guard(action),
+        Query::MissingResult => prepared::guards(graph, e),
         Query::NegativeIndex => false,
     }
 }
@@ -115,22 +114,25 @@ fn picked(
     rho: &[u8; 32],
     weight: u32,
     e: u16,
-    action: ActionNode,
 ) -> bool
     requires { ⌜ parts.Ordered (parts.namesIn (now code)) (now solution) (now index) (now rho) weight × Tabled.Tabled (now code) ⌝ }
     ensures { λ r. ⌜ ((ns : List ℕ) (g : Graph.Graph) (ρ : List ℕ)
         → parts.Searched ns g (now (code .entry)) (now (graph .entry)) query (now (solution .entry)) (now (index .entry))
-        → parts.ReadInto ρ (now (rho .entry)) (length ns) → e < length (g .edges) → action ≡ Prepared.actionIn (now (graph .entry)) e → parts.handedOver query action ≡ false
+        → parts.ReadInto ρ (now (rho .entry)) (length ns) → e < length (g .edges) → parts.handedOver query (Prepared.actionIn (now (graph .entry)) e) ≡ false
         → r ≡ parts.picks ns g (now (solution .entry)) query ρ e) ⌝ }
 {
     match query {
         Query::MissingResult => {
+            let action = prepared::plain_action(graph, e);
             let found = results::results(code, graph, rho, action);
             let names = prepared::name_count(code);
             let node = prepared::edge_target(graph, e);
             any_missing(index, solution, names, rho, weight, node, found)
         }
-        Query::NegativeIndex => indices::may_be_negative(code, graph, rho, action),
+        Query::NegativeIndex => {
+            let action = prepared::action(graph, e);
+            indices::may_be_negative(code, graph, rho, action)
+        }
     }
 }
 
@@ -151,10 +153,18 @@ fn guard_missing(
         → parts.ReadInto ρ (now (rho .entry)) (length ns) → e < length (g .edges)
         → r ≡ parts.anyMissing ns (now (solution .entry)) (Graph.edgeAt g e .target) (cond holds (ρ ∷ []) [])) ⌝ }
 {
-    let names = prepared::name_count(code);
-    let node = prepared::edge_target(graph, e);
-    let found = results::unchanged(holds);
-    any_missing(index, solution, names, rho, weight, node, found)
+    if holds {
+        let names = prepared::name_count(code);
+        let node = prepared::edge_target(graph, e);
+        // no name has this number: nothing is changed
+        let change = Change {
+            node,
+            name: NAMES_MOST,
+            set: 0,
+        };
+        return !listed(index, solution, names, rho, weight, change);
+    }
+    false
 }
 
 // 42 at a node of the deterministic graph whose lowest edge is a guard's: the first edge along which a result is missing. An edge has its own guard's results where
@@ -208,11 +218,10 @@ fn first_picked(
     let count = prepared::edge_count(graph);
     let mut e = prepared::first_edge(graph, node);
     while e < count {
-        let action = prepared::action(graph, e);
-        if handed_over(query, action) {
+        if handed_over(query, graph, e) {
             return first_missing(code, graph, index, solution, rho, weight, e);
         }
-        if picked(query, code, graph, index, solution, rho, weight, e, action) {
+        if picked(query, code, graph, index, solution, rho, weight, e) {
             return First::At(e);
         }
         e = prepared::next_edge(graph, e);
@@ -308,7 +317,7 @@ fn initial_listed(
     let weight = membership::weight(index, initial, at, names);
     let change = Change {
         node: 0,
-        name: NAMES_MOST,
+        name: 32,
         set: 0,
     };
     listed(index, solution, names, &rho, weight, change)

@@ -239,10 +239,10 @@ fn offer_successors(
     let mut progress = p;
     let mut e = prepared::first_edge(graph, node);
     while e < count {
-        let action = prepared::action(graph, e);
-        if prepared::is_guard(action) {
+        if prepared::guards(graph, e) {
             return offer_guarded(code, graph, index, buffer, rho, weight, e, progress);
         }
+        let action = prepared::plain_action(graph, e);
         progress = offer_edge(code, graph, index, buffer, rho, weight, e, action, progress);
         e = prepared::next_edge(graph, e);
     }

@@ -2,6 +2,7 @@
 // the set table.
 // Its graph: the decoded commands, the edges as words, the links of each node's edges, and the counts of nodes and edges.
 
+ghost use mathlib.Core.Bool.{false};
 ghost use mathlib.Core.Path.{_≡_};
 ghost use mathlib.Core.List.{List};
 ghost use Prim.Native.Nat.{ℕ, _<_, _+_, _*_};
@@ -193,9 +194,9 @@ fn guard_of(node: CommandNode) -> ActionNode
     }
 }
 
-// The action of an edge, decoded.
-pub fn action(graph: &[u16; GRAPH], e: u16) -> ActionNode
-    ensures { λ r. ⌜ r ≡ spec.actionIn (now (graph .entry)) e ⌝ }
+// The action of an edge that is no guard's of the deterministic graph, decoded; of one that is, nothing.
+pub fn plain_action(graph: &[u16; GRAPH], e: u16) -> ActionNode
+    ensures { λ r. ⌜ (spec.isGuardNode (spec.actionIn (now (graph .entry)) e) ≡ false → r ≡ spec.actionIn (now (graph .entry)) e) ⌝ }
 {
     let kind = edge_word(graph, e, 2);
     let entry = edge_word(graph, e, 3);
@@ -203,9 +204,20 @@ pub fn action(graph: &[u16; GRAPH], e: u16) -> ActionNode
         1 => performed(command_node(graph, COMMANDS, entry)),
         2 => ActionNode::Holds(entry),
         3 => ActionNode::Exit(entry),
-        4 => guard_of(command_node(graph, COMMANDS, entry)),
         _ => ActionNode::Nothing,
     }
+}
+
+// The action of an edge, decoded.
+pub fn action(graph: &[u16; GRAPH], e: u16) -> ActionNode
+    ensures { λ r. ⌜ r ≡ spec.actionIn (now (graph .entry)) e ⌝ }
+{
+    let kind = edge_word(graph, e, 2);
+    if kind == 4 {
+        let entry = edge_word(graph, e, 3);
+        return guard_of(command_node(graph, COMMANDS, entry));
+    }
+    plain_action(graph, e)
 }
 
 // Whether an action is a guard's of the deterministic graph.
@@ -220,6 +232,17 @@ pub fn is_guard(action: ActionNode) -> bool
         ActionNode::Exit(_) => false,
         ActionNode::Guard(_) => true,
     }
+}
+
+// Whether an edge is a guard's of the deterministic graph: its kind is looked at first, and tells of every other edge.
+pub fn guards(graph: &[u16; GRAPH], e: u16) -> bool
+    ensures { λ r. ⌜ r ≡ spec.isGuardNode (spec.actionIn (now (graph .entry)) e) ⌝ }
+{
+    let kind = edge_word(graph, e, 2);
+    if kind == 4 {
+        return is_guard(action(graph, e));
+    }
+    false
 }
 
 // The lowest edge out of a node; NONE, where there is none.

@@ -1,5 +1,5 @@
 -- The lowest defined edge out of a node is found and performed by following the links.
-use mathlib.Core.Path.{_≡_, sym, ap, subst, _∙_}
+use mathlib.Core.Path.{_≡_, sym, subst, _∙_}
 use mathlib.Core.Bool.{Bool, true, false}
 use mathlib.Core.List.{List}
 use Prim.Native.Nat.{ℕ, _<_, _≤_}
@@ -9,7 +9,6 @@ use lib.IntN.{ℤ}
 use lib.ListN.{getD}
 use Rattle.program.specs.Graph.{Graph}
 use Rattle.program.specs.Parts.Prepared.{edgeCountPlace, entriesIn, actionIn, decodedMeaning, isGuardNode, Prepared, Following}
-use Rattle.program.specs.declared.ActionNode.{ActionNode}
 use Rattle.semantics.specs.Action.{isDefined}
 use Rattle.semantics.specs.Budget.{lowestDefined}
 use Rattle.semantics.specs.Parts.Cells.{NumbersIn}
@@ -18,10 +17,6 @@ use Rattle.semantics.specs.Parts.Running.{Lowest}
 use Rattle.semantics.specs.Step.{edgeEffect}
 use Rattle.semantics.proofs.Edges.{first-leaving, none-leaving, edge-performs}
 use Rattle.semantics.proofs.Effects.{undefined-after}
-
--- whether an edge is a guard's of the deterministic graph, as the code asks it
-pub guard-told : {a x : ActionNode} {r b : Bool} → a ≡ x → r ≡ isGuardNode a → r ≡ b → isGuardNode x ≡ b
-guard-told p q s = sym (ap isGuardNode p) ∙ sym q ∙ s
 
 -- an edge out of a node is looked at: none before it is defined, nor a guard's of the deterministic graph, and the memory is as it was
 pub record Looking (ns : List ℕ) (g : Graph) (graph : List ℕ) (node : ℕ) (start m : List ℤ) (e : ℕ) : Type 0 where

@@ -86,10 +86,10 @@ fn take_lowest(
     let count = prepared::edge_count(graph);
     let mut e = prepared::first_edge(graph, node);
     while e < count {
-        let action = prepared::action(graph, e);
-        if prepared::is_guard(action) {
+        if prepared::guards(graph, e) {
             return first_true(code, graph, memory, e);
         }
+        let action = prepared::plain_action(graph, e);
         if action::perform(code, graph, memory, action) {
             return e;
         }

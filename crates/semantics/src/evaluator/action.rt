@@ -160,11 +160,11 @@ pub(crate) fn edge_effect(
     ensures { λ r. ⌜ coding.EffectIn (now (code .entry)) (now (memory .entry))
         (made.edgeMeaning (made.entriesIn (now (code .entry)) (now (graph .entry))) (now (graph .entry)) e) r ⌝ }
 {
-    let action = prepared::action(graph, e);
-    if prepared::is_guard(action) {
+    if prepared::guards(graph, e) {
         let v = selection::selected(code, graph, memory, e);
         return passed(v);
     }
+    let action = prepared::plain_action(graph, e);
     effect(code, graph, memory, action)
 }
 

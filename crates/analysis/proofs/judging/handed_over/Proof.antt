@@ -6,7 +6,7 @@ use Rattle.analysis.proofs.judging.handed_over.Tie as tie
 
 returns : tie.Need-returns
 unfolding handedOver
-returns c = rw (c .before .enum-told .given .1) (c .is-guard .ensures)
+returns c = rw (c .before .enum-told .given .1) (c .guards .ensures)
 
 returns-2 : tie.Need-returns-2
 unfolding handedOver

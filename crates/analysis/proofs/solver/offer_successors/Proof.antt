@@ -40,13 +40,13 @@ inside : (c : tie.In-loop Inv-loop μ-loop) → c .before .loop .e < getD (c .be
 inside c = omega (arith, c .loop-test .taken, c .before .before .before .edge-count .ensures)
 
 -- whether it is a guard's of the deterministic graph
-guard : (c : tie.After-is-guard Inv-loop μ-loop) {b : Bool} → c .is-guard .result ≡ b
-    → isGuardNode (actionIn (c .before .before .before .before .before .before .before .args .graph .now) (c .before .before .before .loop .e)) ≡ b
-guard c t = sym (ap isGuardNode (c .before .action .ensures)) ∙ sym (c .is-guard .ensures) ∙ t
+guard : (c : tie.After-guards Inv-loop μ-loop) {b : Bool} → c .guards .result ≡ b
+    → isGuardNode (actionIn (c .before .before .before .before .before .before .args .graph .now) (c .before .before .loop .e)) ≡ b
+guard c t = sym (c .guards .ensures) ∙ t
 
 offer-guarded-requires : tie.Need-offer-guarded-requires Inv-loop μ-loop
 offer-guarded-requires c κs =
-    let l = c .before .before .before .before .before .before in
+    let l = c .before .before .before .before .before in
     let s = l .before .before .before .before in
     (s .pre .0, l .loop .inv .1 .growing, s .pre .2, s .pre .3)
 
@@ -54,7 +54,7 @@ returns : tie.Need-returns Inv-loop μ-loop
 returns c =
     let o = c .before .before in
     let test = o .before .before .before in
-    let i = test .before .before .before in
+    let i = test .before .before in
     let l = i .before .loop in
     let w = i .before .before .before .before .before .pre .0 in (
       extended-more _ (l .inv .1) (o .offer-guarded .ensures .0),
@@ -78,9 +78,11 @@ loop-less c =
 loop-again : tie.Need-loop-again Inv-loop μ-loop
 loop-again c =
     let o = c .before .before .before in
-    let test = o .before .before .before in
-    let act = test .before .before in
-    let i = act .before in
+    let act = o .before .before .before in
+    let test = act .before in
+    let i = test .before .before in
+    let plain = guard (test .before) (test .if1 .left) in
+    let told = act .plain-action .ensures plain in
     let l = i .before .loop in
     let w = i .before .before .before .before .before .pre .0 in
     let h = inside i in
@@ -89,8 +91,8 @@ loop-again c =
       extended-more _ (l .inv .1) (o .offer-edge .ensures .0),
       λ ns g ρ room x y q.
           next-along w _ x _ _ (l .e) h (l .inv .0 h) (l .inv .2 ns g ρ room x y q)
-          (o .offer-edge .ensures .1 ns g ρ room x y (l .inv .1 .room ∙ q) (omega (arith, h, x .edges)) (act .action .ensures) (sym (test .before .is-guard .ensures) ∙ test .if1 .left)),
-      λ low. next-is-followed w _ _ (l .e) h (l .inv .3 low) (guard (test .before) (test .if1 .left)),
+          (o .offer-edge .ensures .1 ns g ρ room x y (l .inv .1 .room ∙ q) (omega (arith, h, x .edges)) told (ap isGuardNode told ∙ plain)),
+      λ low. next-is-followed w _ _ (l .e) h (l .inv .3 low) plain,
     )
 
 returns-2 : tie.Need-returns-2 Inv-loop μ-loop
@@ -104,5 +106,5 @@ returns-2 c =
 pub offer-successors-spec : {M : Type 1} → statement M
 offer-successors-spec =
     tie.close
-    (tie.spec Inv-loop μ-loop (λ c κs. search needs) (λ c κs. search needs) loop-holds (λ c κs. search needs) (λ c κs. search needs) offer-guarded-requires (λ c. search needs) returns
+    (tie.spec Inv-loop μ-loop (λ c κs. search needs) (λ c κs. search needs) loop-holds (λ c κs. search needs) offer-guarded-requires (λ c. search needs) returns (λ c κs. search needs)
     offer-edge-requires (λ c κs. search needs) loop-less loop-again (λ c. search needs) returns-2)

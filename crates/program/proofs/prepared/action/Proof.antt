@@ -2,36 +2,23 @@
 use borrow.Author.Needs.{needs}
 use mathlib.Core.Path.{sym, ap, _∙_}
 use mathlib.Core.List.{[]}
-use Rattle.program.specs.Parts.Prepared.{performed, guardForm, actionForm, actionIn}
-use Rattle.program.proofs.Readings.{action-other}
+use Rattle.program.specs.Parts.Prepared.{guardForm, actionForm, actionIn}
+use Rattle.program.proofs.Readings.{action-plain}
 use Rattle.program.proofs.prepared.action.Statement.{statement}
 use Rattle.program.proofs.prepared.action.Tie as tie
 
 returns : tie.Need-returns
 unfolding actionIn actionForm
 returns c =
-    let k = c .before .before in
-    rw (sym (k .before .before .edge-word .ensures) ∙ k .match .keys1, ← k .before .edge-word2 .ensures) (c .performed .ensures ∙ ap performed (c .before .command-node .ensures []))
+    let n = c .before in
+    let k = n .before in
+    rw (sym (k .before .before .edge-word .ensures) ∙ k .before .if1 .taken, ← k .edge-word2 .ensures) (c .guard-of .ensures ∙ ap guardForm (n .command-node .ensures []))
 
 returns-2 : tie.Need-returns-2
-unfolding actionIn actionForm
-returns-2 c = rw (sym (c .before .before .edge-word .ensures) ∙ c .match .keys2, ← c .before .edge-word2 .ensures)
-
-returns-3 : tie.Need-returns-3
-unfolding actionIn actionForm
-returns-3 c = rw (sym (c .before .before .edge-word .ensures) ∙ c .match .keys3, ← c .before .edge-word2 .ensures)
-
-returns-4 : tie.Need-returns-4
-unfolding actionIn actionForm
-returns-4 c =
-    let k = c .before .before in
-    rw (sym (k .before .before .edge-word .ensures) ∙ k .match .keys4, ← k .before .edge-word2 .ensures) (c .guard-of .ensures ∙ ap guardForm (c .before .command-node2 .ensures []))
-
-returns-5 : tie.Need-returns-5
 unfolding actionIn
-returns-5 c = rw (← c .before .before .edge-word .ensures) (action-other _ _ _ (c .match .rest))
+returns-2 c = c .plain-action .ensures (action-plain _ _ _ (λ k. c .before .if1 .left (c .before .before .edge-word .ensures ∙ k)))
 
 pub action-spec : {M : Type 1} → statement M
 action-spec =
     tie.close
-    (tie.spec (λ c κs. search needs) (λ c κs. search needs) (λ c κs. search needs) (λ c κs. search needs) (λ c κs. search needs) (λ c κs. search needs) returns returns-2 returns-3 returns-4 returns-5)
+    (tie.spec (λ c κs. search needs) (λ c κs. search needs) (λ c κs. search needs) (λ c κs. search needs) returns (λ c κs. search needs) returns-2)

@@ -1,7 +1,7 @@
 -- `running::take_lowest`: the links are followed up to the first edge that is performed.
 use Prim.Native.Nat.{ℕ, _-_, _<_}
 use mathlib.Core.Bool.{false}
-use mathlib.Core.Path.{_≡_, refl}
+use mathlib.Core.Path.{_≡_, refl, sym, _∙_}
 use mathlib.Core.List.{List}
 use native.Mathlib.Omega.{arith}
 use lib.ListN.{getD}
@@ -9,7 +9,7 @@ use Rattle.program.specs.Graph.{Graph}
 use Rattle.program.specs.Parts.Prepared.{edgeCountPlace, actionIn, isGuardNode, Prepared}
 use Rattle.program.proofs.Laws.{first-is-followed, next-is-followed, next-is-beyond}
 use Rattle.semantics.specs.Parts.Cells.{NumbersIn}
-use Rattle.semantics.proofs.Choosing.{guard-told, Looking, none-taken, taken-here, undefined-here, unchanged-here}
+use Rattle.semantics.proofs.Choosing.{Looking, none-taken, taken-here, undefined-here, unchanged-here}
 use Rattle.semantics.proofs.Opened.{opens}
 use Rattle.semantics.proofs.running.take_lowest.Statement.{statement}
 use Rattle.semantics.proofs.running.take_lowest.Tie as tie
@@ -38,22 +38,22 @@ returns : tie.Need-returns Inv-loop μ-loop
 returns c ns g p numbers h =
     let test = c .before .before in
     let asked = test .before in
-    let at = asked .before .before in
+    let at = asked .before in
     let here = at .before .loop .inv ns g p numbers h in
     rw (← here .memory)
-    (c .first-true .ensures ns g _ p (rw (here .memory) numbers) (opens p (here .unguarded) (there at) (guard-told (asked .before .action .ensures) (asked .is-guard .ensures) (test .if1 .taken))))
+    (c .first-true .ensures ns g _ p (rw (here .memory) numbers) (opens p (here .unguarded) (there at) (sym (asked .guards .ensures) ∙ test .if1 .taken)))
 
 -- the edge is no guard's of the deterministic graph
-plain : (c : tie.Else1 Inv-loop μ-loop) → isGuardNode (actionIn (c .before .before .before .before .before .before .before .args .graph .now) (c .before .before .before .before .loop .e)) ≡ false
-plain c = guard-told (c .before .before .action .ensures) (c .before .is-guard .ensures) (c .if1 .left)
+plain : (c : tie.Else1 Inv-loop μ-loop) → isGuardNode (actionIn (c .before .before .before .before .before .before .args .graph .now) (c .before .before .before .loop .e)) ≡ false
+plain c = sym (c .before .guards .ensures) ∙ c .if1 .left
 
 returns-2 : tie.Need-returns-2 Inv-loop μ-loop
 returns-2 c ns g p numbers h =
     let tried = c .before in
-    let test = tried .before .before in
-    let act = test .before .before in
-    let at = act .before in
-    taken-here p (at .before .loop .inv ns g p numbers h) numbers (there at) (plain test) (rw (act .action .ensures) at (tried .perform .ensures)) (c .if2 .taken)
+    let act = tried .before .before in
+    let test = act .before in
+    let at = test .before .before in
+    taken-here p (at .before .loop .inv ns g p numbers h) numbers (there at) (plain test) (rw (act .plain-action .ensures (plain test)) at (tried .perform .ensures)) (c .if2 .taken)
 
 loop-less : tie.Need-loop-less Inv-loop μ-loop
 loop-less c =
@@ -64,12 +64,12 @@ loop-less c =
 loop-again : tie.Need-loop-again Inv-loop μ-loop
 loop-again c ns g p numbers h =
     let tried = c .before .before in
-    let test = tried .before .before in
-    let act = test .before .before in
-    let at = act .before in
+    let act = tried .before .before in
+    let test = act .before in
+    let at = test .before .before in
     let linked = at .before .before .before .before .pre .1 in
     let here = at .before .loop .inv ns g p numbers h in
-    let found = rw (act .action .ensures) at (tried .perform .ensures) in
+    let found = rw (act .plain-action .ensures (plain test)) at (tried .perform .ensures) in
     record {
       following = rw (c .next-edge .ensures)
           (next-is-followed linked _ _ (at .before .loop .e) (there at) (here .following) (undefined-here p here numbers (there at) (plain test) found (c .before .if2 .left)));
@@ -83,5 +83,5 @@ returns-3 c ns g p numbers h = none-taken p (c .before .loop .inv ns g p numbers
 pub take-lowest-spec : {M : Type 1} → statement M
 take-lowest-spec =
     tie.close
-    (tie.spec Inv-loop μ-loop (λ c κs. tt) (λ c κs. tt) loop-holds (λ c κs. tt) (λ c κs. tt) (λ c κs. c .before .before .before .before .before .before .before .before .pre) returns
+    (tie.spec Inv-loop μ-loop (λ c κs. tt) (λ c κs. tt) loop-holds (λ c κs. tt) (λ c κs. c .before .before .before .before .before .before .before .pre) returns (λ c κs. tt)
     (λ c κs. c .before .before .before .before .before .before .before .before .pre .0) returns-2 (λ c κs. tt) loop-less loop-again returns-3)
