@@ -21,7 +21,7 @@ use program::prepared::{CODE, GRAPH, NAMES_MOST};
 use program::{Construction, First, Refusal, Validity, drawing, file, prepared, validation};
 
 // What is looked for, in the records of a solution and the edges out of their nodes: 42, or the index mark. The index is read for 42 alone.
-#[derive(Drop)]
+#[derive(Clone, Copy)]
 enum Query {
     MissingResult,
     NegativeIndex,

@@ -21,7 +21,7 @@ use program::prepared::{CODE, GRAPH, NAMES_MOST};
 use program::{ActionNode, Construction, Refusal, Validity, drawing, file, prepared, validation};
 
 // How far the list has come: how many records were found, how many there is room for, and whether one had none.
-#[derive(Drop)]
+#[derive(Clone, Copy)]
 struct Progress {
     count: usize,
     room: usize,

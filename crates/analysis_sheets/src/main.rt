@@ -14,6 +14,8 @@
 //    answers and, for the run before the first call and after each, whether the sheet has the memory's record at the run's node; then the sheet's index mark.
 //
 // 16 more asks modes 1, 3 and 5 for document 01's graph by name, 32 more for the deterministic one.
+#![tactic(auto)]
+
 use analysis::{
     Mark, Marking, RecordList, Solved, Solving, Split, Verdict, WrongByte, judging, solver,
     splitting,
@@ -22,7 +24,7 @@ use program::{Construction, Refusal, Validity, drawing, file};
 use semantics::{Run, Stepped};
 
 // What the first twelve bytes of a case say: lengths are in bytes.
-#[derive(Drop)]
+#[derive(Clone, Copy)]
 struct Head {
     mode: u8,
     title: usize,

@@ -1,6 +1,8 @@
 // What the test programs read: cases, each with a title, out of a file that `oracle/` makes. Numbers have the high byte first.
 //
 // What is read can be anything, so that reading has no contract but to be safe.
+#![tactic(auto)]
+
 use program::{decoding, file};
 
 // Reads so many bytes into the front of an array and says how many came: none where the array is shorter.

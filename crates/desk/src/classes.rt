@@ -16,7 +16,7 @@ const FIGURES: usize = 10;
 
 // A count and two sums into a reply, from a place on.
 fn put_totals(count: u32, sum: i64, squares: i64, at: usize, reply: &mut [i64])
-    requires* { do ⌜ at + 3 ≤ (← ⟦reply.len()⟧) ⌝ }
+    requires { at + 3 ≤ length reply.old }
     ensures { reply.new ≡ spec.over_at at (Class.totals_numbers (sums.class count sum squares)) reply.old }
 {
     reply[at] = count as i64;
@@ -26,7 +26,7 @@ fn put_totals(count: u32, sum: i64, squares: i64, at: usize, reply: &mut [i64])
 
 // Two numbers into a reply, from a place on.
 fn put_two(a: i64, b: i64, at: usize, reply: &mut [i64])
-    requires* { do ⌜ at + 2 ≤ (← ⟦reply.len()⟧) ⌝ }
+    requires { at + 2 ≤ length reply.old }
     ensures { reply.new ≡ spec.over_at at (a ∷ b ∷ []) reply.old }
 {
     reply[at] = a;
@@ -35,7 +35,7 @@ fn put_two(a: i64, b: i64, at: usize, reply: &mut [i64])
 
 // Totals, mean and variance into a reply, from a place on.
 fn put_from(totals: Totals, mean: Fraction, variance: Fraction, at: usize, reply: &mut [i64])
-    requires* { do ⌜ at + 7 ≤ (← ⟦reply.len()⟧) ⌝ }
+    requires { at + 7 ≤ length reply.old }
     ensures { reply.new
         ≡ spec.over_at at (Class.totals_numbers totals ++ Class.fraction_numbers mean ++ Class.fraction_numbers variance) reply.old }
 {

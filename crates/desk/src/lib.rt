@@ -1,4 +1,5 @@
 // The engine as a C library: each operation on numbers and slices. A call returns how it went, and writes a row of one length with one meaning at each place.
+#![tactic(auto)]
 
 pub mod classes;
 pub mod files;
@@ -11,7 +12,7 @@ ghost use Rattle.std.specs.Prelude.{◌≡◌};
 ghost use Rattle.desk.specs.Rows as row;
 
 // How a call went: answered, refused with a question's number and place, or with 17, the number of a list and a place in it.
-#[derive(Drop)]
+#[derive(Clone, Copy)]
 pub(crate) enum Head {
     Answered(u32),
     Refused(u8, u32),

@@ -1,4 +1,5 @@
 // Class figures: the mean and the variance of final marks, without rounding, of a list of marks and of two classes joined.
+#![tactic(auto)]
 
 pub(crate) mod adding;
 pub mod class;
@@ -7,7 +8,7 @@ pub(crate) mod reducing;
 use program::Validity;
 
 // A class's totals: the number of its marks, their sum, and the sum of their squares.
-#[derive(Drop)]
+#[derive(Clone, Copy)]
 pub struct Totals {
     pub count: u32,
     pub sum: i64,
@@ -15,14 +16,14 @@ pub struct Totals {
 }
 
 // A numerator over a denominator.
-#[derive(Drop)]
+#[derive(Clone, Copy)]
 pub struct Fraction {
     pub numerator: i64,
     pub denominator: i64,
 }
 
 // What is replied of a class: where it is refused, the totals are zero and both fractions 0 over 1.
-#[derive(Drop)]
+#[derive(Clone, Copy)]
 pub struct Figures {
     pub validity: Validity,
     pub totals: Totals,

@@ -7,6 +7,8 @@
 // 2. the figures of two classes joined: of each the count in four bytes, the sum and the sum of squares in eight bytes each.
 //
 // A line has the answer, which is 0 or a refusal's number and place, then count, sum and sum of squares, and then the mean and the variance, each numerator first.
+#![tactic(auto)]
+
 use figures::{Figures, Fraction, Totals, class};
 use program::{Refusal, Validity, file};
 

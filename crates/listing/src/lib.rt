@@ -1,5 +1,7 @@
 // What the sheet program prints (document 01, "The sheet program and the factorial lesson"): the solver's list for a script and its start list, or one
 // refusal. `specs/Text` has the bytes, and `render` promises them for any input. What is trusted beside it is that the C library reads and writes.
+#![tactic(auto)]
+
 mod lines;
 mod text;
 

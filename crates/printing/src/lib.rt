@@ -1,6 +1,8 @@
 // What the test programs print, on standard output: text, numbers, and the engine's answers in document 01's words. The sheet program's text is `listing`'s.
 //
 // A function that prints has no contract: the C library's `write` promises how much it took, and nothing of what was written.
+#![tactic(auto)]
+
 ghost use Rattle.std.specs.Prelude.{◌≡◌, nat_abs};
 
 use analysis::Mark;

@@ -1,4 +1,5 @@
 // Script and graph: a program file read and validated, its syntax trees, and its program graph.
+#![tactic(auto)]
 
 pub mod decoding;
 pub mod drawing;
@@ -11,7 +12,7 @@ pub mod validation;
 use signs::{Comparison, Operator};
 
 // The three tables of entries of a file.
-#[derive(Drop)]
+#[derive(Clone, Copy)]
 pub enum Table {
     Arithmetic,
     Boolean,
@@ -19,7 +20,7 @@ pub enum Table {
 }
 
 // An entry of a table: its kind and three operands.
-#[derive(Drop)]
+#[derive(Clone, Copy)]
 pub struct Entry {
     pub kind: u8,
     pub p: u16,
@@ -28,14 +29,14 @@ pub struct Entry {
 }
 
 // Where the content of a field starts, and how many entries it has.
-#[derive(Drop)]
+#[derive(Clone, Copy)]
 pub struct Span {
     pub start: usize,
     pub count: u16,
 }
 
 // Where a file has its names and its tables.
-#[derive(Drop)]
+#[derive(Clone, Copy)]
 pub struct Layout {
     pub names: Span,
     pub arithmetic: Span,
@@ -44,7 +45,7 @@ pub struct Layout {
 }
 
 // The sorts of entries that an operand can refer to.
-#[derive(Drop)]
+#[derive(Clone, Copy)]
 pub enum Sort {
     Expression,
     Condition,
@@ -53,28 +54,28 @@ pub enum Sort {
 }
 
 // The number of the question whose answer is no, and the byte of the file that it concerns (0 where the question has no place).
-#[derive(Drop)]
+#[derive(Clone, Copy)]
 pub struct Refusal {
     pub number: u8,
     pub offset: usize,
 }
 
 // The answer to the questions.
-#[derive(Drop)]
+#[derive(Clone, Copy)]
 pub enum Validity {
     Fit,
     Refused(Refusal),
 }
 
 // The first number that passes a test, or that there is none.
-#[derive(Drop)]
+#[derive(Clone, Copy)]
 pub enum First {
     At(u16),
     Nothing,
 }
 
 // What drawing the graph replies: the counts are zero where it is refused.
-#[derive(Drop)]
+#[derive(Clone, Copy)]
 pub struct Drawn {
     pub validity: Validity,
     pub nodes: u16,
@@ -82,7 +83,7 @@ pub struct Drawn {
 }
 
 // What an arithmetic entry is: a number, a variable, an element of an array at an index entry, or an operator on two entries.
-#[derive(Drop)]
+#[derive(Clone, Copy)]
 pub enum ArithNode {
     Number(i32),
     Variable(u16),
@@ -91,7 +92,7 @@ pub enum ArithNode {
 }
 
 // What a boolean entry is: true, a comparison of two arithmetic entries, b ∧ b, b && b, or ¬ b.
-#[derive(Drop)]
+#[derive(Clone, Copy)]
 pub enum BooleanNode {
     True,
     Comparison(Comparison, u16, u16),
@@ -101,7 +102,7 @@ pub enum BooleanNode {
 }
 
 // The two jumps, of the innermost do around them: break to its last node, continue to its first.
-#[derive(Drop)]
+#[derive(Clone, Copy)]
 pub enum Jump {
     Break,
     Continue,
@@ -109,14 +110,14 @@ pub enum Jump {
 
 // The two ways to draw a program's graph: document 01's, in which guards that hold together leave a choice, and the deterministic one, in which a guard is
 // passed only where all earlier guards of its if or do are false.
-#[derive(Drop)]
+#[derive(Clone, Copy)]
 pub enum Construction {
     Nondeterministic,
     Deterministic,
 }
 
 // What a command entry is.
-#[derive(Drop)]
+#[derive(Clone, Copy)]
 pub enum CommandNode {
     Skip,
     Assign(u16, u16),
@@ -131,7 +132,7 @@ pub enum CommandNode {
 
 // What an edge's action is: nothing, an assignment, a store, a condition that must hold, the exit of the do whose operand is a command entry, or, in the
 // deterministic graph, a guard's own condition, before which those of the lower edges out of its node must fail.
-#[derive(Drop)]
+#[derive(Clone, Copy)]
 pub enum ActionNode {
     Nothing,
     Assign(u16, u16),
@@ -142,7 +143,7 @@ pub enum ActionNode {
 }
 
 // The four numbers of an edge, as its bytes give them: source and target, the action's kind and its entry.
-#[derive(Drop)]
+#[derive(Clone, Copy)]
 pub struct EdgeBytes {
     pub source: u16,
     pub target: u16,
@@ -151,7 +152,7 @@ pub struct EdgeBytes {
 }
 
 // What is allowed of a field: its tag, the bytes of an entry, and how many entries.
-#[derive(Drop)]
+#[derive(Clone, Copy)]
 pub struct Field {
     pub tag: u8,
     pub width: u16,
@@ -160,7 +161,7 @@ pub struct Field {
 }
 
 // The head of a field: where it starts, its tag and its content's length, and where its content and the next field start.
-#[derive(Drop)]
+#[derive(Clone, Copy)]
 pub struct FieldHead {
     pub start: usize,
     pub tag: u8,
@@ -170,14 +171,14 @@ pub struct FieldHead {
 }
 
 // What stands at a place of a file: fewer bytes than a head has (with the place), or the head of a field.
-#[derive(Drop)]
+#[derive(Clone, Copy)]
 pub enum Head {
     Short(usize),
     Found(FieldHead),
 }
 
 // What stands at the four fields of a program and after them, where the sheet program's input has its start list.
-#[derive(Drop)]
+#[derive(Clone, Copy)]
 pub struct FieldHeads {
     pub names: Head,
     pub arithmetic: Head,
@@ -187,7 +188,7 @@ pub struct FieldHeads {
 }
 
 // The field reader: a file's bytes and a place in them.
-#[derive(Drop)]
+#[derive(Clone, Copy)]
 pub struct FieldReader<'a> {
     pub bytes: &'a [u8],
     pub at: usize,

@@ -4,6 +4,8 @@
 // Numbers have the high byte first. The mode says what is asked of the file: 1 its edges, 2 its graph drawn into a buffer of so much room,
 // 3 the questions of the sheet program's input, 4 what the crates above read of a program, 5 the parts of the sheet program's input and its fields' heads. 16 more
 // asks for document 01's graph by name, 32 more for the deterministic one.
+#![tactic(auto)]
+
 use program::{
     Drawn, EdgeBytes, Entry, FieldHead, Head, Table, Validity, drawing, file, reader, validation,
 };

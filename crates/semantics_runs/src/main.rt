@@ -5,11 +5,13 @@
 // number of an edge, two bytes. Numbers have the high byte first. Mode 1 is a run from node 0 whose budget is the first number; mode 2 is the
 // step calls in turn, from a run whose node is the first number and whose count is the second. 16 more asks for document 01's graph by name, 32 more for the
 // deterministic one.
+#![tactic(auto)]
+
 use program::{drawing, file};
 use semantics::{Ended, Ending, Run, Stepped, running};
 
 // What the first twelve bytes of a record say: lengths are in bytes.
-#[derive(Drop)]
+#[derive(Clone, Copy)]
 struct Head {
     mode: u8,
     title: usize,

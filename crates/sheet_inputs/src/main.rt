@@ -1,4 +1,5 @@
 // The sheet program's answers to many inputs: for each argument, the name of a file that `oracle/` makes, its name and what the sheet program prints of it.
+#![tactic(auto)]
 
 fn print_named(path: &[u8]) {
     let fd = os::open_read(path);

@@ -1,4 +1,6 @@
 // Runs the ends of the range, zero, one and minus one through all five operators, a line for each case: operator, left, right, value.
+#![tactic(auto)]
+
 use signs::{Operator, Value, number};
 
 const LEAST: i32 = -2147483648;
