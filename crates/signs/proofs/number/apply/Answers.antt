@@ -7,8 +7,8 @@ use Rattle.signs.specs.declared.Value.{Value}
 use Rattle.signs.proofs.number.apply.Goals as goal
 
 -- the value, and the same in document 01's numbers
-numbered : {v w : Value} → v ≡ w → (v ≡ w) × (value_numbers v ≡ value_numbers w)
-numbered e = (e, ap value_numbers e)
+numbered : {v w : Value} → v ≡ w → record { value : v ≡ w; numbers : value_numbers v ≡ value_numbers w }
+numbered e = record { value = e; numbers = ap value_numbers e }
 
 pub overflow_add-x : goal.overflow_add-x
 overflow_add-x c =
