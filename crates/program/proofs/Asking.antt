@@ -109,5 +109,5 @@ unfolding ask_each
 each_same = first_same is_refused Fit
 
 -- the promise of an answer, as it is and in document 01's numbers
-pub numbered : {v w : Validity} → v ≡ w → (v ≡ w) × (validity_numbers v ≡ validity_numbers w)
-numbered e = (e, ap validity_numbers e)
+pub numbered : {v w : Validity} → v ≡ w → record { value : v ≡ w; numbers : validity_numbers v ≡ validity_numbers w }
+numbered e = record { value = e; numbers = ap validity_numbers e }

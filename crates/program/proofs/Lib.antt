@@ -1,7 +1,5 @@
 pub mod Tests
 pub mod Never
-pub mod Held
-pub mod Walking
 pub mod Induction
 pub mod Lists
 pub mod Sums

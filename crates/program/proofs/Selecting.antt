@@ -1,7 +1,7 @@
 -- Edges after others at their node: what holds of the edges before one, by their numbers; a guard after earlier ones and an exit as a test of each guard; and, of a
 -- prepared graph, that an edge's earlier guards are the guards of the lower edges out of its node.
 use mathlib.Core.Path.{◌≡◌, refl, sym, ◌∙◌, ap, subst}
-use mathlib.Core.Bool.{Bool, true, false, false≢true, cond, ◌&&◌, ◌||◌, and_true}
+use mathlib.Core.Bool.{Bool, true, false, false≢true, cond, ◌&&◌, ◌||◌, and-true}
 use mathlib.Core.List.{List, [], ◌∷◌, ◌++◌, flat_map, foldl, append-nil}
 use Prim.Native.Nat.{ℕ, zero, suc, ◌≤◌, ◌<◌}
 use native.Mathlib.Decide.{ℕ_discrete, dec_lt}
@@ -311,6 +311,6 @@ module _ {ns : List ℕ} {g : Graph} {code graph : List ℕ} (p : Prepared ns g 
                   λ {h = v} j.
                   done_all j c
                   ∙ ap (all_of (λ b. v (negation 0 b))) (sym (guards_before f h (all_selects k.0) ∙ k.1))
-                  ∙ sym (ap (λ b. all_of (λ g. v (negation 0 g)) (lower f) && v b) (own_other (entries_in code graph) (lower f) (action_in graph f) u) ∙ ap (λ b. all_of (λ g. v (negation 0 g)) (lower f) && b) (j.yes 0) ∙ and_true (all_of (λ g. v (negation 0 g)) (lower f)));
+                  ∙ sym (ap (λ b. all_of (λ g. v (negation 0 g)) (lower f) && v b) (own_other (entries_in code graph) (lower f) (action_in graph f) u) ∙ ap (λ b. all_of (λ g. v (negation 0 g)) (lower f) && b) (j.yes 0) ∙ and-true (all_of (λ g. v (negation 0 g)) (lower f)));
             }
         by (select n earlier b) u k q = guard_guarded f h u

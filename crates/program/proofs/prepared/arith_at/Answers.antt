@@ -1,0 +1,8 @@
+-- `prepared::arith_at` meets its contract.
+use Rattle.program.specs.Kind.{arith_kind}
+use Rattle.program.specs.Parts.Prepared.{numbers_at, arith_in}
+use Rattle.program.proofs.prepared.arith_at.Goals as goal
+
+pub returns : goal.returns
+unfolding arith_in arith_kind numbers_at
+returns c = c.arith_kind.ensures

@@ -1,0 +1,12 @@
+-- `prepared::next_edge` meets its contract.
+use borrow.Author.Tests.{lt-ltb, le-ltb}
+use Rattle.program.specs.Parts.Prepared.{next_in}
+use Rattle.program.proofs.prepared.next_edge.Goals as goal
+
+pub returns-then-e-lt-NONE : goal.returns-then-e-lt-NONE
+unfolding next_in
+returns-then-e-lt-NONE c = rw (lt-ltb _ _ c.if-e-lt-NONE.true)
+
+pub returns-else-e-lt-NONE : goal.returns-else-e-lt-NONE
+unfolding next_in
+returns-else-e-lt-NONE c = rw (le-ltb _ _ c.if-e-lt-NONE.false)

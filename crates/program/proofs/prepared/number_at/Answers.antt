@@ -1,0 +1,29 @@
+-- `prepared::number_at` meets its contract.
+use borrow.Author.Tests.{le-ltb}
+use mathlib.Core.Path.{sym, ◌∙◌}
+use mir.Syntax.{w32}
+use mir.ValLaws.{to_z-of_z}
+use Rattle.program.specs.Parts.Prepared.{number_of, number_in}
+use Rattle.program.proofs.Readings.{number_told}
+use Rattle.program.proofs.prepared.number_at.Goals as goal
+
+pub returns-then-n-ge-EXPRESSIONS : goal.returns-then-n-ge-EXPRESSIONS
+unfolding number_in
+returns-then-n-ge-EXPRESSIONS c = rw (le-ltb _ _ c.if-n-ge-EXPRESSIONS.true)
+
+pub returns-in-Number : goal.returns-in-Number
+unfolding number_of
+returns-in-Number c =
+    to_z-of_z w32 _ (record { sfits = c.known_told-1.given.0.1 }) ∙ sym (number_told _ _ c.if-n-ge-EXPRESSIONS.false c.arith_at-node.ensures c.in-Number.is)
+
+pub returns-in-Variable : goal.returns-in-Variable
+unfolding number_of
+returns-in-Variable c = sym (number_told _ _ c.if-n-ge-EXPRESSIONS.false c.arith_at-node.ensures c.in-Variable.is)
+
+pub returns-in-Element : goal.returns-in-Element
+unfolding number_of
+returns-in-Element c = sym (number_told _ _ c.if-n-ge-EXPRESSIONS.false c.arith_at-node.ensures c.in-Element.is)
+
+pub returns-in-Operator : goal.returns-in-Operator
+unfolding number_of
+returns-in-Operator c = sym (number_told _ _ c.if-n-ge-EXPRESSIONS.false c.arith_at-node.ensures c.in-Operator.is)

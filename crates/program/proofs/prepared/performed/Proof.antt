@@ -1,9 +1,0 @@
--- `prepared::performed` meets its contract.
-use borrow.Author.Rules.{rules}
-use Rattle.program.specs.Parts.Prepared.{performed}
-use Rattle.program.proofs.prepared.performed.Statement.{statement}
-use Rattle.program.proofs.prepared.performed.Tie as tie
-
-pub performed-spec : {M : Type 1} → statement M
-unfolding performed
-performed-spec = tie.close (tie.spec (λ c. search rules) (λ c. search rules) (λ c. search rules) (λ c. search rules) (λ c. search rules) (λ c. search rules) (λ c. search rules) (λ c. search rules) (λ c. search rules) (λ c. rw c.enum_told.given.1) (λ c. rw c.before.node.given.1) (λ c. rw c.before.node2.given.1) (λ c. rw c.enum-told2.given.1) (λ c. rw c.enum-told3.given.1) (λ c. rw c.enum-told4.given.1) (λ c. rw c.enum-told5.given.1) (λ c. rw c.enum-told6.given.1) (λ c. rw c.enum-told7.given.1))

@@ -1,0 +1,87 @@
+-- `program::validation::check_entries` meets its contract.
+use Prim.Native.Nat.{ℕ}
+use mathlib.Core.List.{List}
+use mathlib.Core.Path.{◌≡◌, refl, sym, ◌∙◌}
+use Rattle.program.specs.Asking.{in_turn}
+use Rattle.program.specs.File.{entry_count}
+use Rattle.program.specs.Parts.Counting.{UsesIn}
+use Rattle.program.specs.Parts.Jumping.{NotedTo}
+use Rattle.program.specs.Questions.{table_validity}
+use Rattle.program.specs.declared.Table.TheVariants.{Arithmetic, Boolean, Commands}
+use Rattle.program.specs.declared.Validity.TheVariants.{Fit}
+use Rattle.program.proofs.Asking.{stops, stopped, answered, passed, last_asked}
+use Rattle.program.proofs.Counting.{counted_all}
+use Rattle.program.proofs.Noting.{noted_then}
+use Rattle.program.proofs.validation.check_entries.Goals as goal
+use Rattle.program.proofs.validation.check_entries.Goals.{Else-refused, Else-refused-2, Else-refused-3}
+
+-- the tables that were answered yes
+arithmetic_fit : (c : Else-refused) → table_validity c.args.s.now Arithmetic ≡ Fit
+arithmetic_fit c = answered c.check_table-arithmetic.ensures.checked.valid c.refused.ensures c.if-refused.false
+
+boolean_fit : (c : Else-refused-2) → table_validity c.args.s.now Boolean ≡ Fit
+boolean_fit c = answered c.check_table-boolean.ensures.checked.valid c.refused-2.ensures c.if-refused-2.false
+
+commands_fit : (c : Else-refused-3) → table_validity c.args.s.now Commands ≡ Fit
+commands_fit c = answered c.check_table-commands.ensures.checked.valid c.refused-3.ensures c.if-refused-3.false
+
+arithmetic_fit_3 : (c : Else-refused-3) → table_validity c.args.s.now Arithmetic ≡ Fit
+arithmetic_fit_3 c = answered c.check_table-arithmetic.ensures.checked.valid c.refused.ensures c.if-refused.false
+
+boolean_fit_3 : (c : Else-refused-3) → table_validity c.args.s.now Boolean ≡ Fit
+boolean_fit_3 c = answered c.check_table-boolean.ensures.checked.valid c.refused-2.ensures c.if-refused-2.false
+
+-- the operands of all three are counted, and it is noted whether a command may be a jump
+all_counted : (c : Else-refused-3) → UsesIn c.args.s.now c.check_table-commands.new.uses
+all_counted c =
+    let a = c.check_table-arithmetic.ensures.checked in
+    let b = c.check_table-boolean.ensures.checked in
+    let d = c.check_table-commands.ensures.checked in
+    counted_all _ _ _ _ (a.counted (a.valid ∙ arithmetic_fit_3 c)) (b.counted (b.valid ∙ boolean_fit_3 c)) (d.counted (d.valid ∙ commands_fit c))
+
+all_noted : (c : Else-refused-3) → NotedTo c.args.s.now Commands (entry_count c.args.s.now Commands) c.args.jumps.now c.check_table-commands.new.jumps
+all_noted c =
+    let a = c.check_table-arithmetic.ensures in
+    let b = c.check_table-boolean.ensures in
+    let d = c.check_table-commands.ensures in
+    noted_then
+    (noted_then (a.noted (a.checked.valid ∙ arithmetic_fit_3 c)) (b.noted (b.checked.valid ∙ boolean_fit_3 c)))
+    (d.noted (d.checked.valid ∙ commands_fit c))
+
+pub returns-then-refused : goal.returns-then-refused
+unfolding in_turn
+returns-then-refused c =
+    record {
+      valid = stops _ _ _ _ c.check_table-arithmetic.ensures.checked.valid c.refused.ensures c.if-refused.true;
+      noted = stopped refl c.refused.ensures c.if-refused.true;
+    }
+
+pub returns-then-refused-2 : goal.returns-then-refused-2
+unfolding in_turn
+returns-then-refused-2 c =
+    record {
+      valid = passed (arithmetic_fit (goal.at.returns-then-refused-2 c).Else-refused) (stops _ _ _ _ c.check_table-boolean.ensures.checked.valid c.refused-2.ensures c.if-refused-2.true);
+      noted = stopped refl c.refused-2.ensures c.if-refused-2.true;
+    }
+
+pub returns-then-refused-3 : goal.returns-then-refused-3
+unfolding in_turn
+returns-then-refused-3 c =
+    record {
+      valid = passed (arithmetic_fit (goal.at.returns-then-refused-3 c).Else-refused) (passed (boolean_fit (goal.at.returns-then-refused-3 c).Else-refused-2) (stops _ _ _ _ c.check_table-commands.ensures.checked.valid c.refused-3.ensures c.if-refused-3.true));
+      noted = stopped refl c.refused-3.ensures c.if-refused-3.true;
+    }
+
+pub slice_bounds-check_all_uses-end : goal.slice_bounds-check_all_uses-end
+slice_bounds-check_all_uses-end c = sym (all_counted (goal.at.slice_bounds-check_all_uses-end c).Else-refused-3).room
+
+pub check_all_uses-requires : goal.check_all_uses-requires
+check_all_uses-requires c = (c.requires, all_counted (goal.at.check_all_uses-requires c).Else-refused-3)
+
+pub returns : goal.returns
+unfolding in_turn
+returns c =
+    record {
+      valid = passed (arithmetic_fit_3 (goal.at.returns c).Else-refused-3) (passed (boolean_fit_3 (goal.at.returns c).Else-refused-3) (passed (commands_fit (goal.at.returns c).Else-refused-3) (last_asked _ _ c.check_all_uses.ensures)));
+      noted = λ fit. all_noted (goal.at.returns c).Else-refused-3;
+    }
