@@ -11,13 +11,10 @@ use Rattle.program.proofs.drawing.draw_fit.Goals as goal
 use Rattle.program.proofs.drawing.draw_fit.Goals.{After-long-end}
 
 -- how many edges were drawn
-abbrev start : (c : After-long-end) → tie.Start
-start c = c
-
-edges : (c : After-long-end) → c.edge_count-edges.result ≡ edge_count (start c).args.construction (start c).args.s.now
+edges : (c : After-long-end) → c.edge_count-edges.result ≡ edge_count c.args.construction c.args.s.now
 edges c = c.edge_count-edges.ensures ∙ c.put_graph.ensures.edges
 
-count : (c : After-long-end) → c.long-end.result ≡ edge_count (start c).args.construction (start c).args.s.now
+count : (c : After-long-end) → c.long-end.result ≡ edge_count c.args.construction c.args.s.now
 count c = c.long-end.ensures ∙ (edges c)
 
 pub put_graph-requires : goal.put_graph-requires
@@ -26,8 +23,7 @@ put_graph-requires c = (c.requires, c.fit_layout-l.ensures, refl)
 pub returns-then-buffer-end : goal.returns-then-buffer-end
 unfolding drawn drawn_by drawn_buffer drawn_buffer_by
 returns-then-buffer-end c =
-    let first = start (goal.at.returns-then-buffer-end c).After-long-end in
-    rw (too_short first.args.construction first.args.s.now first.args.buffer.now first.pre (omega (arith, c.if-buffer-end.true, count (goal.at.returns-then-buffer-end c).After-long-end)))
+    rw (too_short c.args.construction c.args.s.now c.args.buffer.now c.requires (omega (arith, c.if-buffer-end.true, count (goal.at.returns-then-buffer-end c).After-long-end)))
     (c.refused.ensures, refl)
 
 pub put_bytes-requires : goal.put_bytes-requires
@@ -37,9 +33,8 @@ put_bytes-requires c =
 pub returns : goal.returns
 unfolding drawn drawn_by drawn_buffer drawn_buffer_by
 returns c =
-    let first = start (goal.at.returns c).After-long-end in
-    let s = first.args.s.now in
-    let b = first.args.buffer.now in
+    let s = c.args.s.now in
+    let b = c.args.buffer.now in
     let g = c.put_graph.ensures in
-    rw (long_enough first.args.construction s b first.pre (omega (arith, c.if-buffer-end.false, count (goal.at.returns c).After-long-end)))
+    rw (long_enough c.args.construction s b c.requires (omega (arith, c.if-buffer-end.false, count (goal.at.returns c).After-long-end)))
     (rw (c.node_count.ensures ∙ g.nodes, edges (goal.at.returns c).After-long-end), c.put_bytes.ensures ∙ ap (λ (x : List ℕ). over x b) (ap (rows_in _) g.edges ∙ rows_all _ s _ g))

@@ -1,4 +1,5 @@
 -- `prepared::number_at` meets its contract.
+use borrow.Author.Rules.{rules}
 use borrow.Author.Tests.{le-ltb}
 use mathlib.Core.Path.{sym, ◌∙◌}
 use mir.Syntax.{w32}
@@ -14,7 +15,7 @@ returns-then-n-ge-EXPRESSIONS c = rw (le-ltb _ _ c.if-n-ge-EXPRESSIONS.true)
 pub returns-in-Number : goal.returns-in-Number
 unfolding number_of
 returns-in-Number c =
-    to_z-of_z w32 _ (record { sfits = c.known_told-1.given.0.1 }) ∙ sym (number_told _ _ c.if-n-ge-EXPRESSIONS.false c.arith_at-node.ensures c.in-Number.is)
+    to_z-of_z w32 _ (search rules) ∙ sym (number_told _ _ c.if-n-ge-EXPRESSIONS.false c.arith_at-node.ensures c.in-Number.is)
 
 pub returns-in-Variable : goal.returns-in-Variable
 unfolding number_of

@@ -1,4 +1,5 @@
 -- `prepared::plain_action` meets its contract.
+use borrow.Author.Rules.{rules}
 use mathlib.Core.Path.{sym, ap, ◌∙◌}
 use mathlib.Core.List.{[]}
 use Rattle.program.specs.Parts.Prepared.{performed, action_form, action_in}
@@ -22,4 +23,4 @@ pub returns-in_default : goal.returns-in_default
 unfolding action_in
 returns-in_default c plain =
     let kind = c.edge_word-kind.ensures in
-    rw (← kind) (action_other _ _ _ c.in_default.rest (rw (← kind) at plain))
+    rw (← kind) (action_other _ _ _ (search rules) (rw (← kind) at plain))

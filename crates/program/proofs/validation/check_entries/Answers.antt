@@ -1,6 +1,4 @@
 -- `program::validation::check_entries` meets its contract.
-use Prim.Native.Nat.{ℕ}
-use mathlib.Core.List.{List}
 use mathlib.Core.Path.{◌≡◌, refl, sym, ◌∙◌}
 use Rattle.program.specs.Asking.{in_turn}
 use Rattle.program.specs.File.{entry_count}

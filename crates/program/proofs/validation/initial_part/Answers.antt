@@ -14,7 +14,7 @@ fifth c = sym (ap (λ (h : FieldHeads). h.initial) c.heads-h.ensures)
 
 pub returns-in-Short : goal.returns-in-Short
 unfolding initial_part head_content
-returns-in-Short c = rw (fifth (goal.at.returns-in-Short c).After-heads-h, c.enum_told.given.1)
+returns-in-Short c = rw (fifth (goal.at.returns-in-Short c).After-heads-h, c.in-Short.is)
 
 pub returns-in-Found : goal.returns-in-Found
 unfolding initial_part head_content

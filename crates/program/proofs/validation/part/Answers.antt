@@ -9,7 +9,7 @@ use Rattle.program.proofs.validation.part.Goals as goal
 pub returns-then-s-start : goal.returns-then-s-start
 returns-then-s-start c =
     let a = c.args in
-    rw (drop_of_length-le a.s.now c.if1.true) (sym (take-nil a.count))
+    rw (drop_of_length-le a.s.now c.if-s-start.true) (sym (take-nil a.count))
 
 pub returns-then-count-s : goal.returns-then-count-s
 returns-then-count-s c =

@@ -8,7 +8,7 @@ use Rattle.program.proofs.prepared.linking.link.Goals as goal
 use Rattle.program.proofs.prepared.linking.link.Goals.{After-clear}
 
 -- the edges can still be linked where the links are cleared
-linkable : (c : After-clear) → Linkable c.clear.new.0
+linkable : (c : After-clear) → Linkable c.clear.new.graph
 linkable c = linkable_kept c.clear.ensures.same c.requires
 
 pub loop-k-init : goal.loop-k-init

@@ -1,7 +1,6 @@
 -- The cycle of calls {`program::validation::jumps::lowest`}: a part is lower than what it is a part of, so the measure is `bound`.
 use Prim.Native.Nat.{ℕ, ◌<◌}
 use borrow.Author.Rules.{rules}
-use borrow.Fn.PlainCycle.{is}
 use mathlib.Core.Path.{◌≡◌, refl, ap, ◌∙◌}
 use native.Mathlib.Omega.{arith}
 use Rattle.program.specs.File.{entry}
@@ -17,7 +16,7 @@ use Rattle.program.proofs.validation.jumps.+lowest.Goals.{After-command_at-node}
 
 -- a part is lower
 under : (t : ℕ) (c : After-command_at-node t) {k : CommandNode} → c.command_at-node.result ≡ k → CommandParts k → c.args.n < t
-under t c told parts = omega (arith, command_lower _ _ _ c.command_at-node.ensures told parts, c.requires.0)
+under t c told parts = omega (arith, command_lower _ _ _ c.command_at-node.ensures told parts)
 
 -- the lowest is that of what the entry is
 by_entry : (t : ℕ) (c : After-command_at-node t) {k : CommandNode} {r : ℕ} → c.command_at-node.result ≡ k
@@ -30,25 +29,25 @@ both_parts : (c d : Command) (found : ℕ) {a b : ℕ} → a ≡ lowest c found 
 both_parts c d found e f = f ∙ ap (lowest d) e
 
 pub command_at-node-requires : goal.command_at-node-requires
-command_at-node-requires t c = c.requires.1
+command_at-node-requires t c = c.requires
 
 pub lowest-first-requires : goal.lowest-first-requires
-lowest-first-requires t c = (under t (goal.at.lowest-first-requires t c).After-command_at-node c.in-Sequence.is tt, c.requires.1)
+lowest-first-requires t c = (under t (goal.at.lowest-first-requires t c).After-command_at-node c.in-Sequence.is tt, c.requires)
 
 pub lowest-requires : goal.lowest-requires
-lowest-requires t c = (under t (goal.at.lowest-requires t c).After-command_at-node c.in-Sequence.is tt, c.requires.1)
+lowest-requires t c = (under t (goal.at.lowest-requires t c).After-command_at-node c.in-Sequence.is tt, c.requires)
 
 pub lowest-requires-in-Conditional : goal.lowest-requires-in-Conditional
-lowest-requires-in-Conditional t c = (under t (goal.at.lowest-requires-in-Conditional t c).After-command_at-node c.in-Conditional.is tt, c.requires.1)
+lowest-requires-in-Conditional t c = (under t (goal.at.lowest-requires-in-Conditional t c).After-command_at-node c.in-Conditional.is tt, c.requires)
 
 pub lowest-requires-in-Guarded : goal.lowest-requires-in-Guarded
-lowest-requires-in-Guarded t c = (under t (goal.at.lowest-requires-in-Guarded t c).After-command_at-node c.in-Guarded.is tt, c.requires.1)
+lowest-requires-in-Guarded t c = (under t (goal.at.lowest-requires-in-Guarded t c).After-command_at-node c.in-Guarded.is tt, c.requires)
 
 pub lowest-first-requires-in-Choice : goal.lowest-first-requires-in-Choice
-lowest-first-requires-in-Choice t c = (under t (goal.at.lowest-first-requires-in-Choice t c).After-command_at-node c.in-Choice.is tt, c.requires.1)
+lowest-first-requires-in-Choice t c = (under t (goal.at.lowest-first-requires-in-Choice t c).After-command_at-node c.in-Choice.is tt, c.requires)
 
 pub lowest-requires-in-Choice : goal.lowest-requires-in-Choice
-lowest-requires-in-Choice t c = (under t (goal.at.lowest-requires-in-Choice t c).After-command_at-node c.in-Choice.is tt, c.requires.1)
+lowest-requires-in-Choice t c = (under t (goal.at.lowest-requires-in-Choice t c).After-command_at-node c.in-Choice.is tt, c.requires)
 
 pub returns-in-Sequence : goal.returns-in-Sequence
 unfolding command_made lowest
