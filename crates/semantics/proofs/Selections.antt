@@ -1,6 +1,6 @@
 -- The truth of a guard after those of the lower edges out of its node, worked out guard by guard.
 use mathlib.Core.Path.{◌≡◌, refl, sym, ◌∙◌, ap}
-use mathlib.Core.Bool.{true, ◌&&◌, and_assoc, and_true}
+use mathlib.Core.Bool.{true, ◌&&◌, and_assoc, and-true}
 use mathlib.Core.List.{List, [], ◌∷◌, ◌++◌, foldl}
 use Prim.Native.Nat.{ℕ}
 use lib.IntN.{ℤ, pos}
@@ -29,7 +29,7 @@ named_join ns =
       not_labelled = λ k b. refl;
       assoc = and_assoc;
       left_unit = λ a. refl;
-      right_unit = and_true;
+      right_unit = and-true;
     }
 
 fold_append : (f : Truth → Boolean → Truth) (t : Truth) (gs hs : List Boolean) → foldl f t (gs ++ hs) ≡ foldl f (foldl f t gs) hs

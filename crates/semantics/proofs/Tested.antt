@@ -1,6 +1,6 @@
 -- Guards of the deterministic graph, tested one after the other: at most one edge out of a node is defined, and it is found by testing each guard by itself.
 use mathlib.Core.Path.{◌≡◌, refl, sym, ◌∙◌, ap}
-use mathlib.Core.Bool.{Bool, true, false, false≢true, ◌&&◌, and_true, and_false, and_assoc}
+use mathlib.Core.Bool.{Bool, true, false, false≢true, ◌&&◌, and-true, and-false, and_assoc}
 use mathlib.Core.List.{List, []}
 use Prim.Native.Nat.{ℕ, ◌≤◌, ◌<◌}
 use native.Mathlib.Decide.{ℕ_discrete, dec_lt}
@@ -52,7 +52,7 @@ holds_join ns m =
       not_labelled = λ k b. refl;
       assoc = and_assoc;
       left_unit = λ a. refl;
-      right_unit = and_true;
+      right_unit = and-true;
     }
 
 -- a condition does not hold with its falsehood
@@ -122,7 +122,7 @@ module _ {ns : List ℕ} {g : Graph} {code graph : List ℕ} (p : Prepared ns g 
     failed_undefined fails =
         edge_tested
         ∙ ap (λ (t : Bool). all_of Failing (guards_in (entries_in code graph) graph node f) && t) (failed ns m (own_in (entries_in code graph) (action_in graph f)) fails)
-        ∙ and_false (all_of Failing (guards_in (entries_in code graph) graph node f))
+        ∙ and-false (all_of Failing (guards_in (entries_in code graph) graph node f))
 
     -- or a lower one does not fail
     pub passed_undefined : (e : ℕ) → e < f → eqb (source_in graph e) node ≡ true → Failing (own_in (entries_in code graph) (action_in graph e)) ≡ false → is_defined (edge_effect ns g m f) ≡ false
@@ -175,7 +175,7 @@ module _ {ns : List ℕ} {g : Graph} {code graph : List ℕ} (p : Prepared ns g 
                           rw q
                           (edge_tested e there leaves_here
                           ∙ ap (λ (x : Bool). all_of Failing (guards_in (entries_in code graph) graph node e) && x) t
-                          ∙ and_false (all_of Failing (guards_in (entries_in code graph) graph node e)))
+                          ∙ and-false (all_of Failing (guards_in (entries_in code graph) graph node e)))
                       | no q ↦ passed_undefined k (omega (arith, p.edges)) s e (omega arith) leaves_here u
                     ]
               ]

@@ -66,8 +66,8 @@ fn earlier(a: i64, b: i64) -> i64
 
 // An operator on two results.
 fn operate(o: Operator, a: i64, b: i64) -> i64
-    requires t { T (coding.is_code a) }
-    requires t_2 { T (coding.is_code b) }
+    requires left { T (coding.is_code a) }
+    requires right { T (coding.is_code b) }
     ensures code { T (coding.is_code result) }
     ensures evaluated { coding.evaluated result ≡ spec.combine o (coding.evaluated a) (coding.evaluated b) }
 {
@@ -80,8 +80,8 @@ fn operate(o: Operator, a: i64, b: i64) -> i64
 
 // A comparison of two results.
 fn compare(c: Comparison, a: i64, b: i64) -> i64
-    requires t { T (coding.is_code a) }
-    requires t_2 { T (coding.is_code b) }
+    requires left { T (coding.is_code a) }
+    requires right { T (coding.is_code b) }
     ensures { coding.decided result ≡ spec.compare_values c (coding.evaluated a) (coding.evaluated b) }
 {
     let first = earlier(a, b);

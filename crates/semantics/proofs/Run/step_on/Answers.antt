@@ -1,0 +1,32 @@
+-- `Run::step_on`: refused by the file's questions, or a step over the prepared program.
+use mathlib.Core.Path.{◌≡◌, ap, ◌∙◌, sym}
+use mathlib.Core.List.{List}
+use Prim.Native.Nat.{ℕ}
+use lib.IntN.{ℤ}
+use Rattle.program.specs.declared.Construction.{Construction}
+use Rattle.semantics.specs.Step.{program_step, step_reply, stepped_numbers, step_row}
+use Rattle.semantics.specs.declared.Run.{Run}
+use Rattle.semantics.specs.declared.Stepped.{Stepped}
+use Rattle.semantics.proofs.Replies.{Replied, program_refused, program_replied}
+use Rattle.semantics.proofs.Run.step_on.Goals as goal
+
+-- the two clauses of the contract
+whole : {κ : Construction} {s : List ℕ} {run : Run} {e : ℕ} {m m' : List ℤ} {r : Stepped} → Replied κ s run e m m' r
+    → ((r ≡ step_reply κ s (record { run = run; memory = m }) e) × (m' ≡ (program_step κ s (record { run = run; memory = m }) e).memory))
+    × (stepped_numbers r ≡ step_row κ s (record { run = run; memory = m }) e)
+unfolding step_row
+whole k = ((k.reply, k.memory), ap stepped_numbers k.reply)
+
+pub step_prepared-requires : goal.step_prepared-requires
+step_prepared-requires c =
+    (c.prepare-v.ensures.prepared c.in-Fit.is).coded.ordered
+
+pub returns-in-Fit : goal.returns-in-Fit
+returns-in-Fit c =
+    let made = c.prepare-v.ensures in
+    whole (program_replied _ _ _ _ _ (sym made.asked ∙ c.in-Fit.is) _ _ (c.step_prepared.ensures _ _ (made.prepared c.in-Fit.is)))
+
+pub returns-in-Refused : goal.returns-in-Refused
+returns-in-Refused c =
+    let made = c.prepare-v.ensures in
+    rw c.refused.ensures (whole (program_refused _ _ _ _ _ _ (sym made.asked ∙ c.in-Refused.is)))

@@ -1,0 +1,46 @@
+-- The cycle of calls {`semantics::evaluator::condition::exit`}: a part is lower than what it is a part of, so the measure is `bound`.
+use mathlib.Core.Path.{◌≡◌, refl}
+use mathlib.Core.List.{[]}
+use Prim.Native.Nat.{ℕ, ◌<◌}
+use native.Mathlib.Omega.{arith}
+use borrow.Fn.PlainCycle.{is}
+use Rattle.program.specs.Tree.{command_made}
+use Rattle.program.specs.Graph.{done}
+use Rattle.program.specs.declared.CommandNode.{CommandNode}
+use Rattle.program.proofs.Forms.{CommandParts}
+use Rattle.program.proofs.Laws.{command_told, command_lower, boolean_whole}
+use Rattle.semantics.proofs.Coded.{handed}
+use Rattle.semantics.proofs.Keys.{left_at_once}
+use Rattle.semantics.proofs.Valued.{true_holds, negation_holds, conjunction_holds}
+use Rattle.semantics.proofs.evaluator.condition.+exit.Goals as goal
+use Rattle.semantics.proofs.evaluator.condition.+exit.Goals.{After-command_node-node}
+
+-- a part in the same table may be asked about
+lower : (t : ℕ) (c : After-command_node-node t) {k : CommandNode} → c.command_node-node.result ≡ k → CommandParts k → c.args.n < t
+lower t c told p = omega (arith, command_lower _ _ _ (c.command_node-node.ensures []) told p, c.requires.0)
+
+pub exit-a-requires : goal.exit-a-requires
+exit-a-requires t c = (lower t (goal.at.exit-a-requires t c).After-command_node-node c.in-Choice.is tt, c.requires.1)
+
+pub exit-b-requires : goal.exit-b-requires
+exit-b-requires t c = (lower t (goal.at.exit-b-requires t c).After-command_node-node c.in-Choice.is tt, c.requires.1)
+
+pub returns-in-Guarded : goal.returns-in-Guarded
+unfolding command_made done
+returns-in-Guarded t c =
+    rw (handed c.negated.result c.negated.type_inv, command_told _ _ _ (c.command_node-node.ensures c.args.code.now) c.in-Guarded.is, boolean_whole c.args.code.now c.args.graph.now)
+    (negation_holds _ (c.holds-a.ensures _) (rw (handed c.holds-a.result c.holds-a.type_inv) at c.negated.ensures))
+
+pub returns-in-Choice : goal.returns-in-Choice
+unfolding command_made done
+returns-in-Choice t c =
+    rw (handed c.both.result c.both.type_inv, command_told _ _ _ (c.command_node-node.ensures c.args.code.now) c.in-Choice.is)
+    (conjunction_holds _ c.exit-a.ensures c.exit-b.ensures
+    (rw (handed c.exit-a.result c.exit-a.type_inv, handed c.exit-b.result c.exit-b.type_inv) at c.both.ensures))
+
+pub returns-in_default : goal.returns-in_default
+returns-in_default t c = rw (command_told _ _ _ (c.command_node-node.ensures c.args.code.now) refl, left_at_once _ _ c.command_node-node.result c.in_default.keys3) (true_holds _)
+
+pub holds-a-requires : goal.holds-a-requires
+holds-a-requires t c =
+    c.requires.1

@@ -1,0 +1,23 @@
+-- `evaluator::condition::comparison`: both sides are trees of the arithmetic table.
+use mathlib.Core.List.{[]}
+use Rattle.semantics.proofs.Coded.{handed}
+use Rattle.semantics.proofs.Valued.{comparison_holds}
+use Rattle.semantics.proofs.evaluator.condition.comparison.Goals as goal
+
+pub compare-requires : goal.compare-requires
+compare-requires c =
+    (rw (handed c.any_operand-a.result c.any_operand-a.type_inv) (c.any_operand-a.ensures []).code, rw (handed c.any_operand-b.result c.any_operand-b.type_inv) (c.any_operand-b.ensures []).code)
+
+pub returns : goal.returns
+returns c graph k =
+    rw (handed c.compare.result c.compare.type_inv)
+    (comparison_holds k c.args.o (c.any_operand-a.ensures graph) (c.any_operand-b.ensures graph)
+    (rw (handed c.any_operand-a.result c.any_operand-a.type_inv, handed c.any_operand-b.result c.any_operand-b.type_inv) at c.compare.ensures))
+
+pub any_operand-a-requires : goal.any_operand-a-requires
+any_operand-a-requires c =
+    c.requires
+
+pub any_operand-b-requires : goal.any_operand-b-requires
+any_operand-b-requires c =
+    c.requires
