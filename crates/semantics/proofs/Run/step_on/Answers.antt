@@ -12,10 +12,12 @@ use Rattle.semantics.proofs.Run.step_on.Goals as goal
 
 -- the two clauses of the contract
 whole : {κ : Construction} {s : List ℕ} {run : Run} {e : ℕ} {m m' : List ℤ} {r : Stepped} → Replied κ s run e m m' r
-    → ((r ≡ step_reply κ s (record { run = run; memory = m }) e) × (m' ≡ (program_step κ s (record { run = run; memory = m }) e).memory))
-    × (stepped_numbers r ≡ step_row κ s (record { run = run; memory = m }) e)
+    → record {
+      value : (r ≡ step_reply κ s (record { run = run; memory = m }) e) × (m' ≡ (program_step κ s (record { run = run; memory = m }) e).memory);
+      numbers : stepped_numbers r ≡ step_row κ s (record { run = run; memory = m }) e;
+    }
 unfolding step_row
-whole k = ((k.reply, k.memory), ap stepped_numbers k.reply)
+whole k = record { value = (k.reply, k.memory); numbers = ap stepped_numbers k.reply }
 
 pub step_prepared-requires : goal.step_prepared-requires
 step_prepared-requires c =

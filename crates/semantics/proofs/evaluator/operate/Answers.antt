@@ -39,6 +39,9 @@ overflow_cast-b c = rw (to_z-of_z w64 c.args.b c.ranges.b) (right_fits (goal.at.
 
 pub returns : goal.returns
 returns c =
-    rw (handed c.value_code.result c.value_code.type_inv) record { code = c.value_code.ensures.code; evaluated = c.value_code.ensures.evaluated
+    rw (handed c.value_code.result c.value_code.type_inv) record {
+      code = c.value_code.ensures.code;
+      evaluated = c.value_code.ensures.evaluated
           ∙ ap operated (c.apply.ensures.value ∙ rw (narrow c.args.a (left_fits (goal.at.returns c).Else-is_fault), narrow c.args.b (right_fits (goal.at.returns c).Else-is_fault)))
-          ∙ sym (combine_both c.args.a c.args.b (none (goal.at.returns c).Else-is_fault).0 (none (goal.at.returns c).Else-is_fault).1 c.args.o) }
+          ∙ sym (combine_both c.args.a c.args.b (none (goal.at.returns c).Else-is_fault).0 (none (goal.at.returns c).Else-is_fault).1 c.args.o);
+    }

@@ -16,7 +16,7 @@ overflow_cast-result c = widens c.in-Number.z (fits (goal.at.overflow_cast-resul
 
 pub returns-in-Number : goal.returns-in-Number
 unfolding operated
-returns-in-Number c = rw c.in-Number.is (small_handed c.in-Number.z (fits (goal.at.returns-in-Number c).In-Number))
+returns-in-Number c = rw c.in-Number.is (let both = small_handed c.in-Number.z (fits (goal.at.returns-in-Number c).In-Number) in record { code = both.0; evaluated = both.1 })
 
 pub returns-in-Undefined : goal.returns-in-Undefined
 unfolding operated

@@ -31,7 +31,7 @@ returns-then-is_fault c ns g node p numbers o =
 
 pub loop-k-smaller : goal.loop-k-smaller
 loop-k-smaller c =
-    let more = next_is_beyond c.requires.1 c.loop-k.k (there (goal.at.loop-k-smaller c).In-loop-k) in
+    let more = next_is_beyond c.requires.linked c.loop-k.k (there (goal.at.loop-k-smaller c).In-loop-k) in
     omega (arith, c.next_edge-k.ensures, c.loop-k-test.true)
 
 pub loop-k-preserved : goal.loop-k-preserved
@@ -40,7 +40,7 @@ loop-k-preserved c ns g node p numbers o =
     let truth = own_truth p numbers (omega (arith, p.edges, there (goal.at.loop-k-preserved c).In-loop-k)) c.own-v.ensures in
     let sound = tested c.own-v.result (record { sfits = c.own-v.type_inv }) c.is_fault.ensures c.if-is_fault.false in
     rw c.next_edge-k.ensures
-    (next_is_followed c.requires.1 node _ c.loop-k.k (there (goal.at.loop-k-preserved c).In-loop-k) (c.loop-k.invariant ns g node p numbers o)
+    (next_is_followed c.requires.linked node _ c.loop-k.k (there (goal.at.loop-k-preserved c).In-loop-k) (c.loop-k.invariant ns g node p numbers o)
     (known_fails truth sound (other_bits c.own-v.result c.if-v-eq1.false)))
 
 pub returns : goal.returns
@@ -49,4 +49,4 @@ returns c ns g node p numbers o =
 
 pub own-v-requires : goal.own-v-requires
 own-v-requires c =
-    c.requires.0
+    c.requires.ordered

@@ -1,9 +1,10 @@
 -- `running::run_array`: each turn takes the edge that the definition takes.
-use borrow.Author.Tests.{eqb-true, eqb-false, not-true, not_false}
+use borrow.Author.Tests.{eqb-false, not-true}
 use mathlib.Core.Logic.{inl, inr}
 use native.Mathlib.Omega.{arith}
 use Rattle.semantics.proofs.Turns.{reached_start, reached_more, reached_stuck, stops_as}
 use Rattle.semantics.proofs.running.run_array.Goals as goal
+use Rattle.semantics.proofs.running.run_array.Goals.{then-loop-left-test+else-run-ne1, else-loop-left-test}
 
 pub loop-left-init : goal.loop-left-init
 loop-left-init c ns g p numbers = reached_start _ _ _ _ _ _ c.fresh-run.ensures numbers
@@ -29,5 +30,5 @@ pub returns : goal.returns
 returns c ns g p numbers =
     let l = c.loop-left in
     stops_as ns g _ _ l.left _ l.run _ _ (l.invariant ns g p numbers)
-    (elim c.loop-left-test.branch [ inl t ↦ inl (eqb-true l.run.node 1 (not_false _ t.2.left)) | inr t ↦ inr (omega arith) ])
+    (elim c.loop-left-test.branch [ then-loop-left-test+else-run-ne1 w ↦ inl w.if-run-ne1.false | else-loop-left-test w ↦ inr (omega arith) ])
     c.stopped.ensures

@@ -12,15 +12,15 @@ use Rattle.semantics.proofs.running.run_on.Goals as goal
 
 -- the two clauses of the contract
 whole : (κ : Construction) (s : List ℕ) (budget : ℕ) (m : List ℤ) {m' : List ℤ} {r : Ended} → EndsAs (program_budgeted κ s budget m) m' r
-    → ((r ≡ budget_reply κ s budget m) × (m' ≡ (program_budgeted κ s budget m).final.memory)) × (ended_numbers r ≡ run_row κ s budget m)
+    → record { value : (r ≡ budget_reply κ s budget m) × (m' ≡ (program_budgeted κ s budget m).final.memory); numbers : ended_numbers r ≡ run_row κ s budget m }
 unfolding budget_reply run_row
-whole κ s budget m k = ((k.reply, k.memory), ap ended_numbers k.reply)
+whole κ s budget m k = record { value = (k.reply, k.memory); numbers = ap ended_numbers k.reply }
 
 pub run_prepared-requires : goal.run_prepared-requires
 run_prepared-requires c =
     let made = c.prepare_linked-v.ensures in
     let fit = c.in-Fit.is in
-    ((made.prepared.prepared fit).coded.ordered, made.linked fit)
+    record { ordered = (made.prepared.prepared fit).coded.ordered; linked = made.linked fit }
 
 pub returns-in-Fit : goal.returns-in-Fit
 returns-in-Fit c =

@@ -13,7 +13,7 @@ use Rattle.semantics.proofs.running.take_lowest.Goals.{Else-guards, In-loop-e}
 
 pub loop-e-init : goal.loop-e-init
 loop-e-init c ns g p numbers h =
-    let linked = c.requires.1 in
+    let linked = c.requires.linked in
     record {
       following = rw c.first_edge-e.ensures (first_is_followed linked _ _ h);
       unguarded = rw c.first_edge-e.ensures (first_is_followed linked _ _ h);
@@ -40,12 +40,12 @@ returns-then-perform c ns g p numbers h =
 
 pub loop-e-smaller : goal.loop-e-smaller
 loop-e-smaller c =
-    let more = next_is_beyond c.requires.1 c.loop-e.e (there (goal.at.loop-e-smaller c).In-loop-e) in
+    let more = next_is_beyond c.requires.linked c.loop-e.e (there (goal.at.loop-e-smaller c).In-loop-e) in
     omega (arith, c.next_edge-e.ensures, c.loop-e-test.true)
 
 pub loop-e-preserved : goal.loop-e-preserved
 loop-e-preserved c ns g p numbers h =
-    let linked = c.requires.1 in
+    let linked = c.requires.linked in
     let here = c.loop-e.invariant ns g p numbers h in
     let found = rw (c.plain_action-action.ensures (plain (goal.at.loop-e-preserved c).Else-guards)) at c.perform.ensures in
     record {
@@ -64,4 +64,4 @@ first_true-requires c =
 
 pub perform-requires : goal.perform-requires
 perform-requires c =
-    c.requires.0
+    c.requires.ordered

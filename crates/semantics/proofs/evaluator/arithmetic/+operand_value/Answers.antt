@@ -7,7 +7,6 @@ use Rattle.semantics.proofs.Leaves.{below_most, leaf_tree, lower_told, node_tree
 use Rattle.semantics.proofs.Valued.{cell_valued, number_valued, variable_valued, element_valued, operator_left, operator_valued}
 use mathlib.Core.List.{[]}
 use Prim.Native.Nat.{ℕ, ◌<◌, ◌*◌, ◌+◌}
-use borrow.Fn.PlainCycle.{is}
 use lib.ListN.{get_or}
 use mir.Syntax.{w32}
 use mir.Val.{SFits}
@@ -28,7 +27,7 @@ operand-returns-then-c-lt-MEMORY t c graph =
     (cell_valued _ (leaf_tree _ _ graph c.requires.n_bound c.leaf_cell-c.ensures c.if-c-lt-MEMORY.true) c.cell_value.ensures.code c.cell_value.ensures.evaluated)
 
 pub operand-value-requires : goal.operand-value-requires
-operand-value-requires t c = (omega arith, c.requires)
+operand-value-requires t c = (omega arith, (c.requires.ordered, c.requires.n_bound))
 
 pub operand-returns : goal.operand-returns
 operand-returns t c graph = rw (handed c.value.result c.value.type_inv) (c.value.ensures graph)
@@ -43,25 +42,25 @@ fits : (t : ℕ) (c : value-In-Number t) → SFits w32 c.in-Number.z
 fits t c = search rules
 
 pub value-overflow_cast-result : goal.value-overflow_cast-result
-value-overflow_cast-result t c = widens _ (fits t (goal.at.value-overflow_cast-result t c).value-In-Number)
+value-overflow_cast-result t c = widens _ (fits t (goal.at.value-overflow_cast-result t c).In-Number)
 
 -- a lower entry may be asked about
 asked : (t : ℕ) (c : value-After-node-what t) {p : ℕ} → p < c.args.n
-    → (2 * p + 1 < t) × record { ordered : Ordered c.args.code.now; n_bound : p < get_or c.args.code.now arithmetic_count_place 0 }
-asked t c h = (omega arith, record { ordered = c.requires.ordered; n_bound = omega arith })
+    → (2 * p + 1 < t) × (Ordered c.args.code.now × (p < get_or c.args.code.now arithmetic_count_place 0))
+asked t c h = (omega arith, (c.requires.ordered, omega arith))
 
 pub value-operand-v-requires : goal.value-operand-v-requires
-value-operand-v-requires t c = asked t (goal.at.value-operand-v-requires t c).value-After-node-what (lower_told _ _ c.requires.ordered c.requires.n_bound c.node-what.ensures c.in-Element.is)
+value-operand-v-requires t c = asked t (goal.at.value-operand-v-requires t c).After-node-what (lower_told _ _ c.requires.ordered c.requires.n_bound c.node-what.ensures c.in-Element.is)
 
 pub value-element-requires : goal.value-element-requires
 value-element-requires t c = rw (handed c.operand-v.result c.operand-v.type_inv) (c.operand-v.ensures []).code
 
 -- the two of an operator
-parts : (t : ℕ) (c : value-In-Operator t) → (c.in-Operator.a < c.args.n) × (c.in-Operator.b < c.args.n)
+parts : (t : ℕ) (c : value-In-Operator t) → (c.in-Operator.p < c.args.n) × (c.in-Operator.q < c.args.n)
 parts t c = lower_told _ _ c.requires.ordered c.requires.n_bound c.node-what.ensures c.in-Operator.is
 
 pub value-operand-a-requires : goal.value-operand-a-requires
-value-operand-a-requires t c = asked t (goal.at.value-operand-a-requires t c).value-After-node-what (parts t (goal.at.value-operand-a-requires t c).value-In-Operator).0
+value-operand-a-requires t c = asked t (goal.at.value-operand-a-requires t c).After-node-what (parts t (goal.at.value-operand-a-requires t c).In-Operator).0
 
 pub value-returns-then-is_fault : goal.value-returns-then-is_fault
 value-returns-then-is_fault t c graph =
@@ -69,7 +68,7 @@ value-returns-then-is_fault t c graph =
     (operator_left _ _ (c.operand-a.ensures graph) (tested c.operand-a.result record { sfits = c.operand-a.type_inv } c.is_fault.ensures c.if-is_fault.true))
 
 pub value-operand-b-requires : goal.value-operand-b-requires
-value-operand-b-requires t c = asked t (goal.at.value-operand-b-requires t c).value-After-node-what (parts t (goal.at.value-operand-b-requires t c).value-In-Operator).1
+value-operand-b-requires t c = asked t (goal.at.value-operand-b-requires t c).After-node-what (parts t (goal.at.value-operand-b-requires t c).In-Operator).1
 
 pub value-operate-requires : goal.value-operate-requires
 value-operate-requires t c =
@@ -78,7 +77,7 @@ value-operate-requires t c =
 pub value-returns-in-Number : goal.value-returns-in-Number
 unfolding arith_made
 value-returns-in-Number t c graph =
-    rw (node_tree _ _ graph (below_most _ _ c.requires.ordered c.requires.n_bound) c.node-what.ensures c.in-Number.is) (number_valued _ _ (fits t (goal.at.value-returns-in-Number t c).value-In-Number))
+    rw (node_tree _ _ graph (below_most _ _ c.requires.ordered c.requires.n_bound) c.node-what.ensures c.in-Number.is) (number_valued _ _ (fits t (goal.at.value-returns-in-Number t c).In-Number))
 
 pub value-returns-in-Variable : goal.value-returns-in-Variable
 unfolding arith_made

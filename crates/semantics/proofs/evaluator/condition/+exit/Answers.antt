@@ -1,9 +1,9 @@
 -- The cycle of calls {`semantics::evaluator::condition::exit`}: a part is lower than what it is a part of, so the measure is `bound`.
+use borrow.Author.Rules.{rules}
 use mathlib.Core.Path.{◌≡◌, refl}
 use mathlib.Core.List.{[]}
 use Prim.Native.Nat.{ℕ, ◌<◌}
 use native.Mathlib.Omega.{arith}
-use borrow.Fn.PlainCycle.{is}
 use Rattle.program.specs.Tree.{command_made}
 use Rattle.program.specs.Graph.{done}
 use Rattle.program.specs.declared.CommandNode.{CommandNode}
@@ -17,13 +17,13 @@ use Rattle.semantics.proofs.evaluator.condition.+exit.Goals.{After-command_node-
 
 -- a part in the same table may be asked about
 lower : (t : ℕ) (c : After-command_node-node t) {k : CommandNode} → c.command_node-node.result ≡ k → CommandParts k → c.args.n < t
-lower t c told p = omega (arith, command_lower _ _ _ (c.command_node-node.ensures []) told p, c.requires.0)
+lower t c told p = omega (arith, command_lower _ _ _ (c.command_node-node.ensures []) told p)
 
 pub exit-a-requires : goal.exit-a-requires
-exit-a-requires t c = (lower t (goal.at.exit-a-requires t c).After-command_node-node c.in-Choice.is tt, c.requires.1)
+exit-a-requires t c = (lower t (goal.at.exit-a-requires t c).After-command_node-node c.in-Choice.is tt, c.requires)
 
 pub exit-b-requires : goal.exit-b-requires
-exit-b-requires t c = (lower t (goal.at.exit-b-requires t c).After-command_node-node c.in-Choice.is tt, c.requires.1)
+exit-b-requires t c = (lower t (goal.at.exit-b-requires t c).After-command_node-node c.in-Choice.is tt, c.requires)
 
 pub returns-in-Guarded : goal.returns-in-Guarded
 unfolding command_made done
@@ -39,8 +39,8 @@ returns-in-Choice t c =
     (rw (handed c.exit-a.result c.exit-a.type_inv, handed c.exit-b.result c.exit-b.type_inv) at c.both.ensures))
 
 pub returns-in_default : goal.returns-in_default
-returns-in_default t c = rw (command_told _ _ _ (c.command_node-node.ensures c.args.code.now) refl, left_at_once _ _ c.command_node-node.result c.in_default.keys3) (true_holds _)
+returns-in_default t c = rw (command_told _ _ _ (c.command_node-node.ensures c.args.code.now) refl, left_at_once _ _ c.command_node-node.result (search rules)) (true_holds _)
 
 pub holds-a-requires : goal.holds-a-requires
 holds-a-requires t c =
-    c.requires.1
+    c.requires

@@ -3,7 +3,6 @@ use mathlib.Core.Path.{◌≡◌}
 use mathlib.Core.List.{[]}
 use Prim.Native.Nat.{ℕ, ◌<◌}
 use native.Mathlib.Omega.{arith}
-use borrow.Fn.PlainCycle.{is}
 use Rattle.program.specs.Tree.{boolean_made}
 use Rattle.program.specs.declared.BooleanNode.{BooleanNode}
 use Rattle.program.proofs.Forms.{BooleanParts}
@@ -15,22 +14,22 @@ use Rattle.semantics.proofs.evaluator.condition.+truth.Goals.{After-boolean_node
 
 -- a part in the same table may be asked about
 lower : (t : ℕ) (c : After-boolean_node-node t) {k : BooleanNode} → c.boolean_node-node.result ≡ k → BooleanParts k → c.args.n < t
-lower t c told p = omega (arith, boolean_lower _ _ _ (c.boolean_node-node.ensures []) told p, c.requires.0)
+lower t c told p = omega (arith, boolean_lower _ _ _ (c.boolean_node-node.ensures []) told p)
 
 pub truth-a-requires : goal.truth-a-requires
-truth-a-requires t c = (lower t (goal.at.truth-a-requires t c).After-boolean_node-node c.in-Both.is tt, c.requires.1)
+truth-a-requires t c = (lower t (goal.at.truth-a-requires t c).After-boolean_node-node c.in-Both.is tt, c.requires)
 
 pub truth-b-requires : goal.truth-b-requires
-truth-b-requires t c = (lower t (goal.at.truth-b-requires t c).After-boolean_node-node c.in-Both.is tt, c.requires.1)
+truth-b-requires t c = (lower t (goal.at.truth-b-requires t c).After-boolean_node-node c.in-Both.is tt, c.requires)
 
 pub truth-a-requires-in-AndThen : goal.truth-a-requires-in-AndThen
-truth-a-requires-in-AndThen t c = (lower t (goal.at.truth-a-requires-in-AndThen t c).After-boolean_node-node c.in-AndThen.is tt, c.requires.1)
+truth-a-requires-in-AndThen t c = (lower t (goal.at.truth-a-requires-in-AndThen t c).After-boolean_node-node c.in-AndThen.is tt, c.requires)
 
 pub truth-requires : goal.truth-requires
-truth-requires t c = (lower t (goal.at.truth-requires t c).After-boolean_node-node c.in-AndThen.is tt, c.requires.1)
+truth-requires t c = (lower t (goal.at.truth-requires t c).After-boolean_node-node c.in-AndThen.is tt, c.requires)
 
 pub truth-a-requires-in-Not : goal.truth-a-requires-in-Not
-truth-a-requires-in-Not t c = (lower t (goal.at.truth-a-requires-in-Not t c).After-boolean_node-node c.in-Not.is tt, c.requires.1)
+truth-a-requires-in-Not t c = (lower t (goal.at.truth-a-requires-in-Not t c).After-boolean_node-node c.in-Not.is tt, c.requires)
 
 pub returns-in-True : goal.returns-in-True
 unfolding boolean_made
@@ -68,4 +67,4 @@ returns-in-Not t c graph =
 
 pub comparison-requires : goal.comparison-requires
 comparison-requires t c =
-    c.requires.1
+    c.requires

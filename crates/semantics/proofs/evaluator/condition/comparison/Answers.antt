@@ -6,7 +6,7 @@ use Rattle.semantics.proofs.evaluator.condition.comparison.Goals as goal
 
 pub compare-requires : goal.compare-requires
 compare-requires c =
-    (rw (handed c.any_operand-a.result c.any_operand-a.type_inv) (c.any_operand-a.ensures []).code, rw (handed c.any_operand-b.result c.any_operand-b.type_inv) (c.any_operand-b.ensures []).code)
+    record { left = rw (handed c.any_operand-a.result c.any_operand-a.type_inv) (c.any_operand-a.ensures []).code; right = rw (handed c.any_operand-b.result c.any_operand-b.type_inv) (c.any_operand-b.ensures []).code }
 
 pub returns : goal.returns
 returns c graph k =
