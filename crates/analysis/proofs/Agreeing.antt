@@ -1,6 +1,6 @@
 -- Two memories are the same where all of their bytes agree, which the code counts; and one name changed changes that count by one or not at all.
 use Rattle.std.proofs.Common.{◌≡◌, ℕ, zero, suc, ◌+◌, ◌-◌, ◌<◌, ◌≤◌, Bool, true, false, not, ◌&&◌, T, eqb, List, length, get_or, take, set, sym, refl, ap, ◌∙◌, subst, arith, length-set, length-take-le, take_all, get_or-set_other, get_or-take, get_or-set_same, eq-eqb, ne_eqb}
-use mathlib.Core.Bool.{and_true, and_false}
+use mathlib.Core.Bool.{and-true, and-false}
 use native.Mathlib.Decide.{ℕ_discrete}
 use mir.Val.{bool_byte}
 use Rattle.analysis.specs.Parts.Membership.{agreeing}
@@ -32,8 +32,8 @@ all_agree a b (suc n) h l =
   where
     by : (e : Bool) → eqb (agreeing a b n) n ≡ same_signs (take n a) (take n b) → agreeing a b n ≤ n
         → eqb (agreeing a b n + bool_byte e) (suc n) ≡ (same_signs (take n a) (take n b) && e)
-    by true p m = eqb_alike (agreeing a b n + 1) (suc n) (agreeing a b n) n (λ e. omega arith) (λ e. omega arith) ∙ p ∙ sym (and_true (same_signs (take n a) (take n b)))
-    by false p m = ne_eqb (agreeing a b n + 0) (suc n) (λ e. absurd (omega arith)) ∙ sym (and_false (same_signs (take n a) (take n b)))
+    by true p m = eqb_alike (agreeing a b n + 1) (suc n) (agreeing a b n) n (λ e. omega arith) (λ e. omega arith) ∙ p ∙ sym (and-true (same_signs (take n a) (take n b)))
+    by false p m = ne_eqb (agreeing a b n + 0) (suc n) (λ e. absurd (omega arith)) ∙ sym (and-false (same_signs (take n a) (take n b)))
 
 -- bytes that are the same agree with as many; a changed one with one more or less
 agreeing_same : (a b c : List ℕ) (n : ℕ) → ((i : ℕ) → i < n → get_or b i 0 ≡ get_or c i 0) → agreeing a b n ≡ agreeing a c n

@@ -1,6 +1,6 @@
 -- The index of records: what one more record changes in it, and what following a chain passes over.
 use Rattle.std.proofs.Common.{◌≡◌, ℕ, zero, suc, ◌+◌, ◌-◌, ◌*◌, ◌<◌, ◌≤◌, Bool, true, false, cond, ◌&&◌, ◌||◌, T, eqb, List, [], ◌∷◌, length, get_or, take, set, sym, refl, ap, ◌∙◌, subst, mul-le-mul_left, mul-zero, mul-suc, arith, length-set, get_or-set_other, get_or-set_same, eq-eqb, ne_eqb, eqb-true}
-use mathlib.Core.Bool.{and_true, and_assoc, or-true}
+use mathlib.Core.Bool.{and-true, and_assoc, or-true}
 use native.Mathlib.Decide.{ℕ_discrete}
 use Rattle.signs.proofs.Lists.{or_false}
 use Rattle.analysis.specs.Parts.Membership.{last_below, any_below, among, bucket, spread, Factored, Chained, Indexed, Sought}
@@ -13,7 +13,7 @@ pub same_more : (a b : List ℕ) (i : ℕ) → i < length a → i < length b
 unfolding same_signs
 same_more [] b i h l = absurd (omega arith)
 same_more (x ∷ xs) [] i h l = absurd (omega arith)
-same_more (x ∷ xs) (y ∷ ys) zero h l = and_true (eqb x y)
+same_more (x ∷ xs) (y ∷ ys) zero h l = and-true (eqb x y)
 same_more (x ∷ xs) (y ∷ ys) (suc i) h l = rw (same_more xs ys i (omega arith) (omega arith)) (sym (and_assoc (eqb x y) (same_signs (take i xs) (take i ys)) _))
 
 -- the last below n that passes: it is not past n, and it passes

@@ -1,7 +1,7 @@
 -- The index mark is the same for every construction: where an action has an index that may be negative, its own guard has it or that of a lower edge out of its node, so
 -- the first such edge is the same without the earlier guards. Of index sets this uses only that those of ∧ are its sides' and those of ¬ its part's.
 use Rattle.std.proofs.Common.{◌≡◌, ℕ, zero, suc, ◌<◌, ◌≤◌, Bool, true, false, not, ◌&&◌, ◌||◌, ltb, List, [], ◌∷◌, map, length, get_or, sym, refl, ap, ◌∙◌, arith, lt-ltb, eq-eqb, eqb-true}
-use mathlib.Core.Bool.{false≢true, or_assoc, or-true, or_false}
+use mathlib.Core.Bool.{false≢true, or_assoc, or-true, or-false}
 use mathlib.Core.List.{flat_map}
 use lib.ListN.{length-map}
 use Rattle.signs.specs.Lists.{all_of, any_of}
@@ -58,7 +58,7 @@ module _ (ρ : List ℕ) where
         not_labelled = λ k b. refl;
         assoc = or_assoc;
         left_unit = λ a. refl;
-        right_unit = or_false;
+        right_unit = or-false;
       }
 
   -- of an action without its earlier guards

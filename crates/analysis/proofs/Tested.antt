@@ -1,7 +1,7 @@
 -- Guards of the deterministic graph in an abstract memory, one after the other: an edge has its own guard's results where each guard before it may fail, and none where one may
 -- not. So 42 and what follows a record are found by asking each guard by itself.
 use Rattle.std.proofs.Common.{◌≡◌, ℕ, ◌<◌, Bool, true, false, cond, ◌&&◌, eqb, List, [], ◌∷◌, length, sym, refl, ap, ◌∙◌}
-use mathlib.Core.Bool.{false≢true, and_true, and_assoc}
+use mathlib.Core.Bool.{false≢true, and-true, and_assoc}
 use Rattle.signs.specs.Lists.{all_of, any_of}
 use Rattle.signs.specs.Truth.{truths_of, negated, certain}
 use Rattle.signs.specs.declared.Truths.{Truths}
@@ -28,7 +28,7 @@ holds_join ρ =
       not_labelled = λ k b. refl;
       assoc = and_assoc;
       left_unit = λ a. refl;
-      right_unit = and_true;
+      right_unit = and-true;
     }
 
 -- the own guard of an edge, as the code has it

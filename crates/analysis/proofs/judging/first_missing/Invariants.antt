@@ -1,0 +1,12 @@
+-- `judging::first_missing`: the links are followed up to the first edge along which a result is missing, or the first guard that may not fail.
+use Rattle.std.proofs.Common.{ℕ, ◌-◌}
+use Rattle.program.specs.Parts.Prepared.{Following}
+use Rattle.semantics.specs.Parts.Selecting.{Opens}
+use Rattle.analysis.proofs.Searching.{Passed}
+use Rattle.analysis.proofs.judging.first_missing.Given as goal
+
+abbrev pub invariant-loop-e : goal.invariant-loop-e
+invariant-loop-e l = (node : ℕ) → Opens l.graph node l.first → Following l.graph node (Passed l.code l.graph l.solution l.index l.rho) l.e
+
+abbrev pub decreases-loop-e : goal.decreases-loop-e
+decreases-loop-e l = l.count - l.e

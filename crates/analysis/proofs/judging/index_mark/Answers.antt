@@ -1,0 +1,27 @@
+-- `judging::index_mark`: refused by the file's questions, or marked over the prepared program.
+use Rattle.std.proofs.Common.{◌≡◌, ℕ, List, sym, ap, ◌∙◌}
+use Rattle.analysis.specs.Verdict.{marking, marking_numbers, mark_row}
+use Rattle.analysis.specs.declared.Marking.{Marking}
+use Rattle.analysis.proofs.Judged.{ready, still, marking_refused, marking_marked}
+use Rattle.analysis.proofs.judging.index_mark.Goals as goal
+
+-- the two clauses of the contract
+whole : (s solution : List ℕ) {r : Marking} → r ≡ marking s solution → (r ≡ marking s solution) × (marking_numbers r ≡ mark_row s solution)
+unfolding mark_row
+whole s solution k = (k, ap marking_numbers k)
+
+pub put-requires : goal.put-requires
+put-requires c = (c.prepare_linked-v.ensures.prepared.prepared c.in-Fit.is).coded.long
+
+pub mark_prepared-requires : goal.mark_prepared-requires
+mark_prepared-requires c = ready c.prepare_linked-v.ensures c.in-Fit.is c.put.ensures
+
+pub returns-in-Fit : goal.returns-in-Fit
+returns-in-Fit c =
+    let p = c.prepare_linked-v.ensures in
+    whole _ _ (c.mark_prepared.ensures _ _ (still p c.in-Fit.is c.put.ensures) ∙ sym (marking_marked _ _ (sym p.prepared.asked ∙ c.in-Fit.is)))
+
+pub returns-in-Refused : goal.returns-in-Refused
+returns-in-Refused c =
+    let p = c.prepare_linked-v.ensures.prepared in
+    whole _ _ (sym (marking_refused _ _ _ (sym p.asked ∙ c.in-Refused.is)))

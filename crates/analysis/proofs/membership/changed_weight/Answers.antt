@@ -1,0 +1,31 @@
+-- `membership::changed_weight`: one term of the sum is another.
+use Rattle.std.proofs.Common.{◌≡◌, ℕ, ◌+◌, ◌*◌, get_or, ap, ◌∙◌, arith}
+use Rattle.analysis.specs.Parts.Membership.{factor}
+use Rattle.analysis.proofs.Hashes.{weighted_term, sum_changed, sum_kept}
+use Rattle.analysis.proofs.membership.changed_weight.Goals as goal
+use Rattle.analysis.proofs.membership.changed_weight.Goals.{After-term}
+
+-- the term that is left out
+told : (c : After-term) → c.term.result ≡ get_or c.args.rho.now c.args.change.name 0 * factor (2 + c.args.change.name)
+told c =
+    c.term.ensures.value ∙ ap (λ (f : ℕ). get_or c.args.rho.now c.args.change.name 0 * f) (c.requires.0.each (2 + c.args.change.name) (omega (arith, c.requires.1.front.few, c.if-x-names.true)))
+
+pub overflow_sub-without : goal.overflow_sub-without
+overflow_sub-without c =
+    let w = c.requires.1 in
+    omega (arith, told (goal.at.overflow_sub-without c).After-term, w.weighed, weighted_term 2 c.args.rho.now c.args.names c.args.change.name c.if-x-names.true)
+
+pub overflow_add-result : goal.overflow_add-result
+overflow_add-result c = omega (arith, c.term-then-x-names.ensures.upper_bound, c.requires.1.small)
+
+pub returns-then-x-names : goal.returns-then-x-names
+returns-then-x-names c =
+    let w = c.requires.1 in
+    let x = c.args.change.name in
+    let h = c.if-x-names.true in record { value = rw (told (goal.at.returns-then-x-names c).After-term, c.term-then-x-names.ensures.value, c.requires.0.each (2 + x) (omega (arith, w.front.few)))
+          (sum_changed c.args.names c.args.rho.now (omega (arith, w.front)) c.args.weight w.weighed x c.args.change.set h); upper_bound = omega (arith, c.term-then-x-names.ensures.upper_bound, w.small) }
+
+pub returns : goal.returns
+returns c =
+    let w = c.requires.1 in
+    record { value = sum_kept c.args.names c.args.rho.now (omega (arith, w.front)) c.args.weight w.weighed _ _ c.if-x-names.false; upper_bound = omega (arith, w.small) }

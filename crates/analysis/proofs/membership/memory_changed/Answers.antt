@@ -1,0 +1,32 @@
+-- `membership::memory_changed`: by the number of bytes that agree.
+use Rattle.std.proofs.Common.{◌≡◌, not, eqb, length, get_or, take, drop, arith, length-drop, length-take-le}
+use Rattle.analysis.proofs.Agreeing.{same_past, same_changed}
+use Rattle.analysis.proofs.Hashes.{part_at, bit_small}
+use Rattle.analysis.proofs.membership.memory_changed.Goals as goal
+use Rattle.analysis.proofs.membership.memory_changed.Goals.{Start}
+
+-- the memory has all of its bytes
+sized : (c : Start) → length (take c.args.names (drop c.args.at c.args.bytes.now)) ≡ c.args.names
+sized c = length-take-le c.args.names (drop c.args.at c.args.bytes.now) (omega (arith, c.requires, length-drop c.args.at c.args.bytes.now))
+
+pub overflow_sub-wanted : goal.overflow_sub-wanted
+overflow_sub-wanted c =
+    let a = c.args in
+    omega (arith, bit_small (not (eqb (get_or a.rho.now a.x 0) a.set)), c.if-x-names.true)
+
+pub returns-then-x-names : goal.returns-then-x-names
+returns-then-x-names c =
+    let a = c.args in
+    let h = c.if-x-names.true in
+    rw (c.agreeing-count.ensures, ← part_at a.bytes.now a.at a.names a.x h)
+    (same_changed (take a.names (drop a.at a.bytes.now)) a.rho.now a.names (sized (goal.at.returns-then-x-names c).Start) (omega (arith, c.requires.0)) a.x a.set h)
+
+pub returns : goal.returns
+returns c =
+    let a = c.args in
+    rw c.agreeing-count.ensures
+    (same_past (take a.names (drop a.at a.bytes.now)) a.rho.now a.names (sized (goal.at.returns c).Start) (omega (arith, c.requires.0)) a.x a.set c.if-x-names.false)
+
+pub agreeing-count-requires : goal.agreeing-count-requires
+agreeing-count-requires c =
+    (c.requires.0.few, c.requires.1)

@@ -1,0 +1,67 @@
+-- `solver::offer_from`: the record's signs and node are read, and what follows them is offered.
+use Rattle.std.proofs.Common.{◌+◌, ◌*◌, ◌≤◌, List, length, get_or, sym, ◌∙◌, arith}
+use Rattle.program.specs.Parts.Prepared.{Coded, name_count_place}
+use Rattle.analysis.specs.Parts.Judging.{ReadInto}
+use Rattle.analysis.specs.Records.{record_at, memory_of}
+use Rattle.analysis.specs.Parts.Solving.{Growing}
+use Rattle.analysis.proofs.Chains.{record_inside}
+use Rattle.analysis.proofs.Descending.{record_offered}
+use Rattle.analysis.proofs.Laid.{memory_reads}
+use Rattle.analysis.proofs.solver.offer_from.Goals as goal
+use Rattle.analysis.proofs.solver.offer_from.Goals.{After-name_count-names, After-read_memory}
+
+-- the buffer by the number of names, and that the record is inside it
+told : (c : After-name_count-names) → let a = c.args in Growing (2 + c.name_count-names.result) a.buffer.now a.index.now a.p
+told c = rw c.name_count-names.ensures c.requires.1
+
+inside : (c : After-name_count-names) → let a = c.args in (2 + c.name_count-names.result) * a.k + (2 + c.name_count-names.result) ≤ length a.buffer.now
+inside c = record_inside _ _ _ _ c.requires.2 (told c).indexed.room
+
+pub weight-weight-requires : goal.weight-weight-requires
+weight-weight-requires c =
+    ((told (goal.at.weight-weight-requires c).After-name_count-names).indexed.factored, omega (arith, (told (goal.at.weight-weight-requires c).After-name_count-names).wide), omega (arith, inside (goal.at.weight-weight-requires c).After-name_count-names))
+
+pub offer_successors-requires : goal.offer_successors-requires
+offer_successors-requires c =
+    (c.requires.0, c.requires.1, rw (c.read_memory.ensures, c.name_count-names.ensures) (rw c.name_count-names.ensures at c.weight-weight.ensures), c.requires.3)
+
+-- the buffer by the number of names, and that the record is inside it
+told_2 : (c : After-read_memory) → let a = c.args in Growing (2 + c.name_count-names.result) a.buffer.now a.index.now a.p
+told_2 c = rw c.name_count-names.ensures c.requires.1
+
+inside_2 : (c : After-read_memory) → let a = c.args in (2 + c.name_count-names.result) * a.k + (2 + c.name_count-names.result) ≤ length a.buffer.now
+inside_2 c = record_inside _ _ _ _ c.requires.2 (told_2 c).indexed.room
+
+-- the record's memory as it was read
+read : (c : After-read_memory) → let a = c.args in
+    (ns : List _) → Coded ns a.code.now → ReadInto (memory_of ns (record_at (2 + get_or a.code.now name_count_place 0) a.buffer.now a.k)) c.read_memory.new.out (length ns)
+read c ns x =
+    let e = c.name_count-names.ensures in
+    let y = memory_reads _ c.args.k _ ns (sym (e ∙ x.count)) (omega (arith, (told_2 c).wide)) (inside_2 c) _ c.read_memory.ensures in
+    rw (← x.count) (rw e at y)
+
+pub returns : goal.returns
+returns c =
+    record { extended = c.offer_successors.ensures.extended; by_index = λ ns g room x q.
+          record_offered ns _ g _ _ c.args.k c.requires.2 room (rw c.name_count-names.ensures at c.word_at-node.ensures)
+          (c.offer_successors.ensures.by_index ns g _ room x (read (goal.at.returns c).After-read_memory ns x.coded) q) }
+
+pub overflow_add-at : goal.overflow_add-at
+overflow_add-at c =
+    omega (arith, (told (goal.at.overflow_add-at c).After-name_count-names).wide)
+
+pub overflow_mul-at : goal.overflow_mul-at
+overflow_mul-at c =
+    omega (arith, inside (goal.at.overflow_mul-at c).After-name_count-names)
+
+pub overflow_add-at-2 : goal.overflow_add-at-2
+overflow_add-at-2 c =
+    omega (arith, inside (goal.at.overflow_add-at-2 c).After-name_count-names)
+
+pub read_memory-requires : goal.read_memory-requires
+read_memory-requires c =
+    (omega (arith, (told (goal.at.read_memory-requires c).After-name_count-names).wide), omega (arith, inside (goal.at.read_memory-requires c).After-name_count-names))
+
+pub overflow_add-at-3 : goal.overflow_add-at-3
+overflow_add-at-3 c =
+    omega (arith, inside (goal.at.overflow_add-at-3 c).After-name_count-names)

@@ -1,0 +1,20 @@
+-- `solver::offer_successors`: along the links, what follows each edge passed was offered, or all that follows from a guard of the deterministic graph on.
+use Rattle.std.proofs.Common.{◌≡◌, ℕ, ◌+◌, ◌-◌, ◌<◌, min, false, List, length, get_or}
+use Rattle.program.specs.Graph.{Graph}
+use Rattle.program.specs.Parts.Prepared.{Prepared, Following, source_in, action_in, is_guard_node, edge_count_place}
+use Rattle.analysis.specs.Parts.Judging.{ReadInto, names_in}
+use Rattle.analysis.specs.Solver.{offer_results}
+use Rattle.analysis.specs.Parts.Solving.{found_in, along, Extended}
+use Rattle.analysis.proofs.solver.offer_successors.Given as goal
+
+abbrev pub invariant-loop-e : goal.invariant-loop-e
+invariant-loop-e l =
+    (l.e < get_or l.graph edge_count_place 0 → source_in l.graph l.e ≡ l.node)
+    × Extended (2 + names_in l.code) l.initial.buffer l.initial.progress l.buffer l.index l.progress
+    × ((ns : List ℕ) (g : Graph) (ρ : List ℕ) (room : ℕ) → Prepared ns g l.code l.graph → ReadInto ρ l.rho (length ns) → l.initial.progress.room ≡ room
+    → found_in (2 + names_in l.code) l.buffer l.progress
+    ≡ along (offer_results ns g room ρ) g l.node (min l.e (get_or l.graph edge_count_place 0)) (found_in (2 + names_in l.code) l.initial.buffer l.initial.progress))
+    × (l.node < 129 → Following l.graph l.node (λ k. is_guard_node (action_in l.graph k) ≡ false) l.e)
+
+abbrev pub decreases-loop-e : goal.decreases-loop-e
+decreases-loop-e l = get_or l.graph edge_count_place 0 - l.e

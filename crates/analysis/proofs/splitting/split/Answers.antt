@@ -1,0 +1,26 @@
+-- `splitting::split`: by the validity.
+use Rattle.std.proofs.Common.{◌≡◌, ℕ, List, sym, refl, ap, ◌∙◌}
+use Rattle.program.specs.File.{sizes}
+use Rattle.program.specs.Questions.{validity}
+use Rattle.program.specs.declared.Validity.{Validity}
+use Rattle.program.proofs.Laws.{sizes_length}
+use Rattle.analysis.specs.Records.{record_width}
+use Rattle.analysis.specs.Splitter.{split_by, split, split_numbers, split_row}
+use Rattle.analysis.specs.declared.Split.{Split}
+use Rattle.analysis.proofs.splitting.split.Goals as goal
+
+-- the two clauses of the contract
+both : (s : List ℕ) (place : ℕ) {v : Validity} {r : Split} → validity s ≡ v → r ≡ split_by v (record_width (sizes s)) place → (r ≡ split s place) × (split_numbers r ≡ split_row s place)
+unfolding split split_row
+both s place e p =
+    let q = p ∙ ap (λ (v : Validity). split_by v (record_width (sizes s)) place) (sym e) in
+    (q, ap split_numbers q)
+
+pub returns-in-Fit : goal.returns-in-Fit
+unfolding record_width
+returns-in-Fit c =
+    both _ _ (sym c.validate-v.ensures.value ∙ c.in-Fit.is) (rw (c.split_by.ensures, c.name_count.ensures, sizes_length _))
+
+pub returns-in-Refused : goal.returns-in-Refused
+unfolding split_by
+returns-in-Refused c = both _ _ (sym c.validate-v.ensures.value ∙ c.in-Refused.is) refl
