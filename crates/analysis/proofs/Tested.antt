@@ -32,8 +32,8 @@ holds_join ρ =
     }
 
 -- the own guard of an edge, as the code has it
-abbrev pub field_own : List ℕ → List ℕ → ℕ → Boolean
-field_own code graph e = own_in (entries_in code graph) (action_in graph e)
+abbrev pub own_at : List ℕ → List ℕ → ℕ → Boolean
+own_at code graph e = own_in (entries_in code graph) (action_in graph e)
 
 -- what an edge means that is no guard's of the deterministic graph, as the code decodes it
 pub plain_meaning : {ns : List ℕ} {g : Graph} {code graph : List ℕ} → Prepared ns g code graph → (e : ℕ) → e < length g.edges → {a : ActionNode} → a ≡ action_in graph e → is_guard_node a ≡ false
@@ -50,25 +50,25 @@ module _ {ns : List ℕ} {g : Graph} {code graph : List ℕ} (p : Prepared ns g 
   abbrev MayFail : Boolean → Bool
   MayFail b = (truths_in ρ (negation 0 b)).holds
 
-  results_tested : results ρ (meaning (edge_at g f).action) ≡ cond (all_of MayFail (guards_in (entries_in code graph) graph node f) && (truths_in ρ (field_own code graph f)).holds) (ρ ∷ []) []
+  results_tested : results ρ (meaning (edge_at g f).action) ≡ cond (all_of MayFail (guards_in (entries_in code graph) graph node f) && (truths_in ρ (own_at code graph f)).holds) (ρ ∷ []) []
   unfolding results
   results_tested =
       let known = guarded p opened f h here in
       ap (results ρ) known.means ∙ ap (λ (t : Bool). cond t (ρ ∷ []) []) (known.each (holds_join ρ))
 
   -- after guards that may all fail
-  pub results_own : ((k : ℕ) → k < f → eqb (source_in graph k) node ≡ true → (truths_in ρ (field_own code graph k)).fails ≡ true)
-      → results ρ (meaning (edge_at g f).action) ≡ cond (truths_in ρ (field_own code graph f)).holds (ρ ∷ []) []
+  pub results_own : ((k : ℕ) → k < f → eqb (source_in graph k) node ≡ true → (truths_in ρ (own_at code graph k)).fails ≡ true)
+      → results ρ (meaning (edge_at g f).action) ≡ cond (truths_in ρ (own_at code graph f)).holds (ρ ∷ []) []
   unfolding truths_in negated
   results_own each =
       results_tested
-      ∙ ap (λ (t : Bool). cond (t && (truths_in ρ (field_own code graph f)).holds) (ρ ∷ []) []) (all_lower (entries_in code graph) graph node MayFail f each)
+      ∙ ap (λ (t : Bool). cond (t && (truths_in ρ (own_at code graph f)).holds) (ρ ∷ []) []) (all_lower (entries_in code graph) graph node MayFail f each)
 
   -- after one that may not
-  pub results_none : (k : ℕ) → k < f → eqb (source_in graph k) node ≡ true → (truths_in ρ (field_own code graph k)).fails ≡ false → results ρ (meaning (edge_at g f).action) ≡ []
+  pub results_none : (k : ℕ) → k < f → eqb (source_in graph k) node ≡ true → (truths_in ρ (own_at code graph k)).fails ≡ false → results ρ (meaning (edge_at g f).action) ≡ []
   unfolding truths_in negated
   results_none k l at t = results_tested ∙ by (all_of MayFail (guards_in (entries_in code graph) graph node f)) refl
     where
-      by : (a : Bool) → all_of MayFail (guards_in (entries_in code graph) graph node f) ≡ a → cond (a && (truths_in ρ (field_own code graph f)).holds) (ρ ∷ []) [] ≡ []
+      by : (a : Bool) → all_of MayFail (guards_in (entries_in code graph) graph node f) ≡ a → cond (a && (truths_in ρ (own_at code graph f)).holds) (ρ ∷ []) [] ≡ []
       by true all = absurd (false≢true (sym t ∙ lower_all (entries_in code graph) graph node MayFail f all k l at))
       by false all = refl

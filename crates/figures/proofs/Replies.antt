@@ -14,8 +14,8 @@ use Rattle.figures.specs.declared.Figures.{Figures}
 use Rattle.figures.specs.declared.Totals.{Totals}
 
 -- a reply, and the same in numbers
-pub numbered : {f g : Figures} → f ≡ g → (f ≡ g) × (figures_numbers f ≡ figures_numbers g)
-numbered e = (e, ap figures_numbers e)
+pub numbered : {f g : Figures} → f ≡ g → record { value : f ≡ g; numbers : figures_numbers f ≡ figures_numbers g }
+numbered e = record { value = e; numbers = ap figures_numbers e }
 
 -- a list, by its answer
 pub list_fit : (marks : List ℤ) → list_validity marks ≡ Fit → list_figures marks ≡ figures_by Fit (totals marks)

@@ -8,7 +8,7 @@ use Rattle.analysis.proofs.lists.initial_formed.Given as goal
 
 abbrev pub invariant-loop-k : goal.invariant-loop-k
 invariant-loop-k l =
-    (l.k ≤ l.count) × ((ns : List ℕ) → Coded ns l.code → ask_each l.k (λ l.k. memory_formed ns l.bytes (l.names * l.k)) ≡ Fit)
+    (l.k ≤ l.count) × ((ns : List ℕ) → Coded ns l.code → ask_each l.k (λ k. memory_formed ns l.bytes (l.names * k)) ≡ Fit)
 
 abbrev pub decreases-loop-k : goal.decreases-loop-k
 decreases-loop-k l = l.count - l.k

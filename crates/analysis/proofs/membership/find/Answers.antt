@@ -9,7 +9,7 @@ use Rattle.analysis.proofs.membership.find.Goals.{After-shared_slice_known-1, In
 there : (c : In-loop-link) → let a = c.args in There (2 + a.names) a.bytes.now a.index.now c.loop-link.link
 there c =
     let p = c.requires in
-    walked_there _ _ _ _ _ _ p.1.1 c.loop-link.link (omega (arith, c.loop-link-test.true)) (c.loop-link.invariant p.1.0 p.1.1)
+    walked_there _ _ _ _ _ _ p.by_index.1 c.loop-link.link (omega (arith, c.loop-link-test.true)) (c.loop-link.invariant p.by_index.0 p.by_index.1)
 
 small : (c : After-shared_slice_known-1) → c.args.h < 8192
 small c = hash_small _ _ _ _ _ _ c.requires.by_index.1

@@ -4,14 +4,13 @@ use native.Mathlib.Nat.{mul-div-le}
 use Rattle.analysis.specs.Records.{record_at, record_count}
 use Rattle.analysis.proofs.Chains.{record_inside, bucket_small}
 use Rattle.analysis.proofs.membership.put_index.Goals as goal
-use Rattle.analysis.proofs.membership.put_index.Goals.{Start}
+use Rattle.analysis.proofs.membership.put_index.Goals.{Start, In-loop-k}
 
 -- the record is there
-there : (c : tie.After-hash-at-arg invariant-loop decreases-loop)
-    → let a = c.before.before.before.before.before.before.args in (2 + a.names) * c.before.before.loop.k + (2 + a.names) ≤ length a.bytes.now
+there : (c : In-loop-k) → let a = c.args in (2 + a.names) * c.loop-k.k + (2 + a.names) ≤ length a.bytes.now
 there c =
-    let a = c.before.before.before.before.before.before.args in
-    record_inside (2 + a.names) c.before.before.loop.k (length a.bytes.now / (2 + a.names)) (length a.bytes.now) c.before.loop-test.true
+    let a = c.args in
+    record_inside (2 + a.names) c.loop-k.k (length a.bytes.now / (2 + a.names)) (length a.bytes.now) c.loop-k-test.true
     (mul-div-le (length a.bytes.now) (2 + a.names))
 
 counted : (c : Start) → length c.args.bytes.now / (2 + c.args.names) ≤ 4096
@@ -22,7 +21,7 @@ pub loop-k-init : goal.loop-k-init
 loop-k-init c = (search rules, c.put_factors.ensures _ _)
 
 pub hash_at-h-requires : goal.hash_at-h-requires
-hash_at-h-requires c = (c.loop-k.invariant.1.factored, c.requires.1, there c)
+hash_at-h-requires c = (c.loop-k.invariant.1.factored, c.requires.1, there (goal.at.hash_at-h-requires c).In-loop-k)
 
 pub enter-requires : goal.enter-requires
 enter-requires c =
@@ -32,7 +31,7 @@ pub loop-k-preserved : goal.loop-k-preserved
 unfolding record_at
 loop-k-preserved c =
     let a = c.args in
-    let room = there c in (
+    let room = there (goal.at.loop-k-preserved c).In-loop-k in (
       search rules,
       rw add-one
           (c.enter.ensures (2 + a.names) a.bytes.now c.loop-k.invariant.1 (omega (arith, mul-suc (2 + a.names) c.loop-k.k, room)) c.hash_at-h.ensures),
@@ -44,4 +43,4 @@ returns c = rw (← le_antisymm c.loop-k.invariant.0 c.loop-k-test.false) c.loop
 
 pub overflow_mul-names : goal.overflow_mul-names
 overflow_mul-names c =
-    omega (arith, there c)
+    omega (arith, there (goal.at.overflow_mul-names c).In-loop-k)

@@ -5,7 +5,7 @@ use Rattle.program.proofs.Lists.{length_tabulate, get_d_tabulate}
 use Rattle.analysis.specs.Parts.Doubling as spec
 use Rattle.analysis.proofs.Doubling.{few_doublings, doubled_positive}
 use Rattle.analysis.proofs.splitting.double.Goals as goal
-use Rattle.analysis.proofs.splitting.double.Goals.{In-loop-doubled}
+use Rattle.analysis.proofs.splitting.double.Goals.{After-way_told-1}
 
 pub loop-doubled-init : goal.loop-doubled-init
 unfolding spec.doubled
@@ -16,10 +16,10 @@ pub bounds-widths-count : goal.bounds-widths-count
 bounds-widths-count c = few_doublings _ _ c.requires (omega (arith, c.loop-doubled.invariant.1))
 
 pub offset_bounds-widths-count : goal.offset_bounds-widths-count
-offset_bounds-widths-count c = omega (arith, bounds-widths-count (goal.at.offset_bounds-widths-count c).In-loop-doubled)
+offset_bounds-widths-count c = omega (arith, bounds-widths-count (goal.at.offset_bounds-widths-count c).After-way_told-1)
 
 pub overflow_add-count : goal.overflow_add-count
-overflow_add-count c = omega (arith, bounds-widths-count (goal.at.overflow_add-count c).In-loop-doubled)
+overflow_add-count c = omega (arith, bounds-widths-count (goal.at.overflow_add-count c).After-way_told-1)
 
 pub loop-doubled-smaller : goal.loop-doubled-smaller
 loop-doubled-smaller c = omega (arith, c.loop-doubled.invariant.1, doubled_positive _ c.loop-doubled.count c.requires)
@@ -29,7 +29,7 @@ unfolding spec.doubled
 loop-doubled-preserved c =
     let l = c.loop-doubled in
     let f = spec.doubled c.args.width in
-    (omega (arith, bounds-widths-count (goal.at.loop-doubled-preserved c).In-loop-doubled), rw (add-one, l.invariant.1), filled_next _ l.count _ refl (omega (arith, bounds-widths-count (goal.at.loop-doubled-preserved c).In-loop-doubled, length_tabulate 32 f)) (l.invariant.1 ∙ sym (get_d_tabulate 32 f l.count 0 (bounds-widths-count (goal.at.loop-doubled-preserved c).In-loop-doubled))) l.invariant.2)
+    (omega (arith, bounds-widths-count (goal.at.loop-doubled-preserved c).After-way_told-1), rw (add-one, l.invariant.1), filled_next _ l.count _ refl (omega (arith, bounds-widths-count (goal.at.loop-doubled-preserved c).After-way_told-1, length_tabulate 32 f)) (l.invariant.1 ∙ sym (get_d_tabulate 32 f l.count 0 (bounds-widths-count (goal.at.loop-doubled-preserved c).After-way_told-1))) l.invariant.2)
 
 pub returns : goal.returns
 returns c =

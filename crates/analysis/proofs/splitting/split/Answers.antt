@@ -10,11 +10,11 @@ use Rattle.analysis.specs.declared.Split.{Split}
 use Rattle.analysis.proofs.splitting.split.Goals as goal
 
 -- the two clauses of the contract
-both : (s : List ℕ) (place : ℕ) {v : Validity} {r : Split} → validity s ≡ v → r ≡ split_by v (record_width (sizes s)) place → (r ≡ split s place) × (split_numbers r ≡ split_row s place)
+both : (s : List ℕ) (place : ℕ) {v : Validity} {r : Split} → validity s ≡ v → r ≡ split_by v (record_width (sizes s)) place → record { value : r ≡ split s place; numbers : split_numbers r ≡ split_row s place }
 unfolding split split_row
 both s place e p =
     let q = p ∙ ap (λ (v : Validity). split_by v (record_width (sizes s)) place) (sym e) in
-    (q, ap split_numbers q)
+    record { value = q; numbers = ap split_numbers q }
 
 pub returns-in-Fit : goal.returns-in-Fit
 unfolding record_width

@@ -4,7 +4,7 @@ use Rattle.analysis.proofs.Doubling.{Off}
 use Rattle.analysis.proofs.splitting.split_by.Given as goal
 
 abbrev pub invariant-loop-left : goal.invariant-loop-left
-invariant-loop-left l = (l.left ≤ l.count) × Off l.width l.place l.left «record» l.rest
+invariant-loop-left l = (l.left ≤ l.count) × Off l.width l.place l.left l.record l.rest
 
 abbrev pub decreases-loop-left : goal.decreases-loop-left
 decreases-loop-left l = l.left

@@ -3,13 +3,11 @@ use Prim.Native.Nat.{◌-◌, ◌≤◌}
 use mathlib.Core.Path.{◌≡◌}
 use mathlib.Core.List.{map}
 use lib.ListN.{length, take}
-use mir.Syntax.{w64}
-use mir.Val.{to_z}
 use Rattle.figures.specs.Totals.{sum_of, square}
 use Rattle.figures.proofs.adding.of_marks.Given as goal
 
 abbrev pub invariant-loop-i : goal.invariant-loop-i
-invariant-loop-i l = (l.i ≤ length l.marks) × (to_z w64 l.sum-bits ≡ sum_of (take l.i l.marks)) × (to_z w64 l.squares-bits ≡ sum_of (take l.i (map square l.marks)))
+invariant-loop-i l = (l.i ≤ length l.marks) × (l.sum ≡ sum_of (take l.i l.marks)) × (l.squares ≡ sum_of (take l.i (map square l.marks)))
 
 abbrev pub decreases-loop-i : goal.decreases-loop-i
 decreases-loop-i l = length l.marks - l.i

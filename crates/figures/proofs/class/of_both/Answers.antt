@@ -14,83 +14,76 @@ use Rattle.figures.proofs.Replies.{join_fit, join_refused}
 use Rattle.figures.proofs.class.of_both.Goals as goal
 use Rattle.figures.proofs.class.of_both.Goals.{After-countable, After-possible, After-possible-2, Else-not-countable, Else-not-possible, Else-not-possible-2}
 
--- the two classes
-abbrev first : tie.Start → Totals
-first s = class s.args.first_count s.args.first-sum s.args.first-squares
-
-abbrev second : tie.Start → Totals
-second s = class s.args.second-count s.args.second-sum s.args.second-squares
-
 -- what each test was answered
-count_told : (c : After-countable) → countable ((first c).count + (second c).count) ≡ c.countable.result
+count_told : (c : After-countable) → countable ((class c.args.first_count c.args.first_sum c.args.first_squares).count + (class c.args.second_count c.args.second_sum c.args.second_squares).count) ≡ c.countable.result
 count_told c = sym c.countable.ensures
 
-first_told : (c : After-possible) → possible (first c) ≡ c.possible.result
+first_told : (c : After-possible) → possible (class c.args.first_count c.args.first_sum c.args.first_squares) ≡ c.possible.result
 first_told c =
-    sym (c.possible.ensures ∙ ap possible (handed_is (first c) c.ranges.first-sum c.ranges.first-squares))
+    sym (c.possible.ensures ∙ ap possible (handed_is (class c.args.first_count c.args.first_sum c.args.first_squares) c.ranges.first_sum c.ranges.first_squares))
 
-second_told : (c : After-possible-2) → possible (second c) ≡ c.possible-2.result
+second_told : (c : After-possible-2) → possible (class c.args.second_count c.args.second_sum c.args.second_squares) ≡ c.possible-2.result
 second_told c =
-    sym (c.possible-2.ensures ∙ ap possible (handed_is (second c) c.ranges.second-sum c.ranges.second-squares))
+    sym (c.possible-2.ensures ∙ ap possible (handed_is (class c.args.second_count c.args.second_sum c.args.second_squares) c.ranges.second_sum c.ranges.second_squares))
 
 -- what each test was answered
-count_told_2 : (c : Else-not-countable) → countable ((first c).count + (second c).count) ≡ c.countable.result
+count_told_2 : (c : Else-not-countable) → countable ((class c.args.first_count c.args.first_sum c.args.first_squares).count + (class c.args.second_count c.args.second_sum c.args.second_squares).count) ≡ c.countable.result
 count_told_2 c = sym c.countable.ensures
 
-count_passed : (c : Else-not-countable) → countable ((first c).count + (second c).count) ≡ true
+count_passed : (c : Else-not-countable) → countable ((class c.args.first_count c.args.first_sum c.args.first_squares).count + (class c.args.second_count c.args.second_sum c.args.second_squares).count) ≡ true
 count_passed c = count_told_2 c ∙ not-false c.countable.result c.if-not-countable.false-raw
 
-first_told_2 : (c : Else-not-possible) → possible (first c) ≡ c.possible.result
+first_told_2 : (c : Else-not-possible) → possible (class c.args.first_count c.args.first_sum c.args.first_squares) ≡ c.possible.result
 first_told_2 c =
-    sym (c.possible.ensures ∙ ap possible (handed_is (first c) c.ranges.first-sum c.ranges.first-squares))
+    sym (c.possible.ensures ∙ ap possible (handed_is (class c.args.first_count c.args.first_sum c.args.first_squares) c.ranges.first_sum c.ranges.first_squares))
 
-first_passed : (c : Else-not-possible) → possible (first c) ≡ true
+first_passed : (c : Else-not-possible) → possible (class c.args.first_count c.args.first_sum c.args.first_squares) ≡ true
 first_passed c = first_told_2 c ∙ not-false c.possible.result c.if-not-possible.false-raw
 
-second_told_2 : (c : Else-not-possible-2) → possible (second c) ≡ c.possible-2.result
+second_told_2 : (c : Else-not-possible-2) → possible (class c.args.second_count c.args.second_sum c.args.second_squares) ≡ c.possible-2.result
 second_told_2 c =
-    sym (c.possible-2.ensures ∙ ap possible (handed_is (second c) c.ranges.second-sum c.ranges.second-squares))
+    sym (c.possible-2.ensures ∙ ap possible (handed_is (class c.args.second_count c.args.second_sum c.args.second_squares) c.ranges.second_sum c.ranges.second_squares))
 
-second_passed : (c : Else-not-possible-2) → possible (second c) ≡ true
+second_passed : (c : Else-not-possible-2) → possible (class c.args.second_count c.args.second_sum c.args.second_squares) ≡ true
 second_passed c = second_told_2 c ∙ not-false c.possible-2.result c.if-not-possible-2.false-raw
 
 pub returns-then-not-countable : goal.returns-then-not-countable
 returns-then-not-countable c =
-    c.unfit.ensures ∙ sym (join_refused (first c) (second c) (rw (count_told (goal.at.returns-then-not-countable c).After-countable, not-true c.countable.result c.if-not-countable.true-raw)))
+    c.unfit.ensures ∙ sym (join_refused (class c.args.first_count c.args.first_sum c.args.first_squares) (class c.args.second_count c.args.second_sum c.args.second_squares) (rw (count_told (goal.at.returns-then-not-countable c).After-countable, not-true c.countable.result c.if-not-countable.true-raw)))
 
 pub returns-then-not-possible : goal.returns-then-not-possible
 returns-then-not-possible c =
     c.unfit-then-not-possible.ensures
-    ∙ sym (join_refused (first c) (second c) (rw (count_passed (goal.at.returns-then-not-possible c).Else-not-countable, first_told (goal.at.returns-then-not-possible c).After-possible, not-true c.possible.result c.if-not-possible.true-raw)))
+    ∙ sym (join_refused (class c.args.first_count c.args.first_sum c.args.first_squares) (class c.args.second_count c.args.second_sum c.args.second_squares) (rw (count_passed (goal.at.returns-then-not-possible c).Else-not-countable, first_told (goal.at.returns-then-not-possible c).After-possible, not-true c.possible.result c.if-not-possible.true-raw)))
 
 pub returns-then-not-possible-2 : goal.returns-then-not-possible-2
 returns-then-not-possible-2 c =
     c.unfit-then-not-possible-2.ensures
-    ∙ sym (join_refused (first c) (second c)
+    ∙ sym (join_refused (class c.args.first_count c.args.first_sum c.args.first_squares) (class c.args.second_count c.args.second_sum c.args.second_squares)
     (rw (count_passed (goal.at.returns-then-not-possible-2 c).Else-not-countable, first_passed (goal.at.returns-then-not-possible-2 c).Else-not-possible, second_told (goal.at.returns-then-not-possible-2 c).After-possible-2, not-true c.possible-2.result c.if-not-possible-2.true-raw)))
 
 -- what each test was answered
-count_told_3 : (c : Else-not-possible-2) → countable ((first c).count + (second c).count) ≡ c.countable.result
+count_told_3 : (c : Else-not-possible-2) → countable ((class c.args.first_count c.args.first_sum c.args.first_squares).count + (class c.args.second_count c.args.second_sum c.args.second_squares).count) ≡ c.countable.result
 count_told_3 c = sym c.countable.ensures
 
-count_passed_2 : (c : Else-not-possible-2) → countable ((first c).count + (second c).count) ≡ true
+count_passed_2 : (c : Else-not-possible-2) → countable ((class c.args.first_count c.args.first_sum c.args.first_squares).count + (class c.args.second_count c.args.second_sum c.args.second_squares).count) ≡ true
 count_passed_2 c = count_told_3 c ∙ not-false c.countable.result c.if-not-countable.false-raw
 
 -- both are small
-few : (c : Else-not-possible-2) → Counted ((first c).count + (second c).count)
+few : (c : Else-not-possible-2) → Counted ((class c.args.first_count c.args.first_sum c.args.first_squares).count + (class c.args.second_count c.args.second_sum c.args.second_squares).count)
 few c = counted _ (count_passed_2 c)
 
-first_told_3 : (c : Else-not-possible-2) → possible (first c) ≡ c.possible.result
+first_told_3 : (c : Else-not-possible-2) → possible (class c.args.first_count c.args.first_sum c.args.first_squares) ≡ c.possible.result
 first_told_3 c =
-    sym (c.possible.ensures ∙ ap possible (handed_is (first c) c.ranges.first-sum c.ranges.first-squares))
+    sym (c.possible.ensures ∙ ap possible (handed_is (class c.args.first_count c.args.first_sum c.args.first_squares) c.ranges.first_sum c.ranges.first_squares))
 
-first_passed_2 : (c : Else-not-possible-2) → possible (first c) ≡ true
+first_passed_2 : (c : Else-not-possible-2) → possible (class c.args.first_count c.args.first_sum c.args.first_squares) ≡ true
 first_passed_2 c = first_told_3 c ∙ not-false c.possible.result c.if-not-possible.false-raw
 
-first_small : (c : Else-not-possible-2) → Bounded (first c)
+first_small : (c : Else-not-possible-2) → Bounded (class c.args.first_count c.args.first_sum c.args.first_squares)
 first_small c = possible_bounded _ (omega (arith, (few c).few)) (first_passed_2 c)
 
-second_small : (c : Else-not-possible-2) → Bounded (second c)
+second_small : (c : Else-not-possible-2) → Bounded (class c.args.second_count c.args.second_sum c.args.second_squares)
 second_small c = possible_bounded _ (omega (arith, (few c).few)) (second_passed c)
 
 pub of_totals-requires : goal.of_totals-requires
@@ -103,7 +96,7 @@ pub returns : goal.returns
 returns c =
     c.of_totals.ensures
     ∙ ap (figures_by Fit) (joined_read _ _ (first_small (goal.at.returns c).Else-not-possible-2) (second_small (goal.at.returns c).Else-not-possible-2) (few (goal.at.returns c).Else-not-possible-2).few)
-    ∙ sym (join_fit (first c) (second c) (rw (count_passed (goal.at.returns c).Else-not-countable, first_passed (goal.at.returns c).Else-not-possible, second_passed (goal.at.returns c).Else-not-possible-2)))
+    ∙ sym (join_fit (class c.args.first_count c.args.first_sum c.args.first_squares) (class c.args.second_count c.args.second_sum c.args.second_squares) (rw (count_passed (goal.at.returns c).Else-not-countable, first_passed (goal.at.returns c).Else-not-possible, second_passed (goal.at.returns c).Else-not-possible-2)))
 
 pub possible-requires : goal.possible-requires
 possible-requires c =
