@@ -111,6 +111,6 @@ validity_refused s initial x e = rw e
 -- the clauses of the contract
 pub answered_all : (κ : Construction) (s initial buffer : List ℕ) {buffer' : List ℕ} {r : Solved}
     → Answered (initial_validity s initial) (initial_formed (sizes s) initial) (solution (sizes s) (graph κ s) initial (room_of (sizes s) (length buffer))) buffer buffer' r
-    → ((r ≡ solved κ s initial buffer) × (buffer' ≡ solved_buffer κ s initial buffer)) × (solved_numbers r ≡ solver_row κ s initial buffer)
+    → record { value : (r ≡ solved κ s initial buffer) × (buffer' ≡ solved_buffer κ s initial buffer); numbers : solved_numbers r ≡ solver_row κ s initial buffer }
 unfolding solver_row solved solved_buffer solution_in
-answered_all κ s initial buffer a = ((a.reply, a.buffer), ap solved_numbers a.reply)
+answered_all κ s initial buffer a = record { value = (a.reply, a.buffer); numbers = ap solved_numbers a.reply }

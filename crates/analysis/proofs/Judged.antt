@@ -74,9 +74,17 @@ verdict_judged κ s initial solution p = rw p
 
 -- a verdict, with document 01's numbers and the third term
 pub promised : (κ : Construction) (s initial solution : List ℕ) {r : Verdict} → r ≡ verdict κ s initial solution
-    → (r ≡ verdict κ s initial solution) × ((verdict_numbers r ≡ verdict_row κ s initial solution) × ThirdTermFor κ s initial solution r)
+    → record {
+      value : r ≡ verdict κ s initial solution;
+      numbers : verdict_numbers r ≡ verdict_row κ s initial solution;
+      third : ThirdTermFor κ s initial solution r;
+    }
 unfolding verdict_row
-promised κ s initial solution k = (k, (ap verdict_numbers k, subst (ThirdTermFor κ s initial solution) (sym k) (third_term κ s initial solution)))
+promised κ s initial solution k = record {
+  value = k;
+  numbers = ap verdict_numbers k;
+  third = subst (ThirdTermFor κ s initial solution) (sym k) (third_term κ s initial solution);
+}
 
 -- the index mark of a list by itself: refused, or over the prepared program
 pub marking_refused : (s solution : List ℕ) (x : Refusal) → validity s ≡ Refused x → marking s solution ≡ Declined x

@@ -1,5 +1,5 @@
 -- Where an action is undefined for reason 34, one of its index sets has minus.
-use Rattle.std.proofs.Common.{◌≡◌, ℕ, true, false, ◌&&◌, T, List, [], ◌∷◌, ◌++◌, ℤ, refl, ap, ◌∙◌, arith}
+use Rattle.std.proofs.Common.{◌≡◌, ℕ, true, false, ◌&&◌, T, List, ◌∷◌, ◌++◌, ℤ, refl, ap, ◌∙◌, arith}
 use mir.Facts.{and_yes}
 use Rattle.signs.specs.Number.{reason_number}
 use Rattle.signs.specs.declared.Reason.TheVariants.{ConditionFalse}

@@ -1,6 +1,6 @@
 -- The results of an action from an abstract memory ρ, in order (document 01, "Signs": "An arrow's results from a record"; book, the clauses of
 -- section 4.3).
-use Rattle.std.specs.Prelude.{ℕ, cond, List, [], ◌∷◌, map, set, slice_index, slice_set}
+use Rattle.std.specs.Prelude.{ℕ, cond, List, [], ◌∷◌, map, slice_index, slice_set}
 use mathlib.Core.List.{flat_map}
 use Rattle.signs.specs.Sign.{single, members, added, removed}
 use Rattle.signs.specs.declared.Sign.{Sign}

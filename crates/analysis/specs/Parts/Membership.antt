@@ -1,6 +1,6 @@
 -- Membership of a record in a list by an index: chains of records with the same hash, each from the last. The index is one list: the factors of 34
 -- columns, the last record of each of 8,192 hashes, and the last lower record of each of 4,096. No public contract cites these.
-use Rattle.std.specs.Prelude.{◌≡◌, ℕ, zero, suc, ◌+◌, ◌*◌, ◌/◌, ◌%◌, ◌<◌, ◌≤◌, Bool, false, cond, ◌||◌, List, length, take, set, ◌==◌, nat_eq, slice_index, slice_set}
+use Rattle.std.specs.Prelude.{◌≡◌, ℕ, zero, suc, ◌+◌, ◌*◌, ◌/◌, ◌%◌, ◌<◌, ◌≤◌, Bool, false, cond, ◌||◌, List, length, take, ◌==◌, nat_eq, slice_index, slice_set}
 use mir.Val.{bool_byte}
 use Rattle.analysis.specs.Records.{record_at, record_for, same_signs}
 use Rattle.analysis.specs.declared.Change.{Change}

@@ -1,5 +1,5 @@
 -- `judging::first_picked`: the links are followed up to the first edge that is picked, or at which 42 is handed over.
-use Rattle.std.proofs.Common.{◌≡◌, ◌<◌, Bool, false, get_or, sym, ◌∙◌, arith}
+use Rattle.std.proofs.Common.{◌≡◌, ◌<◌, Bool, get_or, sym, ◌∙◌, arith}
 use Rattle.program.specs.Parts.Prepared.{edge_count_place, action_in}
 use Rattle.program.proofs.Laws.{first_is_followed, next_is_followed, next_is_beyond}
 use Rattle.analysis.specs.Parts.Judging.{handed_over}

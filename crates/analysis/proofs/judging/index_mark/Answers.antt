@@ -6,9 +6,9 @@ use Rattle.analysis.proofs.Judged.{ready, still, marking_refused, marking_marked
 use Rattle.analysis.proofs.judging.index_mark.Goals as goal
 
 -- the two clauses of the contract
-whole : (s solution : List ℕ) {r : Marking} → r ≡ marking s solution → (r ≡ marking s solution) × (marking_numbers r ≡ mark_row s solution)
+whole : (s solution : List ℕ) {r : Marking} → r ≡ marking s solution → record { value : r ≡ marking s solution; numbers : marking_numbers r ≡ mark_row s solution }
 unfolding mark_row
-whole s solution k = (k, ap marking_numbers k)
+whole s solution k = record { value = k; numbers = ap marking_numbers k }
 
 pub put-requires : goal.put-requires
 put-requires c = (c.prepare_linked-v.ensures.prepared.prepared c.in-Fit.is).coded.long

@@ -1,17 +1,8 @@
 -- `judging::offending_on`: by the verdict's cases.
-use Rattle.std.proofs.Common.{◌+◌, ◌≤◌, sym, ◌∙◌, mul-le-mul, arith}
+use Rattle.std.proofs.Common.{sym, ◌∙◌}
 use Rattle.analysis.specs.Verdict.{offending}
 use Rattle.analysis.proofs.Judged.{initial_part_lem, solution_part}
 use Rattle.analysis.proofs.judging.offending_on.Goals as goal
-
-pub overflow_mul-names : goal.overflow_mul-names
-overflow_mul-names c = record { fits = omega (arith, mul-le-mul c.name_count-names.type_inv c.known_told-1.given.0.1) }
-
-pub overflow_mul-names-in-ResultMissing : goal.overflow_mul-names-in-ResultMissing
-overflow_mul-names-in-ResultMissing c =
-    let few = c.name_count-names.type_inv in
-    let names : 2 + c.name_count-names.result ≤ 65538 = omega (arith, few) in
-    record { fits = omega (arith, mul-le-mul names c.known_told-in-ResultMissing-1.given.0.1) }
 
 pub returns-in-InitialMissing : goal.returns-in-InitialMissing
 returns-in-InitialMissing c = rw (sym c.judge_on-v.ensures.value ∙ c.in-InitialMissing.is) (initial_part_lem _ _ _ _ c.name_count-names.ensures _ _ c.part.ensures)

@@ -33,16 +33,15 @@ weight-weight-requires c =
     (c.requires.0.indexed.factored, rw c.name_count-names.ensures (ready_names c.requires.0.ready).1, rw c.name_count-names.ensures (omega (arith, inside (goal.at.weight-weight-requires c).Start)))
 
 pub first_picked-found-requires : goal.first_picked-found-requires
-first_picked-found-requires c =
-    (
-      record {
-        count = c.requires.0.count;
-        indexed = c.requires.0.indexed;
-        weighed = rw (← c.name_count-names.ensures, c.read_memory.ensures) c.weight-weight.ensures;
-      },
-      c.requires.0.ready.linked,
-      c.requires.0.ready.tabled,
-    )
+first_picked-found-requires c = (
+  record {
+    count = c.requires.0.count;
+    indexed = c.requires.0.indexed;
+    weighed = rw (← c.name_count-names.ensures, c.read_memory.ensures) c.weight-weight.ensures;
+  },
+  c.requires.0.ready.linked,
+  c.requires.0.ready.tabled,
+)
 
 -- what was found
 picked : (c : After-first_picked-found) (ns : List ℕ) (g : Graph)

@@ -22,8 +22,11 @@ pub returns-then-x-names : goal.returns-then-x-names
 returns-then-x-names c =
     let w = c.requires.1 in
     let x = c.args.change.name in
-    let h = c.if-x-names.true in record { value = rw (told (goal.at.returns-then-x-names c).After-term, c.term-then-x-names.ensures.value, c.requires.0.each (2 + x) (omega (arith, w.front.few)))
-          (sum_changed c.args.names c.args.rho.now (omega (arith, w.front)) c.args.weight w.weighed x c.args.change.set h); upper_bound = omega (arith, c.term-then-x-names.ensures.upper_bound, w.small) }
+    let h = c.if-x-names.true in record {
+      value = rw (told (goal.at.returns-then-x-names c).After-term, c.term-then-x-names.ensures.value, c.requires.0.each (2 + x) (omega (arith, w.front.few)))
+          (sum_changed c.args.names c.args.rho.now (omega (arith, w.front)) c.args.weight w.weighed x c.args.change.set h);
+      upper_bound = omega (arith, c.term-then-x-names.ensures.upper_bound, w.small);
+    }
 
 pub returns : goal.returns
 returns c =

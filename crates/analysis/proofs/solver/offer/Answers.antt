@@ -41,8 +41,11 @@ returns-then-find c =
 
 pub returns-then-p-2 : goal.returns-then-p-2
 returns-then-p-2 c =
-    record { extended = extended_full c.requires.0; by_index = λ ns ρ room m y q low. found_none _ _ _
-          ∙ sym (offer_none _ _ _ _ _ (found_full _ _ _ ∙ c.if-p.false) (told (goal.at.returns-then-p-2 c).After-find ns ρ m y low ∙ c.if-find.false) (omega (arith, q, found_count c.requires.0, c.if-p-2.true))) }
+    record {
+      extended = extended_full c.requires.0;
+      by_index = λ ns ρ room m y q low. found_none _ _ _
+          ∙ sym (offer_none _ _ _ _ _ (found_full _ _ _ ∙ c.if-p.false) (told (goal.at.returns-then-p-2 c).After-find ns ρ m y low ∙ c.if-find.false) (omega (arith, q, found_count c.requires.0, c.if-p-2.true)));
+    }
 
 pub put_changed-requires : goal.put_changed-requires
 put_changed-requires c =
@@ -54,9 +57,12 @@ enter-requires c =
 
 pub returns : goal.returns
 returns c =
-    let sized = changed_sized c.requires.1.front c.args.change in record { extended = extended_put _ _ _ _ c.requires.0 c.if-p-2.false _ _ sized c.put_changed.ensures _ _ c.hash_changed-h.ensures (c.enter.ensures _ _); by_index = λ ns ρ room m y q low. found_put _ _ _ _ c.requires.0 c.if-p-2.false _ _ sized c.put_changed.ensures
+    let sized = changed_sized c.requires.1.front c.args.change in record {
+      extended = extended_put _ _ _ _ c.requires.0 c.if-p-2.false _ _ sized c.put_changed.ensures _ _ c.hash_changed-h.ensures (c.enter.ensures _ _);
+      by_index = λ ns ρ room m y q low. found_put _ _ _ _ c.requires.0 c.if-p-2.false _ _ sized c.put_changed.ensures
           ∙ sym (offer_more _ _ _ _ _ (found_full _ _ _ ∙ c.if-p.false) (told (goal.at.returns c).After-find ns ρ m y low ∙ c.if-find.false) (changed_record y c.requires.1.front c.args.change)
-          (omega (arith, q, found_count c.requires.0, c.requires.0.few, c.if-p-2.false))) }
+          (omega (arith, q, found_count c.requires.0, c.requires.0.few, c.if-p-2.false)));
+    }
 
 pub hash_changed-h-requires : goal.hash_changed-h-requires
 hash_changed-h-requires c =

@@ -42,9 +42,12 @@ read c ns x =
 
 pub returns : goal.returns
 returns c =
-    record { extended = c.offer_successors.ensures.extended; by_index = λ ns g room x q.
+    record {
+      extended = c.offer_successors.ensures.extended;
+      by_index = λ ns g room x q.
           record_offered ns _ g _ _ c.args.k c.requires.2 room (rw c.name_count-names.ensures at c.word_at-node.ensures)
-          (c.offer_successors.ensures.by_index ns g _ room x (read (goal.at.returns c).After-read_memory ns x.coded) q) }
+          (c.offer_successors.ensures.by_index ns g _ room x (read (goal.at.returns c).After-read_memory ns x.coded) q);
+    }
 
 pub overflow_add-at : goal.overflow_add-at
 overflow_add-at c =

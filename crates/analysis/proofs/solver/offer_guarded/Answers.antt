@@ -12,12 +12,11 @@ use Rattle.analysis.proofs.solver.offer_guarded.Goals as goal
 use Rattle.analysis.proofs.solver.offer_guarded.Goals.{After-own_truths-t, In-loop-e}
 
 pub loop-e-init : goal.loop-e-init
-loop-e-init c =
-    (
-      extended_none _ _ _ _ c.requires.1,
-      λ node o. record { here = λ h. o.here; before = λ k l d t. absurd (o.none k l t) },
-      λ ns g ρ room node x y q o. guarded_start x y c.requires.0 o room _,
-    )
+loop-e-init c = (
+  extended_none _ _ _ _ c.requires.1,
+  λ node o. record { here = λ h. o.here; before = λ k l d t. absurd (o.none k l t) },
+  λ ns g ρ room node x y q o. guarded_start x y c.requires.0 o room _,
+)
 
 -- the edge is one of the graph's
 inside : (c : In-loop-e) → c.loop-e.e < get_or c.args.graph.now edge_count_place 0
@@ -34,10 +33,13 @@ failing c t = sym (ap (λ (v : Truths). v.fails) c.own_truths-t.ensures) ∙ t
 pub returns-then-not-t : goal.returns-then-not-t
 returns-then-not-t c =
     let l = c.loop-e in
-    record { extended = extended_more _ l.invariant.0 c.offer_guard-progress.ensures.extended; by_index = λ ns g ρ room node x y q n.
+    record {
+      extended = extended_more _ l.invariant.0 c.offer_guard-progress.ensures.extended;
+      by_index = λ ns g ρ room node x y q n.
           guarded_stop x y c.requires.0 n room _ l.e (l.invariant.1 node n) (inside (goal.at.returns-then-not-t c).In-loop-e) (l.invariant.2 ns g ρ room node x y q n)
           (rw c.own_truths-t.ensures at (c.offer_guard-progress.ensures.by_index ns g ρ room x y (l.invariant.0.room ∙ q) (omega (arith, inside (goal.at.returns-then-not-t c).In-loop-e, x.edges))))
-          (failing (goal.at.returns-then-not-t c).After-own_truths-t (not-true _ c.if-not-t.true)) }
+          (failing (goal.at.returns-then-not-t c).After-own_truths-t (not-true _ c.if-not-t.true));
+    }
 
 pub loop-e-smaller : goal.loop-e-smaller
 loop-e-smaller c =

@@ -1,5 +1,5 @@
 -- `solver::offer_successors`: along the links, what follows each edge passed was offered, or all that follows from a guard of the deterministic graph on.
-use Rattle.std.proofs.Common.{◌≡◌, ◌<◌, Bool, false, get_or, sym, ap, ◌∙◌, arith}
+use Rattle.std.proofs.Common.{◌≡◌, ◌<◌, Bool, get_or, sym, ap, ◌∙◌, arith}
 use Rattle.program.specs.Parts.Prepared.{action_in, is_guard_node, edge_count_place}
 use Rattle.program.proofs.Laws.{next_is_beyond, first_is_followed, next_is_followed}
 use Rattle.analysis.proofs.Descending.{first_leaves, next_leaves, first_along, next_along, all_along, guarded_all}
@@ -28,9 +28,12 @@ offer_guarded-requires c =
 pub returns-then-guards : goal.returns-then-guards
 returns-then-guards c =
     let l = c.loop-e in
-    let w = c.requires.0 in record { extended = extended_more _ l.invariant.1 c.offer_guarded.ensures.extended; by_index = λ ns g ρ room x y q.
+    let w = c.requires.0 in record {
+      extended = extended_more _ l.invariant.1 c.offer_guarded.ensures.extended;
+      by_index = λ ns g ρ room x y q.
           guarded_all x y w room _ l.e (inside (goal.at.returns-then-guards c).In-loop-e) (l.invariant.0 (inside (goal.at.returns-then-guards c).In-loop-e)) l.invariant.3 (guard (goal.at.returns-then-guards c).After-guards c.if-guards.true) (l.invariant.2 ns g ρ room x y q)
-          (λ n. c.offer_guarded.ensures.by_index ns g ρ room _ x y (l.invariant.1.room ∙ q) n) }
+          (λ n. c.offer_guarded.ensures.by_index ns g ρ room _ x y (l.invariant.1.room ∙ q) n);
+    }
 
 pub offer_edge-progress-requires : goal.offer_edge-progress-requires
 offer_edge-progress-requires c =

@@ -16,7 +16,7 @@ pub bounds-widths-count : goal.bounds-widths-count
 bounds-widths-count c = few_doublings _ _ c.requires (omega (arith, c.loop-doubled.invariant.1))
 
 pub offset_bounds-widths-count : goal.offset_bounds-widths-count
-offset_bounds-widths-count c = omega (arith, bounds-widths-count (goal.at.offset_bounds-widths-count c).After-way_told-1)
+offset_bounds-widths-count c = omega (arith, few_doublings c.args.width c.loop-doubled.count c.requires (omega (arith, c.loop-doubled.invariant.1)))
 
 pub overflow_add-count : goal.overflow_add-count
 overflow_add-count c = omega (arith, bounds-widths-count (goal.at.overflow_add-count c).After-way_told-1)

@@ -10,7 +10,7 @@ use mir.Syntax.{w64}
 use mir.Val.{SFits, to_z, of_z}
 use mir.ValLaws.{to_z-of_z}
 use Rattle.signs.proofs.Signed.{fits, less, magnitude}
-use Rattle.figures.specs.Totals.{possible, spread}
+use Rattle.figures.specs.Totals.{possible}
 use Rattle.figures.proofs.Integers.{not_below, between, upward, natural}
 use Rattle.figures.proofs.adding.possible.Goals as goal
 use Rattle.figures.proofs.adding.possible.Goals.{Start}

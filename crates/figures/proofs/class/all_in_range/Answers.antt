@@ -12,13 +12,12 @@ pub loop-i-init : goal.loop-i-init
 loop-i-init c = (search rules, λ e k h. absurd (omega arith))
 
 pub loop-i-preserved : goal.loop-i-preserved
-loop-i-preserved c =
-    (
-      search rules,
-      λ e.
-          let tests = two c.loop-i.all c.in_range-all.result e in
-          below_more _ _ (c.loop-i.invariant.1 tests.0) (rw (to_z-of_z w32 _ (record { sfits = c.in_range-arg-1.given })) at (sym c.in_range-all.ensures ∙ tests.1)),
-    )
+loop-i-preserved c = (
+  search rules,
+  λ e.
+      let tests = two c.loop-i.all c.in_range-all.result e in
+      below_more _ _ (c.loop-i.invariant.1 tests.0) (rw (to_z-of_z w32 _ (record { sfits = c.in_range-arg-1.given })) at (sym c.in_range-all.ensures ∙ tests.1)),
+)
 
 pub returns : goal.returns
 returns c e k h = c.loop-i.invariant.1 e k (omega arith)

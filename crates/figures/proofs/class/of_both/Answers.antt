@@ -8,7 +8,6 @@ use Rattle.program.specs.declared.Validity.TheVariants.{Fit}
 use Rattle.figures.specs.Parts.Bounds.{Bounded}
 use Rattle.figures.specs.Figures.{figures_by}
 use Rattle.figures.specs.Totals.{class, countable, possible}
-use Rattle.figures.specs.declared.Totals.{Totals}
 use Rattle.figures.proofs.Limits.{handed_is, Counted, counted, possible_bounded, joined_bounded, sums_fit, squares_fit, joined_read}
 use Rattle.figures.proofs.Replies.{join_fit, join_refused}
 use Rattle.figures.proofs.class.of_both.Goals as goal

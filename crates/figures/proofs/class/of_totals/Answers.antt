@@ -5,7 +5,6 @@ use native.Mathlib.Omega.{arith}
 use mir.Syntax.{w64}
 use mir.ValLaws.{to_z-of_z}
 use Rattle.figures.specs.Figures.{mean, variance, figures_by}
-use Rattle.figures.specs.Fraction.{lowest}
 use Rattle.figures.specs.Totals.{class, spread}
 use Rattle.figures.proofs.Limits.{spread_small}
 use Rattle.figures.proofs.class.of_totals.Goals as goal

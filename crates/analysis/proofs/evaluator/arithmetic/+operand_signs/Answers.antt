@@ -1,7 +1,6 @@
 -- The cycle of calls {`analysis::evaluator::arithmetic::operand`, `analysis::evaluator::arithmetic::signs`}: a part is lower than what it is a part of, and an operand is asked before the set
 -- of the same entry, so the measure is twice `bound`, and one more for an operand.
-use Rattle.std.proofs.Common.{[], ℤ, ap, ◌∙◌, arith, w32, ◌≡◌, ℕ, ◌+◌, ◌*◌, ◌<◌}
-use borrow.Fn.PlainCycle.{is}
+use Rattle.std.proofs.Common.{[], ℤ, ap, ◌∙◌, arith, w32, ◌≡◌, ℕ, ◌+◌, ◌*◌, ◌<◌, rules}
 use mir.ValLaws.{to_z-of_z}
 use Rattle.program.specs.Tree.{arith_made}
 use Rattle.signs.specs.Sign.{single, sign_of}
@@ -10,12 +9,13 @@ use Rattle.analysis.specs.Signs.{signs_in}
 use Rattle.program.specs.declared.ArithNode.{ArithNode}
 use Rattle.program.proofs.Forms.{ArithParts}
 use Rattle.analysis.proofs.evaluator.arithmetic.+operand_signs.Goals as goal
+use Rattle.analysis.proofs.evaluator.arithmetic.+operand_signs.Goals.{signs-After-arith_node-node}
 
 -- ---- operand
 
 pub operand-returns-in-Number : goal.operand-returns-in-Number
 unfolding arith_made signs_in
-operand-returns-in-Number t c graph = rw (arith_told _ _ _ (c.arith_node-node.ensures graph) c.in-Number.is) (c.number_signs.ensures ∙ ap (λ (z : ℤ). single (sign_of z)) (to_z-of_z w32 c.in-Number.z record { sfits = c.known_told-1.given.0.1 }))
+operand-returns-in-Number t c graph = rw (arith_told _ _ _ (c.arith_node-node.ensures graph) c.in-Number.is) (c.number_signs.ensures ∙ ap (λ (z : ℤ). single (sign_of z)) (to_z-of_z w32 c.in-Number.z (search rules)))
 
 pub operand-returns-in-Variable : goal.operand-returns-in-Variable
 unfolding arith_made signs_in
@@ -24,7 +24,7 @@ operand-returns-in-Variable t c graph = rw (arith_told _ _ _ (c.arith_node-node.
 -- an index is lower than its element
 pub operand-signs-index-requires : goal.operand-signs-index-requires
 operand-signs-index-requires t c =
-    (omega (arith, arith_lower _ _ _ (c.arith_node-node.ensures []) c.in-Element.is tt, c.requires.0), c.requires.1)
+    (omega (arith, arith_lower _ _ _ (c.arith_node-node.ensures []) c.in-Element.is tt), c.requires)
 
 pub operand-returns-in-Element : goal.operand-returns-in-Element
 unfolding arith_made signs_in
@@ -33,7 +33,7 @@ operand-returns-in-Element t c graph =
 
 pub operand-signs-requires : goal.operand-signs-requires
 operand-signs-requires t c =
-    (omega (arith, c.requires.0), c.requires.1)
+    (omega arith, c.requires)
 
 pub operand-returns-in-Operator : goal.operand-returns-in-Operator
 operand-returns-in-Operator t c =
@@ -42,21 +42,21 @@ operand-returns-in-Operator t c =
 -- ---- signs
 
 -- a part in the same table may be asked about
-lower : (t : ℕ) (c : lts.After-arith-node (signs-claims t) (at t) signs.Post) {k : ArithNode} → c.arith_node_lem.result ≡ k → ArithParts k → 2 * c.before.args.n + 1 < t
-lower t c told p = omega (arith, arith_lower _ _ _ (c.arith_node_lem.ensures []) told p, c.before.requires.0)
+lower : (t : ℕ) (c : signs-After-arith_node-node t) {k : ArithNode} → c.arith_node-node.result ≡ k → ArithParts k → 2 * c.args.n + 1 < t
+lower t c told p = omega (arith, arith_lower _ _ _ (c.arith_node-node.ensures []) told p)
 
 pub signs-operand-index-requires : goal.signs-operand-index-requires
-signs-operand-index-requires t c = (lower t c c.in-Element.is tt, c.requires.1)
+signs-operand-index-requires t c = (lower t (goal.at.signs-operand-index-requires t c).After-arith_node-node c.in-Element.is tt, c.requires)
 
 pub signs-operand-a-requires : goal.signs-operand-a-requires
-signs-operand-a-requires t c = (lower t c c.in-Operator.is tt, c.requires.1)
+signs-operand-a-requires t c = (lower t (goal.at.signs-operand-a-requires t c).After-arith_node-node c.in-Operator.is tt, c.requires)
 
 pub signs-operand-b-requires : goal.signs-operand-b-requires
-signs-operand-b-requires t c = (lower t c c.in-Operator.is tt, c.requires.1)
+signs-operand-b-requires t c = (lower t (goal.at.signs-operand-b-requires t c).After-arith_node-node c.in-Operator.is tt, c.requires)
 
 pub signs-returns-in-Number : goal.signs-returns-in-Number
 unfolding arith_made signs_in
-signs-returns-in-Number t c graph = rw (arith_told _ _ _ (c.arith_node-node.ensures graph) c.in-Number.is) (c.number_signs.ensures ∙ ap (λ (z : ℤ). single (sign_of z)) (to_z-of_z w32 c.in-Number.z record { sfits = c.known_told-1.given.0.1 }))
+signs-returns-in-Number t c graph = rw (arith_told _ _ _ (c.arith_node-node.ensures graph) c.in-Number.is) (c.number_signs.ensures ∙ ap (λ (z : ℤ). single (sign_of z)) (to_z-of_z w32 c.in-Number.z (search rules)))
 
 pub signs-returns-in-Variable : goal.signs-returns-in-Variable
 unfolding arith_made signs_in
@@ -74,4 +74,4 @@ signs-returns-in-Operator t c graph =
 
 pub signs-operate-requires : goal.signs-operate-requires
 signs-operate-requires t c =
-    c.requires.1
+    c.requires

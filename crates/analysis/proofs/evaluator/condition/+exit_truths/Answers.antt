@@ -1,6 +1,5 @@
 -- The cycle of calls {`analysis::evaluator::condition::exit_truths`}: a part is lower than what it is a part of, so the measure is `bound`.
-use Rattle.std.proofs.Common.{◌≡◌, ℕ, ◌<◌, [], refl, arith}
-use borrow.Fn.PlainCycle.{is}
+use Rattle.std.proofs.Common.{◌≡◌, ℕ, ◌<◌, [], refl, arith, rules}
 use Rattle.program.specs.Tree.{command_made}
 use Rattle.program.specs.Graph.{done}
 use Rattle.program.specs.declared.CommandNode.{CommandNode}
@@ -34,7 +33,7 @@ returns-in-Choice t c =
 pub returns-in_default : goal.returns-in_default
 unfolding truths_in
 returns-in_default t c =
-    rw (command_told _ _ _ (c.command_node-node.ensures c.args.code.now) refl, left_at_once _ _ c.command_node-node.result c.in_default.keys3) c.certain.ensures
+    rw (command_told _ _ _ (c.command_node-node.ensures c.args.code.now) refl, left_at_once _ _ c.command_node-node.result (search rules)) c.certain.ensures
 
 pub truths-a-requires : goal.truths-a-requires
 truths-a-requires t c =

@@ -1,6 +1,5 @@
 -- The cycle of calls {`analysis::evaluator::condition::truths`}: a part is lower than what it is a part of, so the measure is `bound`.
 use Rattle.std.proofs.Common.{◌≡◌, ℕ, ◌<◌, [], arith}
-use borrow.Fn.PlainCycle.{is}
 use Rattle.program.specs.Tree.{boolean_made}
 use Rattle.program.specs.declared.BooleanNode.{BooleanNode}
 use Rattle.program.proofs.Forms.{BooleanParts}

@@ -1,6 +1,5 @@
 -- The cycle of calls {`analysis::evaluator::index::arith_negative`}: a part is lower than what it is a part of, so the measure is `bound`.
 use Rattle.std.proofs.Common.{◌≡◌, ℕ, ◌<◌, [], arith}
-use borrow.Fn.PlainCycle.{is}
 use Rattle.program.specs.Tree.{arith_made}
 use Rattle.signs.specs.Lists.{any_of}
 use Rattle.program.specs.declared.ArithNode.{ArithNode}

@@ -1,6 +1,5 @@
 -- The cycle of calls {`analysis::evaluator::index::exit_negative`}: a part is lower than what it is a part of, so the measure is `bound`.
-use Rattle.std.proofs.Common.{◌≡◌, ℕ, ◌<◌, [], refl, arith}
-use borrow.Fn.PlainCycle.{is}
+use Rattle.std.proofs.Common.{◌≡◌, ℕ, ◌<◌, [], refl, arith, rules}
 use Rattle.program.specs.Tree.{command_made}
 use Rattle.signs.specs.Lists.{any_of}
 use Rattle.program.specs.declared.CommandNode.{CommandNode}
@@ -36,7 +35,7 @@ returns-in-Choice t c =
 pub returns-in_default : goal.returns-in_default
 unfolding boolean_indexes any_negative any_of
 returns-in_default t c =
-    rw (command_told _ _ _ (c.command_node-node.ensures c.args.code.now) refl, left_at_once _ _ c.command_node-node.result c.in_default.keys3)
+    rw (command_told _ _ _ (c.command_node-node.ensures c.args.code.now) refl, left_at_once _ _ c.command_node-node.result (search rules))
 
 pub boolean_negative-requires : goal.boolean_negative-requires
 boolean_negative-requires t c =
