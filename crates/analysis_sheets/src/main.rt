@@ -22,6 +22,8 @@ use analysis::{
 };
 use program::{Construction, Refusal, Validity, drawing, file};
 use semantics::{Run, Stepped};
+use std::io::{BufWriter, Read, Write};
+use std::{fs, io};
 
 // What the first twelve bytes of a case say: lengths are in bytes.
 #[derive(Clone, Copy)]
@@ -47,59 +49,59 @@ fn long_place(x: u32) -> usize {
     x as usize
 }
 
-fn print_list(list: RecordList) {
+fn print_list<W: Write>(out: &mut W, list: RecordList) -> io::Result<()> {
     match list {
-        RecordList::Initial => printing::text(b" of the start list"),
-        RecordList::Solution => printing::text(b" of the sheet"),
+        RecordList::Initial => printing::text(out, b" of the start list"),
+        RecordList::Solution => printing::text(out, b" of the sheet"),
     }
 }
 
-fn print_wrong(x: WrongByte) {
-    printing::text(b"refused 17 at ");
-    printing::place(x.offset);
+fn print_wrong<W: Write>(out: &mut W, x: WrongByte) -> io::Result<()> {
+    printing::text(out, b"refused 17 at ")?;
+    printing::place(out, x.offset)?;
     let list = x.list;
-    print_list(list);
+    print_list(out, list)
 }
 
-fn print_marking(marking: Marking) {
+fn print_marking<W: Write>(out: &mut W, marking: Marking) -> io::Result<()> {
     match marking {
-        Marking::Refused(x) => printing::refusal(x),
-        Marking::Malformed(x) => print_wrong(x),
-        Marking::Marked(mark) => printing::mark(mark),
+        Marking::Refused(x) => printing::refusal(out, x),
+        Marking::Malformed(x) => print_wrong(out, x),
+        Marking::Marked(mark) => printing::mark(out, mark),
     }
 }
 
-fn print_accepted(mark: Mark) {
-    printing::text(b"accepted ");
-    printing::mark(mark);
+fn print_accepted<W: Write>(out: &mut W, mark: Mark) -> io::Result<()> {
+    printing::text(out, b"accepted ")?;
+    printing::mark(out, mark)
 }
 
-fn print_initial_missing(record: u16) {
-    printing::text(b"41 record ");
-    printing::word(record);
+fn print_initial_missing<W: Write>(out: &mut W, record: u16) -> io::Result<()> {
+    printing::text(out, b"41 record ")?;
+    printing::word(out, record)
 }
 
-fn print_result_missing(record: u16, edge: u16) {
-    printing::text(b"42");
-    printing::spot(record, edge);
+fn print_result_missing<W: Write>(out: &mut W, record: u16, edge: u16) -> io::Result<()> {
+    printing::text(out, b"42")?;
+    printing::spot(out, record, edge)
 }
 
-fn print_verdict(verdict: Verdict) {
+fn print_verdict<W: Write>(out: &mut W, verdict: Verdict) -> io::Result<()> {
     match verdict {
-        Verdict::Refused(x) => printing::refusal(x),
-        Verdict::Malformed(x) => print_wrong(x),
-        Verdict::InitialMissing { record } => print_initial_missing(record),
-        Verdict::ResultMissing { record, edge } => print_result_missing(record, edge),
-        Verdict::Accepted(mark) => print_accepted(mark),
+        Verdict::Refused(x) => printing::refusal(out, x),
+        Verdict::Malformed(x) => print_wrong(out, x),
+        Verdict::InitialMissing { record } => print_initial_missing(out, record),
+        Verdict::ResultMissing { record, edge } => print_result_missing(out, record, edge),
+        Verdict::Accepted(mark) => print_accepted(out, mark),
     }
 }
 
-fn print_solving(solving: Solving) {
+fn print_solving<W: Write>(out: &mut W, solving: Solving) -> io::Result<()> {
     match solving {
-        Solving::Finished => printing::text(b"finished"),
-        Solving::Full => printing::text(b"refused 18 at 0"),
-        Solving::Refused(x) => printing::refusal(x),
-        Solving::Malformed(x) => print_wrong(x),
+        Solving::Finished => printing::text(out, b"finished"),
+        Solving::Full => printing::text(out, b"refused 18 at 0"),
+        Solving::Refused(x) => printing::refusal(out, x),
+        Solving::Malformed(x) => print_wrong(out, x),
     }
 }
 
@@ -108,22 +110,22 @@ fn farther(at: usize, by: u16) -> usize {
     if at < 1000000 { at + by as usize } else { at }
 }
 
-fn print_refused(x: Refusal) {
-    printing::refusal(x);
-    printing::text(b" ");
+fn print_refused<W: Write>(out: &mut W, x: Refusal) -> io::Result<()> {
+    printing::refusal(out, x)?;
+    printing::text(out, b" ")
 }
 
-fn print_split(split: Split) {
+fn print_split<W: Write>(out: &mut W, split: Split) -> io::Result<()> {
     let validity = split.validity;
     match validity {
         Validity::Fit => {}
-        Validity::Refused(x) => print_refused(x),
+        Validity::Refused(x) => print_refused(out, x)?,
     }
-    printing::text(b"record ");
-    printing::long(split.record);
-    printing::text(b" column ");
-    printing::long(split.column);
-    printing::text(b"; ");
+    printing::text(out, b"record ")?;
+    printing::long(out, split.record)?;
+    printing::text(out, b" column ")?;
+    printing::long(out, split.column)?;
+    printing::text(out, b"; ")
 }
 
 // Whether a record of so many bytes starts at a byte of a list.
@@ -131,21 +133,20 @@ fn starts(i: usize, width: usize) -> bool {
     width > 0 && i % width == 0
 }
 
-fn print_byte(i: usize, width: usize, x: u8) {
+fn print_byte<W: Write>(out: &mut W, i: usize, width: usize, x: u8) -> io::Result<()> {
     if starts(i, width) {
-        printing::text(b";");
+        printing::text(out, b";")?;
     }
-    printing::text(b" ");
-    printing::byte(x);
+    printing::text(out, b" ")?;
+    printing::byte(out, x)
 }
 
 // The bytes of a list, with a semicolon before each record.
-fn print_records(list: &[u8], width: usize) {
-    let mut i: usize = 0;
-    while i < list.len() {
-        print_byte(i, width, list[i]);
-        i += 1;
+fn print_records<W: Write>(out: &mut W, list: &[u8], width: usize) -> io::Result<()> {
+    for (i, x) in list.iter().enumerate() {
+        print_byte(out, i, width, *x)?;
     }
+    Ok(())
 }
 
 // The calls of the library that are asked about, each in a function of its own.
@@ -156,26 +157,38 @@ fn named(on: u8) -> Construction {
     drawing::named(on as u32)
 }
 
-fn answer_judge(on: u8, s: &[u8], initial: &[u8], sheet: &[u8]) {
+fn answer_judge<W: Write>(
+    out: &mut W,
+    on: u8,
+    s: &[u8],
+    initial: &[u8],
+    sheet: &[u8],
+) -> io::Result<()> {
     if on == 0 {
-        print_verdict(judging::judge(s, initial, sheet));
+        print_verdict(out, judging::judge(s, initial, sheet))
     } else {
-        print_verdict(judging::judge_on(named(on), s, initial, sheet));
+        print_verdict(out, judging::judge_on(named(on), s, initial, sheet))
     }
 }
 
 // The offending record is a part of either list, so that here and above the two have one lifetime.
-fn answer_offending<'a>(on: u8, s: &[u8], initial: &'a [u8], sheet: &'a [u8]) {
-    printing::text(b"; offending");
+fn answer_offending<'a, W: Write>(
+    out: &mut W,
+    on: u8,
+    s: &[u8],
+    initial: &'a [u8],
+    sheet: &'a [u8],
+) -> io::Result<()> {
+    printing::text(out, b"; offending")?;
     if on == 0 {
-        print_records(judging::offending(s, initial, sheet), 0);
+        print_records(out, judging::offending(s, initial, sheet), 0)
     } else {
-        print_records(judging::offending_on(named(on), s, initial, sheet), 0);
+        print_records(out, judging::offending_on(named(on), s, initial, sheet), 0)
     }
 }
 
-fn answer_mark(s: &[u8], sheet: &[u8]) {
-    print_marking(judging::index_mark(s, sheet));
+fn answer_mark<W: Write>(out: &mut W, s: &[u8], sheet: &[u8]) -> io::Result<()> {
+    print_marking(out, judging::index_mark(s, sheet))
 }
 
 fn solve_by(on: u8, s: &[u8], initial: &[u8], buffer: &mut [u8]) -> Solved {
@@ -187,23 +200,35 @@ fn solve_by(on: u8, s: &[u8], initial: &[u8], buffer: &mut [u8]) -> Solved {
 }
 
 // Says what the solver answers, and gives the number of records that it wrote.
-fn answer_solve(on: u8, s: &[u8], initial: &[u8], buffer: &mut [u8]) -> u16 {
+fn answer_solve<W: Write>(
+    out: &mut W,
+    on: u8,
+    s: &[u8],
+    initial: &[u8],
+    buffer: &mut [u8],
+) -> io::Result<u16> {
     let solved = solve_by(on, s, initial, buffer);
     let answer = solved.solving;
-    print_solving(answer);
-    printing::text(b" with ");
-    printing::word(solved.count);
-    solved.count
+    print_solving(out, answer)?;
+    printing::text(out, b" with ")?;
+    printing::word(out, solved.count)?;
+    Ok(solved.count)
 }
 
-fn answer_split(s: &[u8], at: u32) {
-    print_split(splitting::split(s, at));
+fn answer_split<W: Write>(out: &mut W, s: &[u8], at: u32) -> io::Result<()> {
+    print_split(out, splitting::split(s, at))
 }
 
 // Mode 1: the verdict, and the offending record.
-fn answer_verdict<'a>(on: u8, s: &[u8], initial: &'a [u8], sheet: &'a [u8]) {
-    answer_judge(on, s, initial, sheet);
-    answer_offending(on, s, initial, sheet);
+fn answer_verdict<'a, W: Write>(
+    out: &mut W,
+    on: u8,
+    s: &[u8],
+    initial: &'a [u8],
+    sheet: &'a [u8],
+) -> io::Result<()> {
+    answer_judge(out, on, s, initial, sheet)?;
+    answer_offending(out, on, s, initial, sheet)
 }
 
 // The width of a record of a sheet. A file that is not well formed may say anything of its names.
@@ -215,66 +240,100 @@ fn width_of(s: &[u8]) -> u16 {
 // Where the last of so many records ends in a buffer.
 fn end_of(count: u16, width: u16) -> usize {
     let mut at: usize = 0;
-    let mut k: u16 = 0;
-    while k < count {
+    for _ in 0..count {
         at = farther(at, width);
-        k += 1;
     }
     at
 }
 
 // The records, where they are few.
-fn print_few(sheet: &[u8], width: u16) {
+fn print_few<W: Write>(out: &mut W, sheet: &[u8], width: u16) -> io::Result<()> {
     if sheet.len() <= 128 {
-        print_records(sheet, place(width));
+        print_records(out, sheet, place(width))?;
     }
+    Ok(())
 }
 
-fn print_solved(buffer: &[u8], n: usize, width: u16) {
+fn print_solved<W: Write>(out: &mut W, buffer: &[u8], n: usize, width: u16) -> io::Result<()> {
     if n <= buffer.len() {
-        print_few(&buffer[..n], width);
+        print_few(out, &buffer[..n], width)?;
     }
+    Ok(())
 }
 
-fn judge_solved(on: u8, s: &[u8], initial: &[u8], buffer: &[u8], n: usize) {
+fn judge_solved<W: Write>(
+    out: &mut W,
+    on: u8,
+    s: &[u8],
+    initial: &[u8],
+    buffer: &[u8],
+    n: usize,
+) -> io::Result<()> {
     if n <= buffer.len() {
-        answer_judge(on, s, initial, &buffer[..n]);
+        answer_judge(out, on, s, initial, &buffer[..n])?;
     }
+    Ok(())
 }
 
 // A solved part of a buffer, a checksum of the whole, and the verdict on the part.
-fn print_buffer(on: u8, s: &[u8], initial: &[u8], buffer: &[u8], n: usize) {
-    print_solved(buffer, n, width_of(s));
-    printing::text(b" sum ");
-    printing::number(cases::mix_bytes(buffer));
-    printing::text(b"; ");
-    judge_solved(on, s, initial, buffer, n);
+fn print_buffer<W: Write>(
+    out: &mut W,
+    on: u8,
+    s: &[u8],
+    initial: &[u8],
+    buffer: &[u8],
+    n: usize,
+) -> io::Result<()> {
+    print_solved(out, buffer, n, width_of(s))?;
+    printing::text(out, b" sum ")?;
+    printing::number(out, cases::mix_bytes(buffer))?;
+    printing::text(out, b"; ")?;
+    judge_solved(out, on, s, initial, buffer, n)
 }
 
-fn answer_room(on: u8, s: &[u8], initial: &[u8], buffer: &mut [u8]) {
-    let count = answer_solve(on, s, initial, buffer);
-    print_buffer(on, s, initial, buffer, end_of(count, width_of(s)));
+fn answer_room<W: Write>(
+    out: &mut W,
+    on: u8,
+    s: &[u8],
+    initial: &[u8],
+    buffer: &mut [u8],
+) -> io::Result<()> {
+    let count = answer_solve(out, on, s, initial, buffer)?;
+    print_buffer(out, on, s, initial, buffer, end_of(count, width_of(s)))
 }
 
-fn solve_part(on: u8, s: &[u8], initial: &[u8], buffer: &mut [u8], room: usize) {
+fn solve_part<W: Write>(
+    out: &mut W,
+    on: u8,
+    s: &[u8],
+    initial: &[u8],
+    buffer: &mut [u8],
+    room: usize,
+) -> io::Result<()> {
     if room <= buffer.len() {
-        answer_room(on, s, initial, &mut buffer[..room]);
+        answer_room(out, on, s, initial, &mut buffer[..room])?;
     }
+    Ok(())
 }
 
 // Mode 3: the solver, with so many bytes of room.
-fn answer_solver(on: u8, s: &[u8], initial: &[u8], room: usize) {
+fn answer_solver<W: Write>(
+    out: &mut W,
+    on: u8,
+    s: &[u8],
+    initial: &[u8],
+    room: usize,
+) -> io::Result<()> {
     let mut buffer = [170u8; 140000];
-    solve_part(on, s, initial, &mut buffer, room);
+    solve_part(out, on, s, initial, &mut buffer, room)
 }
 
 // Mode 4: the places, four bytes each.
-fn answer_splits(s: &[u8], places: &[u8]) {
-    let mut i: usize = 0;
-    while i < places.len() / 4 {
-        answer_split(s, cases::long_at(places, i * 4));
-        i += 1;
+fn answer_splits<W: Write>(out: &mut W, s: &[u8], places: &[u8]) -> io::Result<()> {
+    for i in 0..places.len() / 4 {
+        answer_split(out, s, cases::long_at(places, i * 4))?;
     }
+    Ok(())
 }
 
 // A sign set of one sign: 1 for minus, 2 for zero, 4 for plus.
@@ -296,11 +355,9 @@ fn cell_sign(memory: &[i32], i: usize) -> u8 {
 fn signs_of(memory: &[i32], first: usize, count: usize) -> u8 {
     let mut set: u8 = 0;
     let mut at = first;
-    let mut k: usize = 0;
-    while k < count {
+    for _ in 0..count {
         set |= cell_sign(memory, at);
         at = farther(at, 1);
-        k += 1;
     }
     set
 }
@@ -334,10 +391,8 @@ fn set_byte(list: &mut [u8], at: usize, x: u8) {
 }
 
 fn set_key(key: &mut [u8], s: &[u8], node: u16, memory: &[i32]) {
-    let mut i: u16 = 0;
-    while i < 34 {
+    for i in 0..34u16 {
         set_byte(key, place(i), record_byte(s, node, memory, i));
-        i += 1;
     }
 }
 
@@ -345,11 +400,9 @@ fn set_key(key: &mut [u8], s: &[u8], node: u16, memory: &[i32]) {
 fn same_at(sheet: &[u8], from: usize, key: &[u8], width: usize) -> bool {
     let mut same = true;
     let mut at = from;
-    let mut i: usize = 0;
-    while i < width {
+    for i in 0..width {
         same = same && file::byte_at(sheet, at) == file::byte_at(key, i);
         at = farther(at, 1);
-        i += 1;
     }
     same
 }
@@ -367,23 +420,27 @@ fn has(sheet: &[u8], key: &[u8], width: u16) -> bool {
     let count = record_count(sheet.len(), width);
     let mut found = false;
     let mut at: usize = 0;
-    let mut k: usize = 0;
-    while k < count {
+    for _ in 0..count {
         found = found || same_at(sheet, at, key, place(width));
         at = farther(at, width);
-        k += 1;
     }
     found
 }
 
 // Whether the sheet has the record of a run's memory at its node.
-fn print_has(run: Run, s: &[u8], sheet: &[u8], memory: &[i32]) {
+fn print_has<W: Write>(
+    out: &mut W,
+    run: Run,
+    s: &[u8],
+    sheet: &[u8],
+    memory: &[i32],
+) -> io::Result<()> {
     let mut key = [0u8; 34];
     set_key(&mut key, s, run.node, memory);
     if has(sheet, &key, width_of(s)) {
-        printing::text(b"has; ");
+        printing::text(out, b"has; ")
     } else {
-        printing::text(b"has not; ");
+        printing::text(out, b"has not; ")
     }
 }
 
@@ -396,18 +453,33 @@ fn step_by(run: Run, on: u8, s: &[u8], edge: u16, memory: &mut [i32]) -> Stepped
 }
 
 // A step call, and its outcome printed.
-fn step_told(run: Run, on: u8, s: &[u8], edge: u16, memory: &mut [i32]) -> Run {
+fn step_told<W: Write>(
+    out: &mut W,
+    run: Run,
+    on: u8,
+    s: &[u8],
+    edge: u16,
+    memory: &mut [i32],
+) -> io::Result<Run> {
     let stepped = step_by(run, on, s, edge, memory);
     let outcome = stepped.outcome;
-    printing::outcome(outcome);
-    printing::text(b" ");
-    stepped.run
+    printing::outcome(out, outcome)?;
+    printing::text(out, b" ")?;
+    Ok(stepped.run)
 }
 
-fn step_looked_up(run: Run, on: u8, s: &[u8], edge: u16, sheet: &[u8], memory: &mut [i32]) -> Run {
-    let next = step_told(run, on, s, edge, memory);
-    print_has(next, s, sheet, memory);
-    next
+fn step_looked_up<W: Write>(
+    out: &mut W,
+    run: Run,
+    on: u8,
+    s: &[u8],
+    edge: u16,
+    sheet: &[u8],
+    memory: &mut [i32],
+) -> io::Result<Run> {
+    let next = step_told(out, run, on, s, edge, memory)?;
+    print_has(out, next, s, sheet, memory)?;
+    Ok(next)
 }
 
 fn call_count(further: &[u8], from: usize) -> usize {
@@ -419,125 +491,217 @@ fn call_count(further: &[u8], from: usize) -> usize {
 }
 
 // The step calls are the words of a list from a place on.
-fn follow(on: u8, s: &[u8], further: &[u8], from: usize, sheet: &[u8], memory: &mut [i32]) {
+fn follow<W: Write>(
+    out: &mut W,
+    on: u8,
+    s: &[u8],
+    further: &[u8],
+    from: usize,
+    sheet: &[u8],
+    memory: &mut [i32],
+) -> io::Result<()> {
     let count = call_count(further, from);
     let mut run = Run::fresh();
     let mut at = from;
-    let mut i: usize = 0;
-    while i < count {
-        run = step_looked_up(run, on, s, file::word_at(further, at), sheet, memory);
+    for _ in 0..count {
+        run = step_looked_up(out, run, on, s, file::word_at(further, at), sheet, memory)?;
         at = farther(at, 2);
-        i += 1;
     }
+    Ok(())
 }
 
-fn follow_sheet(on: u8, s: &[u8], further: &[u8], sheet: &[u8], memory: &mut [i32]) {
-    print_has(Run::fresh(), s, sheet, memory);
-    follow(on, s, further, memory.len() * 4, sheet, memory);
-    answer_mark(s, sheet);
+fn follow_sheet<W: Write>(
+    out: &mut W,
+    on: u8,
+    s: &[u8],
+    further: &[u8],
+    sheet: &[u8],
+    memory: &mut [i32],
+) -> io::Result<()> {
+    print_has(out, Run::fresh(), s, sheet, memory)?;
+    follow(out, on, s, further, memory.len() * 4, sheet, memory)?;
+    answer_mark(out, s, sheet)
 }
 
-fn follow_solved(on: u8, s: &[u8], further: &[u8], buffer: &[u8], n: usize, memory: &mut [i32]) {
+fn follow_solved<W: Write>(
+    out: &mut W,
+    on: u8,
+    s: &[u8],
+    further: &[u8],
+    buffer: &[u8],
+    n: usize,
+    memory: &mut [i32],
+) -> io::Result<()> {
     if n <= buffer.len() {
-        follow_sheet(on, s, further, &buffer[..n], memory);
+        follow_sheet(out, on, s, further, &buffer[..n], memory)?;
     }
+    Ok(())
 }
 
-fn follow_from(on: u8, s: &[u8], initial: &[u8], further: &[u8], memory: &mut [i32]) {
+fn follow_from<W: Write>(
+    out: &mut W,
+    on: u8,
+    s: &[u8],
+    initial: &[u8],
+    further: &[u8],
+    memory: &mut [i32],
+) -> io::Result<()> {
     let mut buffer = [170u8; 140000];
-    let count = answer_solve(on, s, initial, &mut buffer);
-    printing::text(b"; ");
-    follow_solved(on, s, further, &buffer, end_of(count, width_of(s)), memory);
+    let count = answer_solve(out, on, s, initial, &mut buffer)?;
+    printing::text(out, b"; ")?;
+    follow_solved(
+        out,
+        on,
+        s,
+        further,
+        &buffer,
+        end_of(count, width_of(s)),
+        memory,
+    )
 }
 
-fn answer_lent(on: u8, s: &[u8], initial: &[u8], further: &[u8], memory: &mut [i32]) {
+fn answer_lent<W: Write>(
+    out: &mut W,
+    on: u8,
+    s: &[u8],
+    initial: &[u8],
+    further: &[u8],
+    memory: &mut [i32],
+) -> io::Result<()> {
     cases::set_cells(memory, further);
-    follow_from(on, s, initial, further, memory);
+    follow_from(out, on, s, initial, further, memory)
 }
 
-fn answer_cells(on: u8, s: &[u8], initial: &[u8], further: &[u8], memory: &mut [i32], n: usize) {
+fn answer_cells<W: Write>(
+    out: &mut W,
+    on: u8,
+    s: &[u8],
+    initial: &[u8],
+    further: &[u8],
+    memory: &mut [i32],
+    n: usize,
+) -> io::Result<()> {
     if n <= memory.len() {
-        answer_lent(on, s, initial, further, &mut memory[..n]);
+        answer_lent(out, on, s, initial, further, &mut memory[..n])?;
     }
+    Ok(())
 }
 
 // Mode 5: step calls from a memory of so many cells, looked up in the sheet that is solved.
-fn answer_calls(on: u8, s: &[u8], initial: &[u8], further: &[u8], cells: usize) {
+fn answer_calls<W: Write>(
+    out: &mut W,
+    on: u8,
+    s: &[u8],
+    initial: &[u8],
+    further: &[u8],
+    cells: usize,
+) -> io::Result<()> {
     let mut memory = [0i32; 512];
-    answer_cells(on, s, initial, further, &mut memory, cells);
+    answer_cells(out, on, s, initial, further, &mut memory, cells)
 }
 
-fn answer<'a>(h: Head, s: &[u8], initial: &'a [u8], sheet: &'a [u8], further: &[u8]) {
+fn answer<'a, W: Write>(
+    out: &mut W,
+    h: Head,
+    s: &[u8],
+    initial: &'a [u8],
+    sheet: &'a [u8],
+    further: &[u8],
+) -> io::Result<()> {
     let on = h.mode / 16;
     let asked = h.mode % 16;
     match asked {
-        1 => answer_verdict(on, s, initial, sheet),
-        2 => answer_mark(s, sheet),
-        3 => answer_solver(on, s, initial, long_place(h.number)),
-        4 => answer_splits(s, further),
-        5 => answer_calls(on, s, initial, further, long_place(h.number)),
-        _ => printing::text(b"unknown mode"),
+        1 => answer_verdict(out, on, s, initial, sheet)?,
+        2 => answer_mark(out, s, sheet)?,
+        3 => answer_solver(out, on, s, initial, long_place(h.number))?,
+        4 => answer_splits(out, s, further)?,
+        5 => answer_calls(out, on, s, initial, further, long_place(h.number))?,
+        _ => printing::text(out, b"unknown mode")?,
     }
-    printing::text(b"\n");
+    printing::text(out, b"\n")
 }
 
-fn answer_front<'a>(h: Head, bytes: &[u8], initial: &'a [u8], sheet: &'a [u8], further: &[u8]) {
+fn answer_front<'a, W: Write>(
+    out: &mut W,
+    h: Head,
+    bytes: &[u8],
+    initial: &'a [u8],
+    sheet: &'a [u8],
+    further: &[u8],
+) -> io::Result<()> {
     let n = h.length;
     if n <= bytes.len() {
-        answer(h, &bytes[..n], initial, sheet, further);
+        answer(out, h, &bytes[..n], initial, sheet, further)?;
     }
+    Ok(())
 }
 
 // Answers a case whose file comes next, and says whether all of that is there.
-fn answer_file<'a>(fd: i32, h: Head, initial: &'a [u8], sheet: &'a [u8], further: &[u8]) -> bool {
+fn answer_file<'a, R: Read, W: Write>(
+    input: &mut R,
+    out: &mut W,
+    h: Head,
+    initial: &'a [u8],
+    sheet: &'a [u8],
+    further: &[u8],
+) -> io::Result<bool> {
     let mut bytes = [0u8; 8192];
-    let got = cases::read_front(fd, &mut bytes, h.length);
+    let got = cases::read_front(input, &mut bytes, h.length)?;
     if got != h.length {
-        printing::text(b"file cut\n");
-        return false;
+        printing::text(out, b"file cut\n")?;
+        return Ok(false);
     }
-    answer_front(h, &bytes, initial, sheet, further);
-    true
+    answer_front(out, h, &bytes, initial, sheet, further)?;
+    Ok(true)
 }
 
-fn answer_with<'a>(fd: i32, h: Head, initial: &'a [u8], sheet: &'a [u8], bytes: &[u8]) -> bool {
+fn answer_with<'a, R: Read, W: Write>(
+    input: &mut R,
+    out: &mut W,
+    h: Head,
+    initial: &'a [u8],
+    sheet: &'a [u8],
+    bytes: &[u8],
+) -> io::Result<bool> {
     let n = h.further;
     if n <= bytes.len() {
-        answer_file(fd, h, initial, sheet, &bytes[..n])
+        answer_file(input, out, h, initial, sheet, &bytes[..n])
     } else {
-        false
+        Ok(false)
     }
 }
 
 // Answers a case whose further numbers and file come next.
-fn answer_further<'a>(fd: i32, h: Head, initial: &'a [u8], sheet: &'a [u8]) -> bool {
+fn answer_further<'a, R: Read, W: Write>(
+    input: &mut R,
+    out: &mut W,
+    h: Head,
+    initial: &'a [u8],
+    sheet: &'a [u8],
+) -> io::Result<bool> {
     let mut bytes = [0u8; 4096];
-    let got = cases::read_front(fd, &mut bytes, h.further);
+    let got = cases::read_front(input, &mut bytes, h.further)?;
     if got != h.further {
-        printing::text(b"numbers cut\n");
-        return false;
+        printing::text(out, b"numbers cut\n")?;
+        return Ok(false);
     }
-    answer_with(fd, h, initial, sheet, &bytes)
+    answer_with(input, out, h, initial, sheet, &bytes)
 }
 
 // Puts bytes into a list from a place on, as far as it goes, and gives the place after them.
 fn lay_once(list: &mut [u8], from: usize, part: &[u8]) -> usize {
     let mut at = from;
-    let mut i: usize = 0;
-    while i < part.len() {
-        set_byte(list, at, part[i]);
+    for x in part {
+        set_byte(list, at, *x);
         at = farther(at, 1);
-        i += 1;
     }
     at
 }
 
 fn lay(list: &mut [u8], from: usize, part: &[u8], times: u16) -> usize {
     let mut at = from;
-    let mut k: u16 = 0;
-    while k < times {
+    for _ in 0..times {
         at = lay_once(list, at, part);
-        k += 1;
     }
     at
 }
@@ -550,64 +714,81 @@ fn lay_front(list: &mut [u8], from: usize, bytes: &[u8], n: usize, times: u16) -
     }
 }
 
-fn read_repeated(fd: i32, list: &mut [u8], from: usize, times: u16, n: usize) -> usize {
+fn read_repeated<R: Read>(
+    input: &mut R,
+    list: &mut [u8],
+    from: usize,
+    times: u16,
+    n: usize,
+) -> io::Result<usize> {
     let mut bytes = [0u8; 8192];
-    cases::read_front(fd, &mut bytes, n);
-    lay_front(list, from, &bytes, n, times)
+    cases::read_front(input, &mut bytes, n)?;
+    Ok(lay_front(list, from, &bytes, n, times))
 }
 
 // Reads a chunk into a list from a place on.
-fn read_chunk(fd: i32, list: &mut [u8], from: usize) -> usize {
+fn read_chunk<R: Read>(input: &mut R, list: &mut [u8], from: usize) -> io::Result<usize> {
     let mut bytes = [0u8; 4];
-    io::read_full(fd, &mut bytes);
-    read_repeated(
-        fd,
-        list,
-        from,
-        file::word_at(&bytes, 0),
-        place(file::word_at(&bytes, 2)),
-    )
+    cases::read_full(input, &mut bytes)?;
+    let times = file::word_at(&bytes, 0);
+    read_repeated(input, list, from, times, place(file::word_at(&bytes, 2)))
 }
 
 // Reads a list's chunks, and gives its length.
-fn read_list(fd: i32, list: &mut [u8], chunks: u8) -> usize {
+fn read_list<R: Read>(input: &mut R, list: &mut [u8], chunks: u8) -> io::Result<usize> {
     let mut at: usize = 0;
-    let mut k: u8 = 0;
-    while k < chunks {
-        at = read_chunk(fd, list, at);
-        k += 1;
+    for _ in 0..chunks {
+        at = read_chunk(input, list, at)?;
     }
-    at
+    Ok(at)
 }
 
-fn answer_sheet<'a>(fd: i32, h: Head, initial: &'a [u8], list: &'a [u8], n: usize) -> bool {
+fn answer_sheet<'a, R: Read, W: Write>(
+    input: &mut R,
+    out: &mut W,
+    h: Head,
+    initial: &'a [u8],
+    list: &'a [u8],
+    n: usize,
+) -> io::Result<bool> {
     if n <= list.len() {
-        answer_further(fd, h, initial, &list[..n])
+        answer_further(input, out, h, initial, &list[..n])
     } else {
-        false
+        Ok(false)
     }
 }
 
 // Answers a case whose sheet, further numbers and file come next.
-fn answer_started(fd: i32, h: Head, initial: &[u8]) -> bool {
+fn answer_started<R: Read, W: Write>(
+    input: &mut R,
+    out: &mut W,
+    h: Head,
+    initial: &[u8],
+) -> io::Result<bool> {
     let mut list = [0u8; 140000];
-    let n = read_list(fd, &mut list, h.sheet_chunks);
-    answer_sheet(fd, h, initial, &list, n)
+    let n = read_list(input, &mut list, h.sheet_chunks)?;
+    answer_sheet(input, out, h, initial, &list, n)
 }
 
-fn answer_start(fd: i32, h: Head, list: &[u8], n: usize) -> bool {
+fn answer_start<R: Read, W: Write>(
+    input: &mut R,
+    out: &mut W,
+    h: Head,
+    list: &[u8],
+    n: usize,
+) -> io::Result<bool> {
     if n <= list.len() {
-        answer_started(fd, h, &list[..n])
+        answer_started(input, out, h, &list[..n])
     } else {
-        false
+        Ok(false)
     }
 }
 
 // Answers a case whose title has been read.
-fn answer_titled(fd: i32, h: Head) -> bool {
+fn answer_titled<R: Read, W: Write>(input: &mut R, out: &mut W, h: Head) -> io::Result<bool> {
     let mut list = [0u8; 140000];
-    let n = read_list(fd, &mut list, h.start_chunks);
-    answer_start(fd, h, &list, n)
+    let n = read_list(input, &mut list, h.start_chunks)?;
+    answer_start(input, out, h, &list, n)
 }
 
 fn head_of(bytes: &[u8]) -> Head {
@@ -622,39 +803,44 @@ fn head_of(bytes: &[u8]) -> Head {
     }
 }
 
-fn answer_headed(fd: i32, h: Head) -> bool {
-    cases::title(fd, h.title) && answer_titled(fd, h)
+fn answer_headed<R: Read, W: Write>(input: &mut R, out: &mut W, h: Head) -> io::Result<bool> {
+    if cases::title(input, out, h.title)? {
+        answer_titled(input, out, h)
+    } else {
+        Ok(false)
+    }
 }
 
 // Reads a case and answers it, and says whether to go on.
-fn answer_next(fd: i32) -> bool {
+fn answer_next<R: Read, W: Write>(input: &mut R, out: &mut W) -> io::Result<bool> {
     let mut bytes = [0u8; 12];
-    let n = io::read_full(fd, &mut bytes);
+    let n = cases::read_full(input, &mut bytes)?;
     if n == 0 {
-        return false;
+        return Ok(false);
     }
     if n < 12 {
-        printing::text(b"head cut\n");
-        return false;
+        printing::text(out, b"head cut\n")?;
+        return Ok(false);
     }
-    answer_headed(fd, head_of(&bytes))
+    answer_headed(input, out, head_of(&bytes))
 }
 
-// Nothing says that a file ends: the loop counts its turns down, from a number that no run uses up.
-fn answer_all(fd: i32) {
-    let mut turns = u64::MAX;
-    while turns > 0 && answer_next(fd) {
-        turns -= 1;
+// Nothing says that a file ends: the loop counts its turns, up to a number that no run reaches.
+fn answer_all<R: Read, W: Write>(input: &mut R, out: &mut W) -> io::Result<()> {
+    for _ in 0..u64::MAX {
+        if !answer_next(input, out)? {
+            break;
+        }
     }
+    Ok(())
 }
 
-fn main() {
-    let path = b"sheets.bin";
-    let fd = os::open_read(path);
-    if fd < 0 {
-        os::fail(path);
-        return;
+fn main(rt: HostRuntime) -> io::Result<()> {
+    let path = "sheets.bin";
+    let mut out = BufWriter::new(rt.alloc(), io::writer(&rt))?;
+    match fs::open(&rt, path) {
+        Ok(mut file) => answer_all(&mut file, &mut out)?,
+        Err(error) => eprintln!(rt; "{path}: {error}")?,
     }
-    answer_all(fd);
-    libc::close(fd);
+    out.flush()
 }

@@ -3,28 +3,47 @@
 // What is read can be anything, so that reading has no contract but to be safe.
 #![tactic(auto)]
 
+ghost use Rattle.std.specs.Prelude.{◌≤◌, IfOk, length};
+
 use program::{decoding, file};
+use std::io;
+use std::io::{Read, Write};
+
+// Reads until the array is full or the input ends, and says how many bytes came.
+pub fn read_full<R: Read>(input: &mut R, bytes: &mut [u8]) -> io::Result<usize>
+    ensures { IfOk result (λ n. n ≤ length bytes.new) }
+{
+    let mut done = 0;
+    while done < bytes.len() {
+        let n = input.read(&mut bytes[done..])?;
+        if n == 0 {
+            break;
+        }
+        done += n;
+    }
+    Ok(done)
+}
 
 // Reads so many bytes into the front of an array and says how many came: none where the array is shorter.
-pub fn read_front(fd: i32, bytes: &mut [u8], n: usize) -> usize {
+pub fn read_front<R: Read>(input: &mut R, bytes: &mut [u8], n: usize) -> io::Result<usize> {
     if n <= bytes.len() {
-        io::read_full(fd, &mut bytes[..n])
+        read_full(input, &mut bytes[..n])
     } else {
-        0
+        Ok(0)
     }
 }
 
 // Reads a title of so many bytes and prints it: answers whether all of it is there.
-pub fn title(fd: i32, n: usize) -> bool {
+pub fn title<R: Read, W: Write>(input: &mut R, out: &mut W, n: usize) -> io::Result<bool> {
     let mut bytes = [0u8; 256];
-    let got = read_front(fd, &mut bytes, n);
+    let got = read_front(input, &mut bytes, n)?;
     if got != n {
-        printing::text(b"title cut\n");
-        return false;
+        printing::text(out, b"title cut\n")?;
+        return Ok(false);
     }
-    printing::front(&bytes, n);
-    printing::text(b": ");
-    true
+    printing::front(out, &bytes, n)?;
+    printing::text(out, b": ")?;
+    Ok(true)
 }
 
 // The number of four bytes at a place.
@@ -69,10 +88,8 @@ fn cell_at(bytes: &[u8], i: usize) -> i32 {
 
 // Sets each cell of a memory to that of a list.
 pub fn set_cells(memory: &mut [i32], bytes: &[u8]) {
-    let mut i: usize = 0;
-    while i < memory.len() {
+    for i in 0..memory.len() {
         memory[i] = cell_at(bytes, i);
-        i += 1;
     }
 }
 
@@ -87,10 +104,8 @@ pub fn mix(sum: u64, x: u64) -> u64 {
 
 pub fn mix_bytes(bytes: &[u8]) -> u64 {
     let mut sum: u64 = 1;
-    let mut i: usize = 0;
-    while i < bytes.len() {
-        sum = mix(sum, wide(bytes[i]));
-        i += 1;
+    for x in bytes {
+        sum = mix(sum, wide(*x));
     }
     sum
 }

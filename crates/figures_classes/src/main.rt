@@ -11,6 +11,8 @@
 
 use figures::{Figures, Fraction, Totals, class};
 use program::{Refusal, Validity, file};
+use std::io::{BufWriter, Read, Write};
+use std::{fs, io};
 
 fn place(x: u16) -> usize {
     x as usize
@@ -20,60 +22,61 @@ fn small_place(x: u8) -> usize {
     x as usize
 }
 
-fn print_next(z: i64) {
-    printing::text(b" ");
-    printing::long_integer(z);
+fn print_next<W: Write>(out: &mut W, z: i64) -> io::Result<()> {
+    printing::text(out, b" ")?;
+    printing::long_integer(out, z)
 }
 
-fn print_refusal(x: Refusal) {
-    printing::byte(x.number);
-    printing::text(b" ");
-    printing::place(x.offset);
+fn print_refusal<W: Write>(out: &mut W, x: Refusal) -> io::Result<()> {
+    printing::byte(out, x.number)?;
+    printing::text(out, b" ")?;
+    printing::place(out, x.offset)
 }
 
-fn print_answer(validity: Validity) {
+fn print_answer<W: Write>(out: &mut W, validity: Validity) -> io::Result<()> {
     match validity {
-        Validity::Fit => printing::text(b"0"),
-        Validity::Refused(x) => print_refusal(x),
+        Validity::Fit => printing::text(out, b"0"),
+        Validity::Refused(x) => print_refusal(out, x),
     }
 }
 
-fn print_totals(t: Totals) {
-    printing::text(b" ");
-    printing::long(t.count);
-    print_next(t.sum);
-    print_next(t.squares);
+fn print_totals<W: Write>(out: &mut W, t: Totals) -> io::Result<()> {
+    printing::text(out, b" ")?;
+    printing::long(out, t.count)?;
+    print_next(out, t.sum)?;
+    print_next(out, t.squares)
 }
 
-fn print_fraction(f: Fraction) {
-    print_next(f.numerator);
-    print_next(f.denominator);
+fn print_fraction<W: Write>(out: &mut W, f: Fraction) -> io::Result<()> {
+    print_next(out, f.numerator)?;
+    print_next(out, f.denominator)
 }
 
-fn print_figures(f: Figures) {
+fn print_figures<W: Write>(out: &mut W, f: Figures) -> io::Result<()> {
     let validity = f.validity;
-    print_answer(validity);
-    print_totals(f.totals);
-    print_fraction(f.mean);
-    print_fraction(f.variance);
-    printing::text(b"\n");
+    print_answer(out, validity)?;
+    print_totals(out, f.totals)?;
+    print_fraction(out, f.mean)?;
+    print_fraction(out, f.variance)?;
+    printing::text(out, b"\n")
 }
 
-fn answer_marks(bytes: &[u8], marks: &mut [i32]) {
+fn answer_marks<W: Write>(out: &mut W, bytes: &[u8], marks: &mut [i32]) -> io::Result<()> {
     cases::set_cells(marks, bytes);
-    print_figures(class::of_list(marks));
+    print_figures(out, class::of_list(marks))
 }
 
-fn answer_some(bytes: &[u8], marks: &mut [i32], n: usize) {
+fn answer_some<W: Write>(out: &mut W, bytes: &[u8], marks: &mut [i32], n: usize) -> io::Result<()> {
     if n <= marks.len() {
-        answer_marks(bytes, &mut marks[..n]);
+        answer_marks(out, bytes, &mut marks[..n])?;
     }
+    Ok(())
 }
 
 // Mode 1: a list of marks. There is room for more than a class may have.
-fn answer_list(bytes: &[u8]) {
+fn answer_list<W: Write>(out: &mut W, bytes: &[u8]) -> io::Result<()> {
     let mut marks = [0i32; 5120];
-    answer_some(bytes, &mut marks, bytes.len() / 4);
+    answer_some(out, bytes, &mut marks, bytes.len() / 4)
 }
 
 fn totals_at(bytes: &[u8], i: usize) -> Totals {
@@ -93,73 +96,87 @@ fn totals_at(bytes: &[u8], i: usize) -> Totals {
 }
 
 // Mode 2: two classes joined.
-fn answer_join(bytes: &[u8]) {
-    print_figures(class::of_join(totals_at(bytes, 0), totals_at(bytes, 20)));
+fn answer_join<W: Write>(out: &mut W, bytes: &[u8]) -> io::Result<()> {
+    print_figures(
+        out,
+        class::of_join(totals_at(bytes, 0), totals_at(bytes, 20)),
+    )
 }
 
-fn answer(mode: u8, bytes: &[u8]) {
+fn answer<W: Write>(out: &mut W, mode: u8, bytes: &[u8]) -> io::Result<()> {
     match mode {
-        1 => answer_list(bytes),
-        2 => answer_join(bytes),
-        _ => printing::text(b"unknown mode\n"),
+        1 => answer_list(out, bytes),
+        2 => answer_join(out, bytes),
+        _ => printing::text(out, b"unknown mode\n"),
     }
 }
 
-fn answer_front(mode: u8, bytes: &[u8], n: usize) {
+fn answer_front<W: Write>(out: &mut W, mode: u8, bytes: &[u8], n: usize) -> io::Result<()> {
     if n <= bytes.len() {
-        answer(mode, &bytes[..n]);
+        answer(out, mode, &bytes[..n])?;
     }
+    Ok(())
 }
 
 // Answers a case whose numbers take so many bytes, and says whether all of them are there.
-fn answer_numbers(fd: i32, mode: u8, n: usize) -> bool {
+fn answer_numbers<R: Read, W: Write>(
+    input: &mut R,
+    out: &mut W,
+    mode: u8,
+    n: usize,
+) -> io::Result<bool> {
     let mut bytes = [0u8; 20480];
-    let got = cases::read_front(fd, &mut bytes, n);
+    let got = cases::read_front(input, &mut bytes, n)?;
     if got != n {
-        printing::text(b"numbers cut\n");
-        return false;
+        printing::text(out, b"numbers cut\n")?;
+        return Ok(false);
     }
-    answer_front(mode, &bytes, n);
-    true
+    answer_front(out, mode, &bytes, n)?;
+    Ok(true)
 }
 
 // What the four bytes of a head say: the rest of the record is read and answered.
-fn answer_record(fd: i32, head: &[u8]) -> bool {
+fn answer_record<R: Read, W: Write>(input: &mut R, out: &mut W, head: &[u8]) -> io::Result<bool> {
     let mode = file::byte_at(head, 0);
     let title = file::byte_at(head, 1);
     let length = place(file::word_at(head, 2));
-    cases::title(fd, small_place(title)) && answer_numbers(fd, mode, length)
+    if cases::title(input, out, small_place(title))? {
+        answer_numbers(input, out, mode, length)
+    } else {
+        Ok(false)
+    }
 }
 
 // Reads a record and answers it, and says whether to go on.
-fn answer_next(fd: i32) -> bool {
+fn answer_next<R: Read, W: Write>(input: &mut R, out: &mut W) -> io::Result<bool> {
     let mut head = [0u8; 4];
-    let n = io::read_full(fd, &mut head);
+    let n = cases::read_full(input, &mut head)?;
     if n == 0 {
-        return false;
+        return Ok(false);
     }
     if n < 4 {
-        printing::text(b"head cut\n");
-        return false;
+        printing::text(out, b"head cut\n")?;
+        return Ok(false);
     }
-    answer_record(fd, &head)
+    answer_record(input, out, &head)
 }
 
-// Nothing says that a file ends: the loop counts its turns down, from a number that no run uses up.
-fn answer_all(fd: i32) {
-    let mut turns = u64::MAX;
-    while turns > 0 && answer_next(fd) {
-        turns -= 1;
+// Nothing says that a file ends: the loop counts its turns, up to a number that no run reaches.
+fn answer_all<R: Read, W: Write>(input: &mut R, out: &mut W) -> io::Result<()> {
+    for _ in 0..u64::MAX {
+        if !answer_next(input, out)? {
+            break;
+        }
     }
+    Ok(())
 }
 
-fn main() {
-    let path = b"classes.bin";
-    let fd = os::open_read(path);
-    if fd < 0 {
-        os::fail(path);
-        return;
+fn main(rt: HostRuntime) -> io::Result<()> {
+    let path = "classes.bin";
+    let mut out = BufWriter::new(rt.alloc(), io::writer(&rt))?;
+    match fs::open(&rt, path) {
+        Ok(mut file) => answer_all(&mut file, &mut out)?,
+        Err(error) => eprintln!(rt; "{path}: {error}")?,
     }
-    answer_all(fd);
-    libc::close(fd);
+    out.flush()
 }

@@ -1,4 +1,4 @@
--- The decimal digits of a number: that the kit's are these, and how many there are.
+-- The decimal digits of a number: that those of `digits::decimal` are these, and how many there are.
 use mathlib.Core.Path.{◌≡◌, refl, sym, ap, subst, ◌∙◌}
 use mathlib.Core.Bool.{Bool, true, false, cond}
 use mathlib.Core.List.{[]}
@@ -8,7 +8,7 @@ use native.Mathlib.Omega.{arith}
 use borrow.Author.Tests.{ltb-false, lt-ltb, le-ltb}
 use lib.Dec.{ltb}
 use lib.ListN.{length, length-append}
-use Rattle.io.specs.Digits.{last_digits, IsDigitCount}
+use Rattle.listing.specs.Digits.{last_digits, IsDigitCount}
 use Rattle.listing.specs.Text.{places_up_to, decimal}
 
 power_some : (k : ℕ) → 1 ≤ 10 ^ k

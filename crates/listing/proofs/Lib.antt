@@ -1,3 +1,4 @@
+mod Powers
 pub mod Decimals
 pub mod Placing
 pub mod Listings

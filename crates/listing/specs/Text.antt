@@ -4,7 +4,7 @@ use Prim.Native.Char.{code}
 use Prim.Native.String.{String}
 use Prim.Native.String as Quoted
 use mathlib.Core.List.{List, [], ◌∷◌, ◌++◌, flat_map}
-use Rattle.io.specs.Digits.{last_digits}
+use Rattle.listing.specs.Digits.{last_digits}
 use Rattle.analysis.specs.Sheet.{Line, counts_line, record_line, index_line, refusal_line, printed_lines}
 use Rattle.analysis.specs.declared.Mark.{Mark}
 use Rattle.analysis.specs.declared.Mark.TheVariants.{Clean, Unclean}
@@ -19,7 +19,7 @@ unfoldable pub places_up_to : ℕ → ℕ → ℕ
 places_up_to zero n = 1
 places_up_to (suc more) n = cond (ltb n 10) 1 (suc (places_up_to more (n / 10)))
 
--- a number, the "N" of "refused N at PLACE": its decimal digits, as the kit's `io::decimal` has them. Each number of 64 bits has at most 20
+-- a number, the "N" of "refused N at PLACE": its decimal digits, as `digits::decimal` has them. Each number of 64 bits has at most 20
 unfoldable pub decimal : ℕ → List ℕ
 decimal n = last_digits 10 (places_up_to 19 n) n
 

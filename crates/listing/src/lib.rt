@@ -1,19 +1,22 @@
 // What the sheet program prints (document 01, "The sheet program and the factorial lesson"): the solver's list for a script and its start list, or one
-// refusal. `specs/Text` has the bytes, and `render` promises them for any input. What is trusted beside it is that the C library reads and writes.
+// refusal. `specs/Text` has the bytes, and `render` promises them for any input. What is trusted beside it is that the system reads and writes.
 #![tactic(auto)]
 
+mod digits;
 mod lines;
 mod text;
 
-ghost use Rattle.std.specs.Prelude.{◌≡◌, length};
+ghost use Rattle.std.specs.Prelude.{◌≡◌, ◌≤◌, IfOk, OnOk, length};
+ghost use Rattle.std.specs.Io.KnownBytes.{Appends};
 ghost use Rattle.program.specs.Drawing.{over};
 ghost use Rattle.program.specs.Questions as Questions;
 ghost use Rattle.listing.specs.Parts.Writing as parts;
 ghost use Rattle.listing.specs.Text as spec;
 
 use analysis::{Marking, Solving, judging, solver};
-use libc::STDOUT_FILENO;
 use program::{Construction, Validity, drawing, file, validation};
+use std::io;
+use std::io::{Read, Write};
 
 // Bytes enough for any listing: 4,096 records have lines of at most 73 bytes (four digits, a space, three digits, 32 spaces with a digit each and the
 // line's end), and the counts and the index line have less than a hundred each.
@@ -88,17 +91,34 @@ pub fn render(input: &[u8], out: &mut [u8; TEXT]) -> usize
     }
 }
 
-pub fn print(input: &[u8]) {
+// Prints the listing of an input, or its refusal.
+pub fn print<W: Write>(out: &mut W, input: &[u8]) -> io::Result<()>
+    ensures { OnOk result (Appends (W.contents out.old) (W.contents out.new) (spec.printed_text input.now)) }
+{
     let mut text = [0u8; TEXT];
     let count = render(input, &mut text);
-    io::write_all(STDOUT_FILENO, &text[..count]);
+    out.write_all(&text[..count])
+}
+
+// Reads until the array is full or the input ends, and says how many bytes came.
+fn read_full<R: Read>(input: &mut R, bytes: &mut [u8]) -> io::Result<usize>
+    ensures { IfOk result (λ n. n ≤ length bytes.new) }
+{
+    let mut done = 0;
+    while done < bytes.len() {
+        let n = input.read(&mut bytes[done..])?;
+        if n == 0 {
+            break;
+        }
+        done += n;
+    }
+    Ok(done)
 }
 
 // The largest fit input has 23,631 bytes: 3 + 2 * 32 of names, 3 + 7 * 512, 3 + 7 * 256 and 3 + 7 * 256 of entries, and a start list of 3 + 512 * 32. The
-// array is longer, and an input that is longer still is answered by the bytes that it begins with: they have its text (`cut_printed` of `proofs/Laws`). A
-// read that fails counts as the input's end.
-pub fn print_read(fd: i32) {
-    let mut input = [0u8; 32768];
-    let n = io::read_full(fd, &mut input);
-    print(&input[..n]);
+// array is longer, and an input that is longer still is answered by the bytes that it begins with: they have its text (`cut_printed` of `proofs/Laws`).
+pub fn print_read<R: Read, W: Write>(input: &mut R, out: &mut W) -> io::Result<()> {
+    let mut bytes = [0u8; 32768];
+    let n = read_full(input, &mut bytes)?;
+    print(out, &bytes[..n])
 }

@@ -3,6 +3,8 @@
 ghost use Rattle.listing.specs.Parts.Writing.{Room, Put};
 ghost use Rattle.listing.specs.Text as spec;
 
+use crate::digits;
+
 pub(crate) fn put(text: &[u8], at: usize, out: &mut [u8]) -> usize
     requires { Room at text.now out.old }
     ensures { Put at text.now out.old out.new result }
@@ -20,7 +22,7 @@ pub(crate) fn put_number(n: u64, at: usize, out: &mut [u8]) -> usize
     ensures { Put at (spec.decimal n) out.old out.new result }
 {
     let mut digits = [0u8; 20];
-    let count = io::decimal(n, &mut digits);
+    let count = digits::decimal(n, &mut digits);
     put(&digits[..count], at, out)
 }
 

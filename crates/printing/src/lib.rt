@@ -1,45 +1,48 @@
-// What the test programs print, on standard output: text, numbers, and the engine's answers in document 01's words. The sheet program's text is `listing`'s.
+// What the test programs print: text, numbers, and the engine's answers in document 01's words. Each function writes to the writer that it is lent. The sheet
+// program's text is `listing`'s.
 //
-// A function that prints has no contract: the C library's `write` promises how much it took, and nothing of what was written.
+// A function that prints has no contract: nothing is claimed of what reaches standard output.
 #![tactic(auto)]
 
 ghost use Rattle.std.specs.Prelude.{◌≡◌, nat_abs};
 
 use analysis::Mark;
-use libc::STDOUT_FILENO;
 use program::Refusal;
 use semantics::{Fault, Outcome};
 use signs::Reason;
+use std::io;
+use std::io::Write;
 
-pub fn text(bytes: &[u8]) {
-    io::write_all(STDOUT_FILENO, bytes);
+pub fn text<W: Write>(out: &mut W, bytes: &[u8]) -> io::Result<()> {
+    out.write_all(bytes)
 }
 
 // The first bytes of a longer array, and nothing where there are not so many.
-pub fn front(bytes: &[u8], n: usize) {
+pub fn front<W: Write>(out: &mut W, bytes: &[u8], n: usize) -> io::Result<()> {
     if n <= bytes.len() {
-        text(&bytes[..n]);
+        text(out, &bytes[..n])?;
     }
+    Ok(())
 }
 
-pub fn number(n: u64) {
-    io::print_decimal(STDOUT_FILENO, n);
+pub fn number<W: Write>(out: &mut W, n: u64) -> io::Result<()> {
+    write!(out, "{n}")
 }
 
-pub fn byte(x: u8) {
-    number(x as u64);
+pub fn byte<W: Write>(out: &mut W, x: u8) -> io::Result<()> {
+    number(out, x as u64)
 }
 
-pub fn word(x: u16) {
-    number(x as u64);
+pub fn word<W: Write>(out: &mut W, x: u16) -> io::Result<()> {
+    number(out, x as u64)
 }
 
-pub fn long(x: u32) {
-    number(x as u64);
+pub fn long<W: Write>(out: &mut W, x: u32) -> io::Result<()> {
+    number(out, x as u64)
 }
 
-pub fn place(x: usize) {
-    number(x as u64);
+pub fn place<W: Write>(out: &mut W, x: usize) -> io::Result<()> {
+    number(out, x as u64)
 }
 
 // How far a number is from zero. The least one has no opposite in 64 bits: what is told is how far it is from minus one, and one more.
@@ -55,22 +58,22 @@ pub fn magnitude(z: i32) -> u64
     long_magnitude(z as i64)
 }
 
-pub fn long_integer(z: i64) {
+pub fn long_integer<W: Write>(out: &mut W, z: i64) -> io::Result<()> {
     if z < 0 {
-        text(b"-");
+        text(out, b"-")?;
     }
-    number(long_magnitude(z));
+    number(out, long_magnitude(z))
 }
 
-pub fn integer(z: i32) {
-    long_integer(z as i64);
+pub fn integer<W: Write>(out: &mut W, z: i32) -> io::Result<()> {
+    long_integer(out, z as i64)
 }
 
-pub fn refusal(x: Refusal) {
-    text(b"refused ");
-    byte(x.number);
-    text(b" at ");
-    place(x.offset);
+pub fn refusal<W: Write>(out: &mut W, x: Refusal) -> io::Result<()> {
+    text(out, b"refused ")?;
+    byte(out, x.number)?;
+    text(out, b" at ")?;
+    place(out, x.offset)
 }
 
 // Document 01's number of a reason.
@@ -85,41 +88,41 @@ fn reason_number(reason: Reason) -> u8 {
     }
 }
 
-pub fn undefined(reason: Reason) {
-    text(b"undefined ");
-    byte(reason_number(reason));
+pub fn undefined<W: Write>(out: &mut W, reason: Reason) -> io::Result<()> {
+    text(out, b"undefined ")?;
+    byte(out, reason_number(reason))
 }
 
-pub fn fault(x: Fault) {
+pub fn fault<W: Write>(out: &mut W, x: Fault) -> io::Result<()> {
     let reason = x.reason;
-    undefined(reason);
+    undefined(out, reason)
 }
 
-pub fn outcome(x: Outcome) {
+pub fn outcome<W: Write>(out: &mut W, x: Outcome) -> io::Result<()> {
     match x {
-        Outcome::Taken => text(b"taken"),
-        Outcome::Undefined(y) => fault(y),
-        Outcome::Refused(y) => refusal(y),
+        Outcome::Taken => text(out, b"taken"),
+        Outcome::Undefined(y) => fault(out, y),
+        Outcome::Refused(y) => refusal(out, y),
     }
 }
 
 // A record and an edge.
-pub fn spot(record: u16, edge: u16) {
-    text(b" record ");
-    word(record);
-    text(b" arrow ");
-    word(edge);
+pub fn spot<W: Write>(out: &mut W, record: u16, edge: u16) -> io::Result<()> {
+    text(out, b" record ")?;
+    word(out, record)?;
+    text(out, b" arrow ")?;
+    word(out, edge)
 }
 
-fn unclean(record: u16, edge: u16) {
-    text(b"index");
-    spot(record, edge);
+fn unclean<W: Write>(out: &mut W, record: u16, edge: u16) -> io::Result<()> {
+    text(out, b"index")?;
+    spot(out, record, edge)
 }
 
 // An index mark.
-pub fn mark(x: Mark) {
+pub fn mark<W: Write>(out: &mut W, x: Mark) -> io::Result<()> {
     match x {
-        Mark::Clean => text(b"index clean"),
-        Mark::Unclean { record, edge } => unclean(record, edge),
+        Mark::Clean => text(out, b"index clean"),
+        Mark::Unclean { record, edge } => unclean(out, record, edge),
     }
 }

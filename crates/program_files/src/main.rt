@@ -9,6 +9,8 @@
 use program::{
     Drawn, EdgeBytes, Entry, FieldHead, Head, Table, Validity, drawing, file, reader, validation,
 };
+use std::io::{BufWriter, Read, Write};
+use std::{fs, io};
 
 fn wide(x: u8) -> u64 {
     x as u64
@@ -26,38 +28,37 @@ fn small_place(x: u8) -> usize {
     x as usize
 }
 
-fn print_counts(d: Drawn) {
-    printing::text(b"nodes ");
-    printing::word(d.nodes);
-    printing::text(b" arrows ");
-    printing::word(d.edges);
+fn print_counts<W: Write>(out: &mut W, d: Drawn) -> io::Result<()> {
+    printing::text(out, b"nodes ")?;
+    printing::word(out, d.nodes)?;
+    printing::text(out, b" arrows ")?;
+    printing::word(out, d.edges)
 }
 
-fn print_drawn(d: Drawn) {
+fn print_drawn<W: Write>(out: &mut W, d: Drawn) -> io::Result<()> {
     let v = d.validity;
     match v {
-        Validity::Fit => print_counts(d),
-        Validity::Refused(x) => printing::refusal(x),
+        Validity::Fit => print_counts(out, d),
+        Validity::Refused(x) => printing::refusal(out, x),
     }
 }
 
-fn print_edge(e: EdgeBytes) {
-    printing::word(e.source);
-    printing::text(b" ");
-    printing::word(e.target);
-    printing::text(b" ");
-    printing::byte(e.kind);
-    printing::text(b" ");
-    printing::word(e.entry);
-    printing::text(b"\n");
+fn print_edge<W: Write>(out: &mut W, e: EdgeBytes) -> io::Result<()> {
+    printing::word(out, e.source)?;
+    printing::text(out, b" ")?;
+    printing::word(out, e.target)?;
+    printing::text(out, b" ")?;
+    printing::byte(out, e.kind)?;
+    printing::text(out, b" ")?;
+    printing::word(out, e.entry)?;
+    printing::text(out, b"\n")
 }
 
-fn print_edges(edges: &[u8; drawing::BYTES], count: u16) {
-    let mut k: u16 = 0;
-    while k < count {
-        print_edge(drawing::edge_at(edges, k));
-        k += 1;
+fn print_edges<W: Write>(out: &mut W, edges: &[u8; drawing::BYTES], count: u16) -> io::Result<()> {
+    for k in 0..count {
+        print_edge(out, drawing::edge_at(edges, k))?;
     }
+    Ok(())
 }
 
 fn number(x: u8) -> u32 {
@@ -74,12 +75,12 @@ fn draw_by(on: u8, s: &[u8], buffer: &mut [u8]) -> Drawn {
 }
 
 // Mode 1: the graph, a line for each edge.
-fn answer_edges(on: u8, s: &[u8]) {
+fn answer_edges<W: Write>(out: &mut W, on: u8, s: &[u8]) -> io::Result<()> {
     let mut edges = [0u8; drawing::BYTES];
     let d = draw_by(on, s, &mut edges);
-    print_drawn(d);
-    printing::text(b"\n");
-    print_edges(&edges, d.edges);
+    print_drawn(out, d)?;
+    printing::text(out, b"\n")?;
+    print_edges(out, &edges, d.edges)
 }
 
 fn draw_front(on: u8, s: &[u8], buffer: &mut [u8], room: usize) -> Drawn {
@@ -91,23 +92,23 @@ fn draw_front(on: u8, s: &[u8], buffer: &mut [u8], room: usize) -> Drawn {
 }
 
 // Mode 2: the graph drawn into the first bytes of a buffer, and a checksum of the whole buffer.
-fn answer_sum(on: u8, s: &[u8], room: usize) {
+fn answer_sum<W: Write>(out: &mut W, on: u8, s: &[u8], room: usize) -> io::Result<()> {
     let mut buffer = [170u8; 2000];
     let d = draw_front(on, s, &mut buffer, room);
-    print_drawn(d);
-    printing::text(b" sum ");
-    printing::number(cases::mix_bytes(&buffer));
-    printing::text(b"\n");
+    print_drawn(out, d)?;
+    printing::text(out, b" sum ")?;
+    printing::number(out, cases::mix_bytes(&buffer))?;
+    printing::text(out, b"\n")
 }
 
 // Mode 3: the questions of the sheet program's input.
-fn answer_input(s: &[u8]) {
+fn answer_input<W: Write>(out: &mut W, s: &[u8]) -> io::Result<()> {
     let v = validation::validate_input(s);
     match v {
-        Validity::Fit => printing::text(b"fit"),
-        Validity::Refused(x) => printing::refusal(x),
+        Validity::Fit => printing::text(out, b"fit")?,
+        Validity::Refused(x) => printing::refusal(out, x)?,
     }
-    printing::text(b"\n");
+    printing::text(out, b"\n")
 }
 
 fn mix_entry(sum: u64, e: Entry) -> u64 {
@@ -120,10 +121,8 @@ fn mix_entry(sum: u64, e: Entry) -> u64 {
 fn mix_table(sum: u64, s: &[u8], table: Table) -> u64 {
     let count = file::entry_count(s, table);
     let mut mixed = sum;
-    let mut n: u16 = 0;
-    while n < count {
+    for n in 0..count {
         mixed = mix_entry(mixed, file::entry(s, table, n));
-        n += 1;
     }
     mixed
 }
@@ -131,167 +130,182 @@ fn mix_table(sum: u64, s: &[u8], table: Table) -> u64 {
 fn mix_names(s: &[u8]) -> u64 {
     let count = file::name_count(s);
     let mut mixed: u64 = 1;
-    let mut i: u16 = 0;
-    while i < count {
+    for i in 0..count {
         mixed = cases::mix(mixed, wide_word(file::size_at(s, i)));
         mixed = cases::mix(mixed, file::first_cell(s, i) as u64);
-        i += 1;
     }
     mixed
 }
 
-fn print_readings(s: &[u8]) {
-    printing::text(b"names ");
-    printing::word(file::name_count(s));
-    printing::text(b" cells ");
-    printing::place(file::cell_count(s));
-    printing::text(b" entries ");
-    printing::word(file::entry_count(s, Table::Arithmetic));
-    printing::text(b" ");
-    printing::word(file::entry_count(s, Table::Boolean));
-    printing::text(b" ");
-    printing::word(file::entry_count(s, Table::Commands));
-    printing::text(b" sum ");
+fn print_readings<W: Write>(out: &mut W, s: &[u8]) -> io::Result<()> {
+    printing::text(out, b"names ")?;
+    printing::word(out, file::name_count(s))?;
+    printing::text(out, b" cells ")?;
+    printing::place(out, file::cell_count(s))?;
+    printing::text(out, b" entries ")?;
+    printing::word(out, file::entry_count(s, Table::Arithmetic))?;
+    printing::text(out, b" ")?;
+    printing::word(out, file::entry_count(s, Table::Boolean))?;
+    printing::text(out, b" ")?;
+    printing::word(out, file::entry_count(s, Table::Commands))?;
+    printing::text(out, b" sum ")?;
     let names = mix_names(s);
     let arithmetic = mix_table(names, s, Table::Arithmetic);
     let boolean = mix_table(arithmetic, s, Table::Boolean);
-    printing::number(mix_table(boolean, s, Table::Commands));
+    printing::number(out, mix_table(boolean, s, Table::Commands))
 }
 
 // Mode 4: the counts of a well-formed program, and a checksum of its names and entries.
-fn answer_readings(s: &[u8]) {
+fn answer_readings<W: Write>(out: &mut W, s: &[u8]) -> io::Result<()> {
     let v = validation::validate(s);
     match v {
-        Validity::Fit => print_readings(s),
-        Validity::Refused(x) => printing::refusal(x),
+        Validity::Fit => print_readings(out, s)?,
+        Validity::Refused(x) => printing::refusal(out, x)?,
     }
-    printing::text(b"\n");
+    printing::text(out, b"\n")
 }
 
-fn print_part(bytes: &[u8]) {
-    printing::place(bytes.len());
-    printing::text(b" sum ");
-    printing::number(cases::mix_bytes(bytes));
+fn print_part<W: Write>(out: &mut W, bytes: &[u8]) -> io::Result<()> {
+    printing::place(out, bytes.len())?;
+    printing::text(out, b" sum ")?;
+    printing::number(out, cases::mix_bytes(bytes))
 }
 
-fn print_parts(s: &[u8]) {
-    printing::text(b"program ");
-    print_part(validation::program_part(s));
-    printing::text(b" list ");
-    print_part(validation::initial_part(s));
+fn print_parts<W: Write>(out: &mut W, s: &[u8]) -> io::Result<()> {
+    printing::text(out, b"program ")?;
+    print_part(out, validation::program_part(s))?;
+    printing::text(out, b" list ")?;
+    print_part(out, validation::initial_part(s))
 }
 
-fn print_found(h: FieldHead) {
-    printing::place(h.start);
-    printing::text(b" tag ");
-    printing::byte(h.tag);
-    printing::text(b" length ");
-    printing::word(h.length);
-    printing::text(b" content ");
-    printing::place(h.content);
-    printing::text(b" next ");
-    printing::place(h.next);
+fn print_found<W: Write>(out: &mut W, h: FieldHead) -> io::Result<()> {
+    printing::place(out, h.start)?;
+    printing::text(out, b" tag ")?;
+    printing::byte(out, h.tag)?;
+    printing::text(out, b" length ")?;
+    printing::word(out, h.length)?;
+    printing::text(out, b" content ")?;
+    printing::place(out, h.content)?;
+    printing::text(out, b" next ")?;
+    printing::place(out, h.next)
 }
 
-fn print_head(head: Head) {
+fn print_head<W: Write>(out: &mut W, head: Head) -> io::Result<()> {
     match head {
         Head::Short(at) => {
-            printing::text(b"none at ");
-            printing::place(at);
+            printing::text(out, b"none at ")?;
+            printing::place(out, at)?;
         }
-        Head::Found(h) => print_found(h),
+        Head::Found(h) => print_found(out, h)?,
     }
-    printing::text(b"\n");
+    printing::text(out, b"\n")
 }
 
-fn print_heads(s: &[u8]) {
-    let mut k: u8 = 0;
-    while k < 6 {
-        print_head(reader::field_head(s, k));
-        k += 1;
+fn print_heads<W: Write>(out: &mut W, s: &[u8]) -> io::Result<()> {
+    for k in 0..6u8 {
+        print_head(out, reader::field_head(s, k))?;
     }
+    Ok(())
 }
 
 // Mode 5: the parts of the sheet program's input where that is well formed, and what the field reader finds after none to five fields.
-fn answer_parts(s: &[u8]) {
+fn answer_parts<W: Write>(out: &mut W, s: &[u8]) -> io::Result<()> {
     let v = validation::validate_input(s);
     match v {
-        Validity::Fit => print_parts(s),
-        Validity::Refused(x) => printing::refusal(x),
+        Validity::Fit => print_parts(out, s)?,
+        Validity::Refused(x) => printing::refusal(out, x)?,
     }
-    printing::text(b"\n");
-    print_heads(s);
+    printing::text(out, b"\n")?;
+    print_heads(out, s)
 }
 
-fn answer(mode: u8, room: usize, s: &[u8]) {
+fn answer<W: Write>(out: &mut W, mode: u8, room: usize, s: &[u8]) -> io::Result<()> {
     let on = mode / 16;
     let asked = mode % 16;
     match asked {
-        1 => answer_edges(on, s),
-        2 => answer_sum(on, s, room),
-        3 => answer_input(s),
-        4 => answer_readings(s),
-        5 => answer_parts(s),
-        _ => printing::text(b"unknown mode\n"),
+        1 => answer_edges(out, on, s),
+        2 => answer_sum(out, on, s, room),
+        3 => answer_input(out, s),
+        4 => answer_readings(out, s),
+        5 => answer_parts(out, s),
+        _ => printing::text(out, b"unknown mode\n"),
     }
 }
 
-fn answer_front(mode: u8, room: usize, bytes: &[u8], n: usize) {
+fn answer_front<W: Write>(
+    out: &mut W,
+    mode: u8,
+    room: usize,
+    bytes: &[u8],
+    n: usize,
+) -> io::Result<()> {
     if n <= bytes.len() {
-        answer(mode, room, &bytes[..n]);
+        answer(out, mode, room, &bytes[..n])?;
     }
+    Ok(())
 }
 
 // Answers a file of so many bytes, and whether all of it is there.
-fn answer_file(fd: i32, mode: u8, room: usize, n: usize) -> bool {
+fn answer_file<R: Read, W: Write>(
+    input: &mut R,
+    out: &mut W,
+    mode: u8,
+    room: usize,
+    n: usize,
+) -> io::Result<bool> {
     let mut bytes = [0u8; 32768];
-    let got = cases::read_front(fd, &mut bytes, n);
+    let got = cases::read_front(input, &mut bytes, n)?;
     if got != n {
-        printing::text(b"file cut\n");
-        return false;
+        printing::text(out, b"file cut\n")?;
+        return Ok(false);
     }
-    answer_front(mode, room, &bytes, n);
-    true
+    answer_front(out, mode, room, &bytes, n)?;
+    Ok(true)
 }
 
 // What the six bytes of a head say: the rest of the record is read and answered.
-fn answer_record(fd: i32, head: &[u8]) -> bool {
+fn answer_record<R: Read, W: Write>(input: &mut R, out: &mut W, head: &[u8]) -> io::Result<bool> {
     let mode = file::byte_at(head, 0);
     let room = place(file::word_at(head, 1));
     let title = file::byte_at(head, 3);
     let length = place(file::word_at(head, 4));
-    cases::title(fd, small_place(title)) && answer_file(fd, mode, room, length)
+    if cases::title(input, out, small_place(title))? {
+        answer_file(input, out, mode, room, length)
+    } else {
+        Ok(false)
+    }
 }
 
 // Reads a record and answers it, and says whether to go on.
-fn answer_next(fd: i32) -> bool {
+fn answer_next<R: Read, W: Write>(input: &mut R, out: &mut W) -> io::Result<bool> {
     let mut head = [0u8; 6];
-    let n = io::read_full(fd, &mut head);
+    let n = cases::read_full(input, &mut head)?;
     if n == 0 {
-        return false;
+        return Ok(false);
     }
     if n < 6 {
-        printing::text(b"head cut\n");
-        return false;
+        printing::text(out, b"head cut\n")?;
+        return Ok(false);
     }
-    answer_record(fd, &head)
+    answer_record(input, out, &head)
 }
 
-// Nothing says that a file ends: the loop counts its turns down, from a number that no run uses up.
-fn answer_all(fd: i32) {
-    let mut turns = u64::MAX;
-    while turns > 0 && answer_next(fd) {
-        turns -= 1;
+// Nothing says that a file ends: the loop counts its turns, up to a number that no run reaches.
+fn answer_all<R: Read, W: Write>(input: &mut R, out: &mut W) -> io::Result<()> {
+    for _ in 0..u64::MAX {
+        if !answer_next(input, out)? {
+            break;
+        }
     }
+    Ok(())
 }
 
-fn main() {
-    let path = b"files.bin";
-    let fd = os::open_read(path);
-    if fd < 0 {
-        os::fail(path);
-        return;
+fn main(rt: HostRuntime) -> io::Result<()> {
+    let path = "files.bin";
+    let mut out = BufWriter::new(rt.alloc(), io::writer(&rt))?;
+    match fs::open(&rt, path) {
+        Ok(mut file) => answer_all(&mut file, &mut out)?,
+        Err(error) => eprintln!(rt; "{path}: {error}")?,
     }
-    answer_all(fd);
-    libc::close(fd);
+    out.flush()
 }

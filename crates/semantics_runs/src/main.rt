@@ -9,6 +9,8 @@
 
 use program::{drawing, file};
 use semantics::{Ended, Ending, Run, Stepped, running};
+use std::io::{BufWriter, Read, Write};
+use std::{fs, io};
 
 // What the first twelve bytes of a record say: lengths are in bytes.
 #[derive(Clone, Copy)]
@@ -30,33 +32,32 @@ fn small_place(x: u8) -> usize {
     x as usize
 }
 
-fn print_ending(ending: Ending) {
+fn print_ending<W: Write>(out: &mut W, ending: Ending) -> io::Result<()> {
     match ending {
-        Ending::Arrived => printing::text(b"answer 0"),
-        Ending::Spent => printing::text(b"answer 1"),
-        Ending::Stuck => printing::text(b"answer 2"),
-        Ending::Refused(x) => printing::refusal(x),
+        Ending::Arrived => printing::text(out, b"answer 0"),
+        Ending::Spent => printing::text(out, b"answer 1"),
+        Ending::Stuck => printing::text(out, b"answer 2"),
+        Ending::Refused(x) => printing::refusal(out, x),
     }
 }
 
-fn print_run(run: Run) {
-    printing::text(b"node ");
-    printing::word(run.node);
-    printing::text(b" count ");
-    printing::word(run.count);
+fn print_run<W: Write>(out: &mut W, run: Run) -> io::Result<()> {
+    printing::text(out, b"node ")?;
+    printing::word(out, run.node)?;
+    printing::text(out, b" count ")?;
+    printing::word(out, run.count)
 }
 
-fn print_cell(x: i32) {
-    printing::text(b" ");
-    printing::integer(x);
+fn print_cell<W: Write>(out: &mut W, x: i32) -> io::Result<()> {
+    printing::text(out, b" ")?;
+    printing::integer(out, x)
 }
 
-fn print_cells(memory: &[i32]) {
-    let mut i: usize = 0;
-    while i < memory.len() {
-        print_cell(memory[i]);
-        i += 1;
+fn print_cells<W: Write>(out: &mut W, memory: &[i32]) -> io::Result<()> {
+    for x in memory {
+        print_cell(out, *x)?;
     }
+    Ok(())
 }
 
 // A cell goes into a checksum by its sign and its magnitude.
@@ -67,23 +68,21 @@ fn mix_cell(sum: u64, z: i32) -> u64 {
 
 fn mix_cells(memory: &[i32]) -> u64 {
     let mut sum: u64 = 1;
-    let mut i: usize = 0;
-    while i < memory.len() {
-        sum = mix_cell(sum, memory[i]);
-        i += 1;
+    for x in memory {
+        sum = mix_cell(sum, *x);
     }
     sum
 }
 
 // The cells, where they are few, and a checksum of all.
-fn print_memory(memory: &[i32]) {
-    printing::text(b" memory");
+fn print_memory<W: Write>(out: &mut W, memory: &[i32]) -> io::Result<()> {
+    printing::text(out, b" memory")?;
     if memory.len() <= 16 {
-        print_cells(memory);
+        print_cells(out, memory)?;
     }
-    printing::text(b" sum ");
-    printing::number(mix_cells(memory));
-    printing::text(b"\n");
+    printing::text(out, b" sum ")?;
+    printing::number(out, mix_cells(memory))?;
+    printing::text(out, b"\n")
 }
 
 fn number(x: u8) -> u32 {
@@ -100,13 +99,19 @@ fn run_by(on: u8, s: &[u8], budget: u16, memory: &mut [i32]) -> Ended {
 }
 
 // Mode 1: a budgeted run.
-fn answer_run(on: u8, s: &[u8], budget: u16, memory: &mut [i32]) {
+fn answer_run<W: Write>(
+    out: &mut W,
+    on: u8,
+    s: &[u8],
+    budget: u16,
+    memory: &mut [i32],
+) -> io::Result<()> {
     let ended = run_by(on, s, budget, memory);
     let ending = ended.ending;
-    print_ending(ending);
-    printing::text(b"; ");
-    print_run(ended.run);
-    print_memory(memory);
+    print_ending(out, ending)?;
+    printing::text(out, b"; ")?;
+    print_run(out, ended.run)?;
+    print_memory(out, memory)
 }
 
 // A step on such a graph.
@@ -119,22 +124,34 @@ fn step_by(run: Run, on: u8, s: &[u8], edge: u16, memory: &mut [i32]) -> Stepped
 }
 
 // A step call, and its outcome printed.
-fn step_told(run: Run, on: u8, s: &[u8], edge: u16, memory: &mut [i32]) -> Run {
+fn step_told<W: Write>(
+    out: &mut W,
+    run: Run,
+    on: u8,
+    s: &[u8],
+    edge: u16,
+    memory: &mut [i32],
+) -> io::Result<Run> {
     let stepped = step_by(run, on, s, edge, memory);
     let outcome = stepped.outcome;
-    printing::outcome(outcome);
-    printing::text(b"; ");
-    stepped.run
+    printing::outcome(out, outcome)?;
+    printing::text(out, b"; ")?;
+    Ok(stepped.run)
 }
 
-fn step_all(from: Run, on: u8, s: &[u8], calls: &[u8], memory: &mut [i32]) -> Run {
+fn step_all<W: Write>(
+    out: &mut W,
+    from: Run,
+    on: u8,
+    s: &[u8],
+    calls: &[u8],
+    memory: &mut [i32],
+) -> io::Result<Run> {
     let mut run = from;
-    let mut i: usize = 0;
-    while i < calls.len() / 2 {
-        run = step_told(run, on, s, file::word_at(calls, i * 2), memory);
-        i += 1;
+    for i in 0..calls.len() / 2 {
+        run = step_told(out, run, on, s, file::word_at(calls, i * 2), memory)?;
     }
-    run
+    Ok(run)
 }
 
 fn start(node: u16, count: u16) -> Run {
@@ -146,85 +163,133 @@ fn start(node: u16, count: u16) -> Run {
 }
 
 // Mode 2: step calls in turn.
-fn answer_calls(run: Run, on: u8, s: &[u8], calls: &[u8], memory: &mut [i32]) {
-    print_run(step_all(run, on, s, calls, memory));
-    print_memory(memory);
+fn answer_calls<W: Write>(
+    out: &mut W,
+    run: Run,
+    on: u8,
+    s: &[u8],
+    calls: &[u8],
+    memory: &mut [i32],
+) -> io::Result<()> {
+    let stepped = step_all(out, run, on, s, calls, memory)?;
+    print_run(out, stepped)?;
+    print_memory(out, memory)
 }
 
-fn answer(h: Head, s: &[u8], calls: &[u8], memory: &mut [i32]) {
+fn answer<W: Write>(
+    out: &mut W,
+    h: Head,
+    s: &[u8],
+    calls: &[u8],
+    memory: &mut [i32],
+) -> io::Result<()> {
     let on = h.mode / 16;
     let asked = h.mode % 16;
     match asked {
-        1 => answer_run(on, s, h.first, memory),
-        2 => answer_calls(start(h.first, h.second), on, s, calls, memory),
-        _ => printing::text(b"unknown mode\n"),
+        1 => answer_run(out, on, s, h.first, memory),
+        2 => answer_calls(out, start(h.first, h.second), on, s, calls, memory),
+        _ => printing::text(out, b"unknown mode\n"),
     }
 }
 
-fn answer_front(h: Head, bytes: &[u8], calls: &[u8], memory: &mut [i32]) {
+fn answer_front<W: Write>(
+    out: &mut W,
+    h: Head,
+    bytes: &[u8],
+    calls: &[u8],
+    memory: &mut [i32],
+) -> io::Result<()> {
     let n = h.length;
     if n <= bytes.len() {
-        answer(h, &bytes[..n], calls, memory);
+        answer(out, h, &bytes[..n], calls, memory)?;
     }
+    Ok(())
 }
 
 // Answers a record whose file comes next, and says whether all of that is there.
-fn answer_file(fd: i32, h: Head, calls: &[u8], memory: &mut [i32]) -> bool {
+fn answer_file<R: Read, W: Write>(
+    input: &mut R,
+    out: &mut W,
+    h: Head,
+    calls: &[u8],
+    memory: &mut [i32],
+) -> io::Result<bool> {
     let mut bytes = [0u8; 8192];
-    let got = cases::read_front(fd, &mut bytes, h.length);
+    let got = cases::read_front(input, &mut bytes, h.length)?;
     if got != h.length {
-        printing::text(b"file cut\n");
-        return false;
+        printing::text(out, b"file cut\n")?;
+        return Ok(false);
     }
-    answer_front(h, &bytes, calls, memory);
-    true
+    answer_front(out, h, &bytes, calls, memory)?;
+    Ok(true)
 }
 
-fn answer_with(fd: i32, h: Head, bytes: &[u8], memory: &mut [i32]) -> bool {
+fn answer_with<R: Read, W: Write>(
+    input: &mut R,
+    out: &mut W,
+    h: Head,
+    bytes: &[u8],
+    memory: &mut [i32],
+) -> io::Result<bool> {
     let n = h.calls;
     if n <= bytes.len() {
-        answer_file(fd, h, &bytes[..n], memory)
+        answer_file(input, out, h, &bytes[..n], memory)
     } else {
-        false
+        Ok(false)
     }
 }
 
 // Answers a record whose step calls and file come next.
-fn answer_listed(fd: i32, h: Head, memory: &mut [i32]) -> bool {
+fn answer_listed<R: Read, W: Write>(
+    input: &mut R,
+    out: &mut W,
+    h: Head,
+    memory: &mut [i32],
+) -> io::Result<bool> {
     let mut bytes = [0u8; 1024];
-    let got = cases::read_front(fd, &mut bytes, h.calls);
+    let got = cases::read_front(input, &mut bytes, h.calls)?;
     if got != h.calls {
-        printing::text(b"calls cut\n");
-        return false;
+        printing::text(out, b"calls cut\n")?;
+        return Ok(false);
     }
-    answer_with(fd, h, &bytes, memory)
+    answer_with(input, out, h, &bytes, memory)
 }
 
 // Answers a record whose cells, step calls and file come next.
-fn answer_lent(fd: i32, h: Head, memory: &mut [i32]) -> bool {
+fn answer_lent<R: Read, W: Write>(
+    input: &mut R,
+    out: &mut W,
+    h: Head,
+    memory: &mut [i32],
+) -> io::Result<bool> {
     let mut bytes = [0u8; 4096];
-    let got = cases::read_front(fd, &mut bytes, h.cells);
+    let got = cases::read_front(input, &mut bytes, h.cells)?;
     if got != h.cells {
-        printing::text(b"cells cut\n");
-        return false;
+        printing::text(out, b"cells cut\n")?;
+        return Ok(false);
     }
     cases::set_cells(memory, &bytes);
-    answer_listed(fd, h, memory)
+    answer_listed(input, out, h, memory)
 }
 
-fn answer_part(fd: i32, h: Head, memory: &mut [i32]) -> bool {
+fn answer_part<R: Read, W: Write>(
+    input: &mut R,
+    out: &mut W,
+    h: Head,
+    memory: &mut [i32],
+) -> io::Result<bool> {
     let n = h.cells / 4;
     if n <= memory.len() {
-        answer_lent(fd, h, &mut memory[..n])
+        answer_lent(input, out, h, &mut memory[..n])
     } else {
-        false
+        Ok(false)
     }
 }
 
 // Answers a record whose title has been read.
-fn answer_record(fd: i32, h: Head) -> bool {
+fn answer_record<R: Read, W: Write>(input: &mut R, out: &mut W, h: Head) -> io::Result<bool> {
     let mut memory = [0i32; 1024];
-    answer_part(fd, h, &mut memory)
+    answer_part(input, out, h, &mut memory)
 }
 
 fn head_of(bytes: &[u8]) -> Head {
@@ -239,39 +304,44 @@ fn head_of(bytes: &[u8]) -> Head {
     }
 }
 
-fn answer_headed(fd: i32, h: Head) -> bool {
-    cases::title(fd, h.title) && answer_record(fd, h)
+fn answer_headed<R: Read, W: Write>(input: &mut R, out: &mut W, h: Head) -> io::Result<bool> {
+    if cases::title(input, out, h.title)? {
+        answer_record(input, out, h)
+    } else {
+        Ok(false)
+    }
 }
 
 // Reads a record and answers it, and says whether to go on.
-fn answer_next(fd: i32) -> bool {
+fn answer_next<R: Read, W: Write>(input: &mut R, out: &mut W) -> io::Result<bool> {
     let mut bytes = [0u8; 12];
-    let n = io::read_full(fd, &mut bytes);
+    let n = cases::read_full(input, &mut bytes)?;
     if n == 0 {
-        return false;
+        return Ok(false);
     }
     if n < 12 {
-        printing::text(b"head cut\n");
-        return false;
+        printing::text(out, b"head cut\n")?;
+        return Ok(false);
     }
-    answer_headed(fd, head_of(&bytes))
+    answer_headed(input, out, head_of(&bytes))
 }
 
-// Nothing says that a file ends: the loop counts its turns down, from a number that no run uses up.
-fn answer_all(fd: i32) {
-    let mut turns = u64::MAX;
-    while turns > 0 && answer_next(fd) {
-        turns -= 1;
+// Nothing says that a file ends: the loop counts its turns, up to a number that no run reaches.
+fn answer_all<R: Read, W: Write>(input: &mut R, out: &mut W) -> io::Result<()> {
+    for _ in 0..u64::MAX {
+        if !answer_next(input, out)? {
+            break;
+        }
     }
+    Ok(())
 }
 
-fn main() {
-    let path = b"runs.bin";
-    let fd = os::open_read(path);
-    if fd < 0 {
-        os::fail(path);
-        return;
+fn main(rt: HostRuntime) -> io::Result<()> {
+    let path = "runs.bin";
+    let mut out = BufWriter::new(rt.alloc(), io::writer(&rt))?;
+    match fs::open(&rt, path) {
+        Ok(mut file) => answer_all(&mut file, &mut out)?,
+        Err(error) => eprintln!(rt; "{path}: {error}")?,
     }
-    answer_all(fd);
-    libc::close(fd);
+    out.flush()
 }

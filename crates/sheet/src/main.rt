@@ -2,8 +2,11 @@
 // solver's listing on standard output, or one refusal.
 #![tactic(auto)]
 
-use libc::STDIN_FILENO;
+use std::io;
+use std::io::{BufWriter, Write};
 
-fn main() {
-    listing::print_read(STDIN_FILENO);
+fn main(rt: HostRuntime) -> io::Result<()> {
+    let mut out = BufWriter::new(rt.alloc(), io::writer(&rt))?;
+    listing::print_read(&mut rt.reader(), &mut out)?;
+    out.flush()
 }

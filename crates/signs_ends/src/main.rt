@@ -2,58 +2,62 @@
 #![tactic(auto)]
 
 use signs::{Operator, Value, number};
+use std::io;
+use std::io::{BufWriter, Write};
 
 const LEAST: i32 = -2147483648;
 
 const GREATEST: i32 = 2147483647;
 
-fn print_value(v: Value) {
+fn print_value<W: Write>(out: &mut W, v: Value) -> io::Result<()> {
     match v {
-        Value::Number(z) => printing::integer(z),
-        Value::Undefined(reason) => printing::undefined(reason),
+        Value::Number(z) => printing::integer(out, z),
+        Value::Undefined(reason) => printing::undefined(out, reason),
     }
 }
 
-fn print_operator(operator: Operator) {
+fn print_operator<W: Write>(out: &mut W, operator: Operator) -> io::Result<()> {
     match operator {
-        Operator::Add => printing::text(b"+ "),
-        Operator::Sub => printing::text(b"- "),
-        Operator::Mul => printing::text(b"* "),
-        Operator::Div => printing::text(b"/ "),
-        Operator::Pow => printing::text(b"^ "),
-    };
+        Operator::Add => printing::text(out, b"+ "),
+        Operator::Sub => printing::text(out, b"- "),
+        Operator::Mul => printing::text(out, b"* "),
+        Operator::Div => printing::text(out, b"/ "),
+        Operator::Pow => printing::text(out, b"^ "),
+    }
 }
 
-fn print_case(operator: Operator, a: i32, b: i32) {
-    print_operator(operator);
-    printing::integer(a);
-    printing::text(b" ");
-    printing::integer(b);
-    printing::text(b" ");
-    print_value(number::apply(operator, a, b));
-    printing::text(b"\n");
+fn print_case<W: Write>(out: &mut W, operator: Operator, a: i32, b: i32) -> io::Result<()> {
+    print_operator(out, operator)?;
+    printing::integer(out, a)?;
+    printing::text(out, b" ")?;
+    printing::integer(out, b)?;
+    printing::text(out, b" ")?;
+    print_value(out, number::apply(operator, a, b))?;
+    printing::text(out, b"\n")
 }
 
-fn print_row(operator: Operator, a: i32) {
-    print_case(operator, a, LEAST);
-    print_case(operator, a, -1);
-    print_case(operator, a, 0);
-    print_case(operator, a, 1);
-    print_case(operator, a, GREATEST);
+fn print_row<W: Write>(out: &mut W, operator: Operator, a: i32) -> io::Result<()> {
+    print_case(out, operator, a, LEAST)?;
+    print_case(out, operator, a, -1)?;
+    print_case(out, operator, a, 0)?;
+    print_case(out, operator, a, 1)?;
+    print_case(out, operator, a, GREATEST)
 }
 
-fn print_operator_cases(operator: Operator) {
-    print_row(operator, LEAST);
-    print_row(operator, -1);
-    print_row(operator, 0);
-    print_row(operator, 1);
-    print_row(operator, GREATEST);
+fn print_operator_cases<W: Write>(out: &mut W, operator: Operator) -> io::Result<()> {
+    print_row(out, operator, LEAST)?;
+    print_row(out, operator, -1)?;
+    print_row(out, operator, 0)?;
+    print_row(out, operator, 1)?;
+    print_row(out, operator, GREATEST)
 }
 
-fn main() {
-    print_operator_cases(Operator::Add);
-    print_operator_cases(Operator::Sub);
-    print_operator_cases(Operator::Mul);
-    print_operator_cases(Operator::Div);
-    print_operator_cases(Operator::Pow);
+fn main(rt: HostRuntime) -> io::Result<()> {
+    let mut out = BufWriter::new(rt.alloc(), io::writer(&rt))?;
+    print_operator_cases(&mut out, Operator::Add)?;
+    print_operator_cases(&mut out, Operator::Sub)?;
+    print_operator_cases(&mut out, Operator::Mul)?;
+    print_operator_cases(&mut out, Operator::Div)?;
+    print_operator_cases(&mut out, Operator::Pow)?;
+    out.flush()
 }
