@@ -306,23 +306,23 @@ pub ended_narrow : (κ : Construction) (s : List ℕ) (budget : ℕ) (m : List �
 ended_narrow κ s budget m same x p = omega (arith, (budget_told κ s budget m x (ap (λ (r : Ended). r.ending) (sym same) ∙ p)).near)
 
 pub verdict_narrow : (κ : Construction) (s initial solution : List ℕ) {v : Verdict} → v ≡ verdict κ s initial solution
-    → ((x : Refusal) → v ≡ Declines x → Narrow x.offset) × ((w : WrongByte) → v ≡ Malformed w → Narrow w.offset)
+    → record { refused : ((x : Refusal) → v ≡ Declines x → Narrow x.offset); malformed : ((w : WrongByte) → v ≡ Malformed w → Narrow w.offset) }
 verdict_narrow κ s initial solution same =
     let told = verdict_told_lem κ s initial solution in
-    (λ x e. omega (arith, (told.refused x (sym same ∙ e)).near), λ w e. omega (arith, told.wrong w (sym same ∙ e)))
+    record { refused = λ x e. omega (arith, (told.refused x (sym same ∙ e)).near); malformed = λ w e. omega (arith, told.wrong w (sym same ∙ e)) }
 
 pub marking_narrow : (s solution : List ℕ) {m : Marking} → m ≡ marking s solution
-    → ((x : Refusal) → m ≡ MarkRefused x → Narrow x.offset) × ((w : WrongByte) → m ≡ MarkMalformed w → Narrow w.offset)
+    → record { refused : ((x : Refusal) → m ≡ MarkRefused x → Narrow x.offset); malformed : ((w : WrongByte) → m ≡ MarkMalformed w → Narrow w.offset) }
 marking_narrow s solution same =
     let told = marking_told s solution in
-    (λ x e. omega (arith, (told.refused x (sym same ∙ e)).near), λ w e. omega (arith, told.wrong w (sym same ∙ e)))
+    record { refused = λ x e. omega (arith, (told.refused x (sym same ∙ e)).near); malformed = λ w e. omega (arith, told.wrong w (sym same ∙ e)) }
 
 pub solved_narrow : (κ : Construction) (s initial buffer : List ℕ) {r : Solved} → r ≡ solved κ s initial buffer
-    → ((x : Refusal) → r.solving ≡ SolveRefused x → Narrow x.offset) × ((w : WrongByte) → r.solving ≡ SolveMalformed w → Narrow w.offset)
+    → record { refused : ((x : Refusal) → r.solving ≡ SolveRefused x → Narrow x.offset); malformed : ((w : WrongByte) → r.solving ≡ SolveMalformed w → Narrow w.offset) }
 solved_narrow κ s initial buffer same =
     let told = solved_told κ s initial buffer in
     let solving = ap (λ (r : Solved). r.solving) (sym same) in
-    (λ x e. omega (arith, (told.refused x (solving ∙ e)).near), λ w e. omega (arith, told.wrong w (solving ∙ e)))
+    record { refused = λ x e. omega (arith, (told.refused x (solving ∙ e)).near); malformed = λ w e. omega (arith, told.wrong w (solving ∙ e)) }
 
 pub list_narrow : (marks : List ℤ) {f : Figures} → f ≡ list_figures marks → (x : Refusal) → f.validity ≡ Refused x → Narrow x.offset
 list_narrow marks same = validity_narrow (omega arith) (list_placed marks) (ap (λ (f : Figures). f.validity) same)

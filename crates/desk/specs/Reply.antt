@@ -1,6 +1,6 @@
 -- What a call tells its caller: a return value, and a row of numbers over the front of the reply that the caller lends. A row has one length for each call and one
 -- meaning at each place; include/pizwoter.h has their names.
-use Rattle.std.specs.Prelude.{◌≡◌, ℕ, ◌+◌, ◌<◌, cond, List, [], ◌∷◌, ◌++◌, map, leb, ℤ, pos, negsuc, length, take, drop}
+use Rattle.std.specs.Prelude.{◌≡◌, ℕ, ◌+◌, ◌<◌, cond, List, ◌∷◌, ◌++◌, map, leb, ℤ, pos, negsuc, length, take, drop}
 use Rattle.desk.specs.declared.Head.{Head}
 use Rattle.desk.specs.declared.Head.TheVariants.{Answered, Refused, Malformed}
 

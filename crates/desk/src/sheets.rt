@@ -44,8 +44,8 @@ pub(crate) fn of_wrong_byte(w: WrongByte) -> Head
 
 // A verdict: 0, 41 or 42.
 fn of_verdict(v: Verdict) -> Head
-    requires narrow { (x : Refusal) → v ≡ Verdict.Refused x → spec.Narrow x.offset }
-    requires narrow_2 { (w : WrongByte) → v ≡ Verdict.Malformed w → spec.Narrow w.offset }
+    requires refused { (x : Refusal) → v ≡ Verdict.Refused x → spec.Narrow x.offset }
+    requires malformed { (w : WrongByte) → v ≡ Verdict.Malformed w → spec.Narrow w.offset }
     ensures { result ≡ heads.verdict_head v }
 {
     match v {
@@ -103,8 +103,8 @@ pub extern "C" fn pizwoter_judge(
 
 // An index mark by itself.
 fn of_marking(m: Marking) -> Head
-    requires narrow { (x : Refusal) → m ≡ Marking.Refused x → spec.Narrow x.offset }
-    requires narrow_2 { (w : WrongByte) → m ≡ Marking.Malformed w → spec.Narrow w.offset }
+    requires refused { (x : Refusal) → m ≡ Marking.Refused x → spec.Narrow x.offset }
+    requires malformed { (w : WrongByte) → m ≡ Marking.Malformed w → spec.Narrow w.offset }
     ensures { result ≡ heads.marking_head m }
 {
     match m {

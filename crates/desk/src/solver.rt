@@ -19,8 +19,8 @@ const SPLIT: usize = 5;
 
 // How a solver ended: 18 has no place.
 fn of_solving(solving: Solving) -> Head
-    requires narrow { (x : Refusal) → solving ≡ Solving.Refused x → spec.Narrow x.offset }
-    requires narrow_2 { (w : WrongByte) → solving ≡ Solving.Malformed w → spec.Narrow w.offset }
+    requires refused { (x : Refusal) → solving ≡ Solving.Refused x → spec.Narrow x.offset }
+    requires malformed { (w : WrongByte) → solving ≡ Solving.Malformed w → spec.Narrow w.offset }
     ensures { result ≡ heads.solving_head solving }
 {
     match solving {

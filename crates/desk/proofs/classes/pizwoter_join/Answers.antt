@@ -4,26 +4,19 @@ use native.Mathlib.Omega.{arith}
 use Rattle.figures.proofs.Limits.{handed, handed_is}
 use Rattle.figures.specs.Figures.{join_figures, figures_numbers, join_row}
 use Rattle.figures.specs.Totals.{class}
-use Rattle.figures.specs.declared.Totals.{Totals}
 use Rattle.desk.specs.Rows.{figures_told, joined}
 use Rattle.desk.proofs.Places.{join_narrow}
 use Rattle.desk.proofs.Replies.{short_told, told_as}
 use Rattle.desk.proofs.classes.pizwoter_join.Goals as goal
 use Rattle.desk.proofs.classes.pizwoter_join.Goals.{After-of_join}
 
--- the two classes
-abbrev first : tie.Start → Totals
-first s = class s.args.first_count s.args.first-sum s.args.first-squares
-
-abbrev second : tie.Start → Totals
-second s = class s.args.second-count s.args.second-sum s.args.second-squares
-
-told : (c : After-of_join) → c.of_join.result ≡ join_figures (first c) (second c)
+-- the figures of the two classes
+told : (c : After-of_join) → c.of_join.result ≡ join_figures (class c.args.first_count c.args.first_sum c.args.first_squares) (class c.args.second_count c.args.second_sum c.args.second_squares)
 told c =
-    let same : c.of_join.result ≡ join_figures (handed (first c)) (handed (second c)) = c.of_join.ensures.value in
+    let same : c.of_join.result ≡ join_figures (handed (class c.args.first_count c.args.first_sum c.args.first_squares)) (handed (class c.args.second_count c.args.second_sum c.args.second_squares)) = c.of_join.ensures.value in
     same
-    ∙ ap (λ t. join_figures t (handed (second c))) (handed_is (first c) c.ranges.first-sum c.ranges.first-squares)
-    ∙ ap (join_figures (first c)) (handed_is (second c) c.ranges.second-sum c.ranges.second-squares)
+    ∙ ap (λ t. join_figures t (handed (class c.args.second_count c.args.second_sum c.args.second_squares))) (handed_is (class c.args.first_count c.args.first_sum c.args.first_squares) c.ranges.first_sum c.ranges.first_squares)
+    ∙ ap (join_figures (class c.args.first_count c.args.first_sum c.args.first_squares)) (handed_is (class c.args.second_count c.args.second_sum c.args.second_squares) c.ranges.second_sum c.ranges.second_squares)
 
 pub returns-then-reply-lt-FIGURES : goal.returns-then-reply-lt-FIGURES
 returns-then-reply-lt-FIGURES c = short_told _ _ (omega (arith, c.if-reply-lt-FIGURES.true)) _

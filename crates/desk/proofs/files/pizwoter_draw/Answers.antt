@@ -20,5 +20,8 @@ pub returns : goal.returns
 unfolding drew drawing_row
 returns c =
     let made = rw c.named.ensures at c.draw_on-drawn.ensures.value in
-    let d = c.draw_on-drawn.result in record { tells = told_by (omega (arith, c.if-reply-lt-DRAWING.false)) (map pos (d.nodes ∷ d.edges ∷ [])) c.put.type_inv
-          (ap (λ x. two_told (drawn_numbers x)) (sym made.0) ∙ drawn_head d) c.of_validity.ensures c.put.ensures; buffer = made.1 ∙ roomy_kept _ _ (omega (arith, c.if-reply-lt-DRAWING.false)) _ _ }
+    let d = c.draw_on-drawn.result in record {
+      tells = told_by (omega (arith, c.if-reply-lt-DRAWING.false)) (map pos (d.nodes ∷ d.edges ∷ [])) c.put.type_inv
+          (ap (λ x. two_told (drawn_numbers x)) (sym made.0) ∙ drawn_head d) c.of_validity.ensures c.put.ensures;
+      buffer = made.1 ∙ roomy_kept _ _ (omega (arith, c.if-reply-lt-DRAWING.false)) _ _;
+    }

@@ -28,11 +28,11 @@ overflow_cast-program c = record { fits = omega (arith, program_short _ (fit (go
 pub overflow_cast-initial : goal.overflow_cast-initial
 overflow_cast-initial c = record { fits = omega (arith, initial_short _ (fit (goal.at.overflow_cast-initial c).In-Fit) c.initial_part.ensures) }
 
-add_t16 : tie.Need-overflow-add-t16
-add_t16 c = record { fits = omega (arith, program_short _ (fit c.before.before) c.before.program_part_lem.ensures) }
+pub overflow_add-program : goal.overflow_add-program
+overflow_add-program c = record { fits = omega (arith, program_short _ (fit (goal.at.overflow_add-program c).In-Fit) c.program_part.ensures) }
 
-cast_t21 : tie.Need-overflow-cast-t21
-cast_t21 c = record { fits = input_narrow _ c.before.before.before.before.validate-input.ensures.0 _ c.before.before.v.given.1 }
+pub overflow_cast-x : goal.overflow_cast-x
+overflow_cast-x c = record { fits = input_narrow _ c.validate_input-v.ensures.value _ c.in-Refused.is }
 
 pub returns-in-Fit : goal.returns-in-Fit
 unfolding parts input_row

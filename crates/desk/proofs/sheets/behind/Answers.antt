@@ -1,18 +1,6 @@
 -- `sheets::behind`: by the verdict's cases.
-use Prim.Native.Nat.{◌+◌, ◌≤◌}
-use native.Mathlib.Nat.{mul-le-mul}
-use native.Mathlib.Omega.{arith}
 use Rattle.desk.specs.Parts.Heads.{verdict_behind}
 use Rattle.desk.proofs.sheets.behind.Goals as goal
-
-pub overflow_mul-result : goal.overflow_mul-result
-overflow_mul-result c = record { fits = omega (arith, mul-le-mul c.ranges.names.fits c.known_told-1.given.0.1) }
-
-pub overflow_mul-result-in-ResultMissing : goal.overflow_mul-result-in-ResultMissing
-overflow_mul-result-in-ResultMissing c =
-    let low : c.in-ResultMissing.record ≤ 65535 = omega (arith, c.known_told-in-ResultMissing-1.given.0.1) in
-    let wide : 2 + c.args.names ≤ 65537 = omega (arith, c.ranges.names.fits) in
-    record { fits = omega (arith, mul-le-mul wide low) }
 
 pub returns-in-Refused : goal.returns-in-Refused
 unfolding verdict_behind

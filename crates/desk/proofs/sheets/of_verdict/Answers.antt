@@ -3,10 +3,10 @@ use Rattle.desk.specs.Parts.Heads.{verdict_head}
 use Rattle.desk.proofs.sheets.of_verdict.Goals as goal
 
 pub overflow_cast-result : goal.overflow_cast-result
-overflow_cast-result c = record { fits = c.requires.narrow _ c.in-Refused.is }
+overflow_cast-result c = record { fits = c.requires.refused _ c.in-Refused.is }
 
 pub of_wrong_byte-requires : goal.of_wrong_byte-requires
-of_wrong_byte-requires c = c.requires.narrow_2 _ c.in-Malformed.is
+of_wrong_byte-requires c = c.requires.malformed _ c.in-Malformed.is
 
 pub returns-in-Refused : goal.returns-in-Refused
 unfolding verdict_head

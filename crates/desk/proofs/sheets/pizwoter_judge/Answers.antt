@@ -22,7 +22,10 @@ unfolding judged verdict_row
 returns c =
     let v = c.judge_on-verdict.result in
     let made = rw c.named.ensures at c.judge_on-verdict.ensures in
-    let same = made.0 in
+    let same = made.value in
     let told = subst VerdictTold (sym same) (verdict_told_lem _ _ _ _) in
-    let wrote = c.put.ensures in record { tells = told_by (omega (arith, c.if-reply-lt-VERDICT.false)) (map pos c.behind-numbers.result) c.put.type_inv
-          (rw (← same, ← c.name_count.ensures, c.behind-numbers.ensures) (verdict_head_lem _ v told)) c.of_verdict.ensures wrote; third = written_third _ _ _ _ c.name_count.result _ c.put.type_inv told made.1.1 (rw (c.of_verdict.ensures, c.behind-numbers.ensures) at wrote) }
+    let wrote = c.put.ensures in record {
+      tells = told_by (omega (arith, c.if-reply-lt-VERDICT.false)) (map pos c.behind-numbers.result) c.put.type_inv
+          (rw (← same, ← c.name_count.ensures, c.behind-numbers.ensures) (verdict_head_lem _ v told)) c.of_verdict.ensures wrote;
+      third = written_third _ _ _ _ c.name_count.result _ c.put.type_inv told made.third (rw (c.of_verdict.ensures, c.behind-numbers.ensures) at wrote);
+    }

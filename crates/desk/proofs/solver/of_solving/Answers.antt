@@ -3,10 +3,10 @@ use Rattle.desk.specs.Parts.Heads.{solving_head}
 use Rattle.desk.proofs.solver.of_solving.Goals as goal
 
 pub overflow_cast-result : goal.overflow_cast-result
-overflow_cast-result c = record { fits = c.requires.narrow _ c.in-Refused.is }
+overflow_cast-result c = record { fits = c.requires.refused _ c.in-Refused.is }
 
 pub of_wrong_byte-requires : goal.of_wrong_byte-requires
-of_wrong_byte-requires c = c.requires.narrow_2 _ c.in-Malformed.is
+of_wrong_byte-requires c = c.requires.malformed _ c.in-Malformed.is
 
 pub returns-in-Finished : goal.returns-in-Finished
 unfolding solving_head

@@ -20,5 +20,8 @@ pub returns : goal.returns
 unfolding solved solver_row
 returns c =
     let made = rw c.named.ensures at c.solve_on-solved.ensures.value in
-    let s = c.solve_on-solved.result in record { tells = told_by (omega (arith, c.if-reply-lt-SOLVER.false)) (map pos (s.count ∷ [])) c.put.type_inv
-          (ap (λ x. solver_told (solved_numbers x)) (sym made.0) ∙ solved_head s) c.of_solving.ensures c.put.ensures; buffer = made.1 ∙ roomy_kept _ _ (omega (arith, c.if-reply-lt-SOLVER.false)) _ _ }
+    let s = c.solve_on-solved.result in record {
+      tells = told_by (omega (arith, c.if-reply-lt-SOLVER.false)) (map pos (s.count ∷ [])) c.put.type_inv
+          (ap (λ x. solver_told (solved_numbers x)) (sym made.0) ∙ solved_head s) c.of_solving.ensures c.put.ensures;
+      buffer = made.1 ∙ roomy_kept _ _ (omega (arith, c.if-reply-lt-SOLVER.false)) _ _;
+    }

@@ -20,5 +20,8 @@ pub returns : goal.returns
 unfolding ran run_row
 returns c =
     let made = rw c.named.ensures at c.run_on-ended.ensures.value in
-    let e = c.run_on-ended.result in record { tells = told_by (omega (arith, c.if-reply-lt-RUN.false)) (map pos (e.run.node ∷ e.run.count ∷ [])) c.put.type_inv
-          (ap (λ x. two_told (ended_numbers x)) (sym made.0) ∙ ended_head e) c.of_ending.ensures c.put.ensures; memory = made.1 ∙ roomy_kept _ _ (omega (arith, c.if-reply-lt-RUN.false)) _ _ }
+    let e = c.run_on-ended.result in record {
+      tells = told_by (omega (arith, c.if-reply-lt-RUN.false)) (map pos (e.run.node ∷ e.run.count ∷ [])) c.put.type_inv
+          (ap (λ x. two_told (ended_numbers x)) (sym made.0) ∙ ended_head e) c.of_ending.ensures c.put.ensures;
+      memory = made.1 ∙ roomy_kept _ _ (omega (arith, c.if-reply-lt-RUN.false)) _ _;
+    }

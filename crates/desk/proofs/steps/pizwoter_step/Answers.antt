@@ -14,11 +14,14 @@ pub returns-then-reply-lt-RUN : goal.returns-then-reply-lt-RUN
 returns-then-reply-lt-RUN c = record { tells = short_told _ _ (omega (arith, c.if-reply-lt-RUN.true)) _; memory = short_kept _ _ (omega (arith, c.if-reply-lt-RUN.true)) _ _ }
 
 pub of_outcome-requires : goal.of_outcome-requires
-of_outcome-requires c = stepped_narrow _ _ _ _ c.step_on-stepped.ensures.0.0
+of_outcome-requires c = stepped_narrow _ _ _ _ c.step_on-stepped.ensures.value.0
 
 pub returns : goal.returns
 unfolding stepped step_row
 returns c =
-    let made = rw c.named.ensures at c.step_on-stepped.ensures.0 in
-    let s = c.step_on-stepped.result in record { tells = told_by (omega (arith, c.if-reply-lt-RUN.false)) (map pos (s.run.node ∷ s.run.count ∷ [])) c.put.type_inv
-          (ap (λ x. two_told (stepped_numbers x)) (sym made.0) ∙ stepped_head s) c.of_outcome.ensures c.put.ensures; memory = made.1 ∙ roomy_kept _ _ (omega (arith, c.if-reply-lt-RUN.false)) _ _ }
+    let made = rw c.named.ensures at c.step_on-stepped.ensures.value in
+    let s = c.step_on-stepped.result in record {
+      tells = told_by (omega (arith, c.if-reply-lt-RUN.false)) (map pos (s.run.node ∷ s.run.count ∷ [])) c.put.type_inv
+          (ap (λ x. two_told (stepped_numbers x)) (sym made.0) ∙ stepped_head s) c.of_outcome.ensures c.put.ensures;
+      memory = made.1 ∙ roomy_kept _ _ (omega (arith, c.if-reply-lt-RUN.false)) _ _;
+    }
