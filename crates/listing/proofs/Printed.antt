@@ -1,7 +1,7 @@
 -- The text for an input, by the answers to the questions: what the solver, the drawing and the index mark reply gives the lines.
 use mathlib.Core.Path.{◌≡◌, refl, sym, ap, ◌∙◌}
 use mathlib.Core.Bool.{Bool, true, false, not}
-use mathlib.Core.List.{List, [], append-nil, flat_map, flatten}
+use mathlib.Core.List.{List, append-nil, flat_map, flatten}
 use Prim.Native.Nat.{ℕ, ◌*◌, ◌/◌, ◌%◌, ◌+◌, ◌≤◌}
 use native.Mathlib.Omega.{arith}
 use borrow.Author.Tests.{le-leb, eq-eqb}

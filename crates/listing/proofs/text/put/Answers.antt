@@ -1,7 +1,5 @@
-use mathlib.Core.Path.{◌≡◌}
-use Prim.Native.Nat.{◌≤◌}
-use lib.ListN.{length, length-set}
-use lib.Seq.{paste, paste-suc}
+use lib.ListN.{length-set}
+use lib.Seq.{paste-suc}
 use native.Mathlib.Numerals.{add-one}
 use native.Mathlib.Omega.{arith}
 use Rattle.listing.proofs.Placing.{put_all}
