@@ -9,7 +9,7 @@ use Rattle.program.specs.Graph.{Graph, edge_at}
 use Rattle.program.specs.Meaning.{meaning}
 use Rattle.program.specs.declared.ActionNode.{ActionNode}
 use Rattle.program.specs.Parts.Prepared.{Prepared, Linked, Following, entries_in, decoded_meaning, is_guard_node, action_in, source_in, target_in, first_in, next_in, edge_count_place}
-use Rattle.program.proofs.Lists.{get_d_tabulate}
+use Rattle.program.proofs.Lists.{get_or_tabulate}
 use Rattle.program.proofs.Laws.{next_is_beyond, first_is_followed, next_is_followed}
 use Rattle.semantics.specs.Parts.Selecting.{Opens}
 use Rattle.semantics.specs.Step.{leaves}
@@ -254,7 +254,7 @@ pub record_offered : (ns : List ℕ) (names : ℕ) (g : Graph) (buffer : List �
     → f' ≡ offer_successors ns g room (get_or (found_in (2 + names) buffer p).records k []) (found_in (2 + names) buffer p)
 unfolding offer_successors along found_in
 record_offered ns names g buffer p k h room r q =
-    rw (get_d_tabulate p.count (record_at (2 + names) buffer) k [] h, node_reads buffer k names, ← r) q
+    rw (get_or_tabulate p.count (record_at (2 + names) buffer) k [] h, node_reads buffer k names, ← r) q
 
 module _ (ns : List ℕ) (g : Graph) (room : ℕ) where
   -- a full list stays as it is

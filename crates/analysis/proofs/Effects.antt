@@ -11,7 +11,7 @@ use Rattle.signs.proofs.Laws.{has_member}
 use Rattle.program.specs.File.{cells_of, cell_count, first_cell, is_variable, is_array}
 use Rattle.program.specs.Parts.Sorted.{meaning_named, arith_named, boolean_named}
 use Rattle.program.specs.Syntax.{Arith, Boolean}
-use Rattle.program.proofs.Lists.{get_d_tabulate}
+use Rattle.program.proofs.Lists.{get_or_tabulate}
 use Rattle.program.proofs.Tests.{is_true}
 use Rattle.program.specs.Meaning.{Meaning, nothing, assigns, stores, condition}
 use Rattle.semantics.specs.Action.{pass, store_to, effect, after, is_defined}
@@ -57,7 +57,7 @@ module _ (ns : List ℕ) (m : List ℤ) (room : length m ≡ cell_count ns) wher
 
     set_before : get_or ρ x 0 ≡ signs_of (tabulate (cells_of (get_or ns x 0)) before)
     unfolding abstract_memory name_values
-    set_before = get_d_tabulate (length ns) (λ i. signs_of (name_values ns m i)) x 0 there
+    set_before = get_or_tabulate (length ns) (λ i. signs_of (name_values ns m i)) x 0 there
 
     others : (i : ℕ) → i ≢ j → afterwards i ≡ before i
     others i d = other_cell ns m x j z there cell room (first_cell ns x + i) (λ e. d (omega arith))

@@ -6,7 +6,7 @@ use mir.Val.{bool_byte}
 use lib.ListN.{length-replicate, get_or-replicate, get_or-eq_default}
 use Rattle.program.specs.File.{byte_at}
 use Rattle.program.specs.Graph.{word_bytes}
-use Rattle.program.proofs.Lists.{length_tabulate, get_d_tabulate}
+use Rattle.program.proofs.Lists.{length_tabulate, get_or_tabulate}
 use Rattle.analysis.specs.Parts.Membership.{factor, weighted, spread, bucket, changed}
 use Rattle.analysis.specs.Parts.RecordParts.{padded_byte, padded}
 use Rattle.analysis.specs.Records.{record_for, same_signs}
@@ -91,14 +91,14 @@ padded_length bytes at names = length_tabulate 32 (padded_byte bytes at names)
 
 pub padded_at : (bytes : List ℕ) (at names i : ℕ) → names ≤ 32 → i < names → get_or (padded bytes at names) i 0 ≡ get_or bytes (at + i) 0
 unfolding padded padded_byte byte_at
-padded_at bytes at names i few h = get_d_tabulate 32 (padded_byte bytes at names) i 0 (omega arith) ∙ rw (lt-ltb i names h)
+padded_at bytes at names i few h = get_or_tabulate 32 (padded_byte bytes at names) i 0 (omega arith) ∙ rw (lt-ltb i names h)
 
 -- past the last name there is 0
 pub padded_past : (bytes : List ℕ) (at names i : ℕ) → names ≤ i → get_or (padded bytes at names) i 0 ≡ 0
 unfolding padded padded_byte
 padded_past bytes at names i h =
     elim (dec_lt i 32) [
-      | yes l ↦ get_d_tabulate 32 (padded_byte bytes at names) i 0 l ∙ rw (le-ltb i names h)
+      | yes l ↦ get_or_tabulate 32 (padded_byte bytes at names) i 0 l ∙ rw (le-ltb i names h)
       | no l ↦ get_or-eq_default (padded bytes at names) 0 (omega (arith, padded_length bytes at names))
     ]
 

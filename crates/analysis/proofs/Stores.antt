@@ -9,7 +9,7 @@ use Rattle.signs.proofs.Laws.{has_single, single_only, same_set, has_union_all, 
 use Rattle.signs.proofs.Lists.{or_left, or_right, any_of_map}
 use Rattle.program.specs.File.{cells_of, cell_count, first_cell}
 use Rattle.program.proofs.Laws.{cells_apart, cells_inside}
-use Rattle.program.proofs.Lists.{length_tabulate, get_d_tabulate, tabulate_same}
+use Rattle.program.proofs.Lists.{length_tabulate, get_or_tabulate, tabulate_same}
 use Rattle.program.proofs.Tests.{passed}
 use Rattle.semantics.specs.Expression.{cell_value}
 use Rattle.analysis.specs.Abstraction.{signs_of, name_values, abstract_memory}
@@ -189,9 +189,9 @@ module _ (ns : List ℕ) (m : List ℤ) (x j : ℕ) (z : ℤ) (there : x < lengt
       at : (y : ℕ) → y < length ns → get_or (abstract_memory ns stored) y 0 ≡ get_or (set (abstract_memory ns m) x (signs_of (name_values ns stored x))) y 0
       at y hy =
           elim (ℕ_discrete y x) [
-            | yes e ↦ rw e (get_d_tabulate (length ns) (λ i. signs_of (name_values ns stored i)) x 0 there
+            | yes e ↦ rw e (get_or_tabulate (length ns) (λ i. signs_of (name_values ns stored i)) x 0 there
                 ∙ sym (get_or-set_same (abstract_memory ns m) x (signs_of (name_values ns stored x)) 0 (subst (λ (k : ℕ). x < k) (sym (length_tabulate (length ns) (λ i. signs_of (name_values ns m i)))) there)))
-            | no d ↦ get_d_tabulate (length ns) (λ i. signs_of (name_values ns stored i)) y 0 hy
+            | no d ↦ get_or_tabulate (length ns) (λ i. signs_of (name_values ns stored i)) y 0 hy
                 ∙ ap signs_of (other_name y hy d)
-                ∙ sym (get_or-set_other (abstract_memory ns m) x y (signs_of (name_values ns stored x)) 0 d ∙ get_d_tabulate (length ns) (λ i. signs_of (name_values ns m i)) y 0 hy)
+                ∙ sym (get_or-set_other (abstract_memory ns m) x y (signs_of (name_values ns stored x)) 0 d ∙ get_or_tabulate (length ns) (λ i. signs_of (name_values ns m i)) y 0 hy)
           ]

@@ -5,7 +5,7 @@ use mathlib.Core.Bool.{false≢true, and-true, and_assoc}
 use Rattle.signs.specs.Lists.{all_of, any_of}
 use Rattle.signs.specs.Truth.{truths_of, negated, certain}
 use Rattle.signs.specs.declared.Truths.{Truths}
-use Rattle.signs.proofs.Answers.{conjoined-by}
+use Rattle.signs.proofs.Answers.{conjoined_by}
 use Rattle.program.specs.Graph.{Graph, edge_at}
 use Rattle.program.specs.Meaning.{meaning}
 use Rattle.program.specs.Parts.Prepared.{entries_in, source_in, action_in, decoded_meaning, is_guard_node, own_in, guards_in, meaning_after, edge_meaning, Prepared}
@@ -23,7 +23,7 @@ holds_join : (ρ : List ℕ) → Joins (λ b. (truths_in ρ b).holds) ◌&&◌ t
 unfolding truths_in certain truths_of any_of
 holds_join ρ =
     record {
-      both = λ k a b. sym (ap (λ (t : Truths). t.holds) (conjoined-by (truths_in ρ a) (truths_in ρ b)));
+      both = λ k a b. sym (ap (λ (t : Truths). t.holds) (conjoined_by (truths_in ρ a) (truths_in ρ b)));
       yes = λ k. refl;
       not_labelled = λ k b. refl;
       assoc = and_assoc;

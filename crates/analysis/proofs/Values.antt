@@ -18,7 +18,7 @@ use Rattle.signs.proofs.Lists.{or_left, or_right, any_of_map}
 use Rattle.program.specs.File.{cells_of, first_cell, is_array}
 use Rattle.program.specs.Parts.Sorted.{arith_named, boolean_named}
 use Rattle.program.specs.Syntax.{Arith, number, variable, element, operator, Boolean, truth, comparison, conjunction, short_circuit, negation}
-use Rattle.program.proofs.Lists.{get_d_tabulate}
+use Rattle.program.proofs.Lists.{get_or_tabulate}
 use Rattle.program.proofs.Tests.{is_true}
 use Rattle.semantics.specs.Expression.{fault, cell_value, at, nowhere, place_of, value_at, operated, combine, value, compare_values, conjoin, and_then, negate, truth_in}
 use Rattle.semantics.specs.declared.Evaluation.{Evaluation}
@@ -63,7 +63,7 @@ module _ (ns : List ℕ) (m : List ℤ) where
   pub cell_sign : (x j : ℕ) → x < length ns → j < cells_of (get_or ns x 0) → T (has (get_or ρ x 0) (sign_of (cell_value m (first_cell ns x + j))))
   unfolding abstract_memory name_values
   cell_sign x j hx hj =
-      rw (get_d_tabulate (length ns) (λ i. signs_of (name_values ns m i)) x 0 hx)
+      rw (get_or_tabulate (length ns) (λ i. signs_of (name_values ns m i)) x 0 hx)
       (has_sign_of (cells_of (get_or ns x 0)) (λ j. cell_value m (first_cell ns x + j)) j hj)
 
   -- the sign of an expression's value is in its set: of an element and an operator, where it is so of their parts

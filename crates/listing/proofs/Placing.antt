@@ -10,7 +10,7 @@ use lib.Seq.{paste, take-length, drop-drop, ext_get_or}
 use Rattle.signs.specs.Lists.{tabulate}
 use Rattle.program.specs.Drawing.{over}
 use Rattle.program.specs.Parts.DrawingParts.{over_at}
-use Rattle.program.proofs.Lists.{concat_append, length_tabulate, get_d_tabulate}
+use Rattle.program.proofs.Lists.{concat_append, length_tabulate, get_or_tabulate}
 use Rattle.program.proofs.Overlaid.{over_then, over_length}
 use Rattle.listing.specs.Parts.Writing.{Room, Put}
 
@@ -99,7 +99,7 @@ module _ {A : Type 0} (f : A → List ℕ) (g : ℕ → A) where
 pub listed_at : (l : List ℕ) → tabulate (length l) (λ i. get_or l i 0) ≡ l
 listed_at l =
     ext_get_or 0 _ l (length_tabulate (length l) (λ i. get_or l i 0))
-    (λ i h. get_d_tabulate (length l) (λ i. get_or l i 0) i 0 (omega (arith, length_tabulate (length l) (λ i. get_or l i 0))))
+    (λ i h. get_or_tabulate (length l) (λ i. get_or l i 0) i 0 (omega (arith, length_tabulate (length l) (λ i. get_or l i 0))))
 
 module _ (f : ℕ → List ℕ) (l : List ℕ) {at : ℕ} {s : List ℕ} where
   pub room_list : Room at (flat_map f l) s → Room at (flat_map f (tabulate (length l) (λ i. get_or l i 0))) s

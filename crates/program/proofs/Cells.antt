@@ -11,7 +11,7 @@ use lib.ListN.{length, get_or, take}
 use borrow.Author.Tests.{ne_eqb, lt-ltb, le-ltb}
 use lib.Seq.{take-suc, take_all}
 use Rattle.program.specs.File.{name_count, size_at, sizes, is_variable, is_array, cells_of, cell_count, first_cell}
-use Rattle.program.proofs.Lists.{length_tabulate, get_d_tabulate}
+use Rattle.program.proofs.Lists.{length_tabulate, get_or_tabulate}
 
 -- a size has a cell at least
 pub some_cell : (size : ℕ) → 1 ≤ cells_of size
@@ -59,7 +59,7 @@ module _ (s : List ℕ) where
 
   pub size_at_lem : (i : ℕ) → i < name_count s → get_or (sizes s) i 0 ≡ size_at s i
   unfolding sizes
-  size_at_lem i h = get_d_tabulate (name_count s) (size_at s) i 0 h
+  size_at_lem i h = get_or_tabulate (name_count s) (size_at s) i 0 h
 
   -- whether one is a variable's or an array's, by the number of names that is at hand
   module _ (names i : ℕ) (all : names ≡ name_count s) where

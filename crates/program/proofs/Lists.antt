@@ -32,9 +32,9 @@ module _ {A : Type 0} (n : ℕ) (f : ℕ → A) where
   unfolding tabulate
   length_tabulate = grown_length (λ k. tabulate k f) f refl (λ k. refl) n
 
-  pub get_d_tabulate : (i : ℕ) (d : A) → i < n → get_or (tabulate n f) i d ≡ f i
+  pub get_or_tabulate : (i : ℕ) (d : A) → i < n → get_or (tabulate n f) i d ≡ f i
   unfolding tabulate
-  get_d_tabulate i d h = grown_at (λ k. tabulate k f) f refl (λ k. refl) n i d h
+  get_or_tabulate i d h = grown_at (λ k. tabulate k f) f refl (λ k. refl) n i d h
 
 pub tabulate_same : {A : Type 0} (n : ℕ) (f g : ℕ → A) → ((i : ℕ) → i < n → f i ≡ g i) → tabulate n f ≡ tabulate n g
 unfolding tabulate

@@ -12,7 +12,7 @@ use Rattle.program.specs.File.{signed32}
 use Rattle.program.specs.Kind.{arith_kind}
 use Rattle.program.specs.Parts.Prepared.{arithmetic_count_place, arith_in, number_of, number_in, Coded}
 use Rattle.program.proofs.Readings.{number_told}
-use Rattle.program.proofs.Lists.{length_tabulate, get_d_tabulate, get_or_same}
+use Rattle.program.proofs.Lists.{length_tabulate, get_or_tabulate, get_or_same}
 use Rattle.semantics.specs.Parts.Cells.{front, Fronted, Numbered, Placed}
 use Rattle.semantics.specs.Expression.{cell_value}
 
@@ -51,12 +51,12 @@ pub is_front : (cells m : List ℤ) (n : ℕ) → length cells ≡ n → ((k : �
 unfolding front
 is_front cells m n e same =
     ext_get_or (pos 0) cells (tabulate n (cell_value m)) (e ∙ sym (length_tabulate n (cell_value m)))
-    (λ k h. same k (omega arith) ∙ sym (get_d_tabulate n (cell_value m) k (pos 0) (omega arith)))
+    (λ k h. same k (omega arith) ∙ sym (get_or_tabulate n (cell_value m) k (pos 0) (omega arith)))
 
 -- the cells of a front
 pub front_cell : (n : ℕ) (m : List ℤ) (k : ℕ) → k < n → cell_value (front n m) k ≡ cell_value m k
 unfolding front cell_value
-front_cell n m k h = get_d_tabulate n (cell_value m) k (pos 0) h
+front_cell n m k h = get_or_tabulate n (cell_value m) k (pos 0) h
 
 front_past : (n : ℕ) (m : List ℤ) (k : ℕ) → n ≤ k → cell_value (front n m) k ≡ pos 0
 unfolding front cell_value

@@ -177,7 +177,7 @@ negated_monotone t t' h v a = subst T (sym (among_negated v t')) (h (not v) (sub
 
 pub conjoined_entry : (a b : Truths) (u v : Bool) → T (among u a) → T (among v b) → T (among (u && v) (conjoined a b))
 unfolding among
-conjoined_entry a b u v x y = subst (λ (t : Truths). T (among (u && v) t)) (Answers.conjoined-by a b) (go u v x y)
+conjoined_entry a b u v x y = subst (λ (t : Truths). T (among (u && v) t)) (Answers.conjoined_by a b) (go u v x y)
   where
     go : (u v : Bool) → T (among u a) → T (among v b) → T (among (u && v) (Answers.conjunction a b))
     go true true x y = yes_and a.holds b.holds x y
@@ -187,7 +187,7 @@ conjoined_entry a b u v x y = subst (λ (t : Truths). T (among (u && v) t)) (Ans
 
 pub conjoined_monotone : (a a' b b' : Truths) → Among a a' → Among b b' → Among (conjoined a b) (conjoined a' b')
 unfolding among
-conjoined_monotone a a' b b' ha hb v h = subst (λ (t : Truths). T (among v t)) (Answers.conjoined-by a' b') (go v (subst (λ (t : Truths). T (among v t)) (sym (Answers.conjoined-by a b)) h))
+conjoined_monotone a a' b b' ha hb v h = subst (λ (t : Truths). T (among v t)) (Answers.conjoined_by a' b') (go v (subst (λ (t : Truths). T (among v t)) (sym (Answers.conjoined_by a b)) h))
   where
     go : Among (Answers.conjunction a b) (Answers.conjunction a' b')
     go true = and_mono a.holds b.holds a'.holds b'.holds (ha true) (hb true)

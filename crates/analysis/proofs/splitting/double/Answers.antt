@@ -1,7 +1,7 @@
 -- `splitting::double`: as long as a doubling is at most the place, it is written.
 use Rattle.std.proofs.Common.{sym, refl, ◌∙◌, add-one, arith}
 use Rattle.analysis.proofs.Filling.{filled_none, filled_next}
-use Rattle.program.proofs.Lists.{length_tabulate, get_d_tabulate}
+use Rattle.program.proofs.Lists.{length_tabulate, get_or_tabulate}
 use Rattle.analysis.specs.Parts.Doubling as spec
 use Rattle.analysis.proofs.Doubling.{few_doublings, doubled_positive}
 use Rattle.analysis.proofs.splitting.double.Goals as goal
@@ -29,9 +29,9 @@ unfolding spec.doubled
 loop-doubled-preserved c =
     let l = c.loop-doubled in
     let f = spec.doubled c.args.width in
-    (omega (arith, bounds-widths-count (goal.at.loop-doubled-preserved c).After-way_told-1), rw (add-one, l.invariant.1), filled_next _ l.count _ refl (omega (arith, bounds-widths-count (goal.at.loop-doubled-preserved c).After-way_told-1, length_tabulate 32 f)) (l.invariant.1 ∙ sym (get_d_tabulate 32 f l.count 0 (bounds-widths-count (goal.at.loop-doubled-preserved c).After-way_told-1))) l.invariant.2)
+    (omega (arith, bounds-widths-count (goal.at.loop-doubled-preserved c).After-way_told-1), rw (add-one, l.invariant.1), filled_next _ l.count _ refl (omega (arith, bounds-widths-count (goal.at.loop-doubled-preserved c).After-way_told-1, length_tabulate 32 f)) (l.invariant.1 ∙ sym (get_or_tabulate 32 f l.count 0 (bounds-widths-count (goal.at.loop-doubled-preserved c).After-way_told-1))) l.invariant.2)
 
 pub returns : goal.returns
 returns c =
     let l = c.loop-doubled in
-    record { few = l.invariant.0; held = λ k h. l.invariant.2.same k h ∙ get_d_tabulate 32 _ k 0 (omega (arith, l.invariant.0)); enough = omega (arith, l.invariant.1) }
+    record { few = l.invariant.0; held = λ k h. l.invariant.2.same k h ∙ get_or_tabulate 32 _ k 0 (omega (arith, l.invariant.0)); enough = omega (arith, l.invariant.1) }

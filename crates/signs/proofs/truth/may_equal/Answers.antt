@@ -1,7 +1,7 @@
 -- `truth::may_equal`: the sets have a sign in common.
-use Rattle.signs.proofs.Answers.{equals-by}
+use Rattle.signs.proofs.Answers.{equals_by}
 use Rattle.signs.proofs.truth.may_equal.Goals as goal
 
 pub returns : goal.returns
 returns c =
-    equals-by c.args.a c.args.b
+    equals_by c.args.a c.args.b
