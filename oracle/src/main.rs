@@ -36,7 +36,7 @@ fn store(repository: &Path) -> ExitCode {
 fn run(repository: &Path, seed: u64, count: u64, first: u64) -> ExitCode {
     let engine = env::var_os("ENGINE").map_or_else(|| repository.join("target/bin"), PathBuf::from);
     if let Some(path) = trial::missing(&engine) {
-        return fail(&format!("{} is missing: run `rt check` first", path.display()));
+        return fail(&format!("{} is missing: run tools/programs first", path.display()));
     }
     let plan = trial::Plan { seed, first, count, engine, differences: repository.join("target/oracle/differences") };
     match trial::run(&plan) {

@@ -1,6 +1,6 @@
 //! The random run itself, tested: on the engine as it is it finds nothing, and on an engine that is spoilt it finds that.
 //!
-//! These tests need the compiled engine, in target/bin or in the folder that ENGINE names. Where there is none they fail and say so: `rt check` builds it.
+//! These tests need the compiled engine, in target/bin or in the folder that ENGINE names. Where there is none they fail and say so: `tools/programs` builds it.
 
 use std::os::unix::fs::PermissionsExt;
 use std::path::{Path, PathBuf};
@@ -13,7 +13,7 @@ fn engine() -> PathBuf {
     let repository = Path::new(env!("CARGO_MANIFEST_DIR")).parent().unwrap();
     let folder = env::var_os("ENGINE").map_or_else(|| repository.join("target/bin"), PathBuf::from);
     let is_there = PROGRAMS.iter().all(|name| folder.join(name).is_file());
-    assert!(is_there, "no engine in {}: run `rt check` first", folder.display());
+    assert!(is_there, "no engine in {}: run tools/programs first", folder.display());
     fs::canonicalize(folder).unwrap()
 }
 
@@ -135,6 +135,6 @@ fn what_is_missing_is_said() {
     let output = run(&folder, &folder, &SOME);
     assert_eq!(output.status.code(), Some(2));
     let said = String::from_utf8(output.stderr).unwrap();
-    assert!(said.contains("program_files is missing: run `rt check` first"), "{said}");
+    assert!(said.contains("program_files is missing: run tools/programs first"), "{said}");
     fs::remove_dir_all(&folder).unwrap();
 }
