@@ -128,7 +128,7 @@ module _ (ns : List ℕ) (g : Graph) (named : (e : ℕ) → e < length g.edges �
         reached = reached;
         run_reached = ran;
         no_call_meets = λ clean. calls_never_meet clean calls (begun m) start;
-        no_edge_meets_lem = λ clean. no_edge_meets_lem clean (replay ns g (begun m) calls) reached;
+        replay_no_edge_meets = λ clean. no_edge_meets_lem clean (replay ns g (begun m) calls) reached;
         run_no_edge_meets = λ clean. no_edge_meets_lem clean (budgeted ns g budget m).final ran;
       }
 
@@ -143,7 +143,7 @@ sound_file κ s initial solution mark fit on m t calls budget =
       reached = rw reached k.reached;
       run_reached = rw ran k.run_reached;
       no_call_meets = λ clean. rw (program_outcomes_lem κ s fit (begun m) calls) (k.no_call_meets clean);
-      no_edge_meets_lem = λ clean. rw reached (k.no_edge_meets_lem clean);
+      replay_no_edge_meets = λ clean. rw reached (k.replay_no_edge_meets clean);
       run_no_edge_meets = λ clean. rw ran (k.run_no_edge_meets clean);
     }
 

@@ -53,7 +53,7 @@ pub record Kept (κ : Construction) (s solution : List ℕ) (mark : Mark) (m : L
   pub reached : T (has_configuration (sizes s) solution (program_replay κ s (begun m) calls))
   pub run_reached : T (has_configuration (sizes s) solution (program_budgeted κ s budget m).final)
   pub no_call_meets : mark ≡ Clean → T (all_of (λ o. not (meets_in_call o)) (program_outcomes κ s (begun m) calls))
-  pub no_edge_meets_lem : mark ≡ Clean → T (no_edge_meets (sizes s) (graph κ s) (program_replay κ s (begun m) calls))
+  pub replay_no_edge_meets : mark ≡ Clean → T (no_edge_meets (sizes s) (graph κ s) (program_replay κ s (begun m) calls))
   pub run_no_edge_meets : mark ≡ Clean → T (no_edge_meets (sizes s) (graph κ s) (program_budgeted κ s budget m).final)
 
 -- the same of every memory whose record is in the start list, every list of calls and every budget

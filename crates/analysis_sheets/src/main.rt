@@ -646,7 +646,7 @@ fn answer_file<'a, R: Read, W: Write>(
     further: &[u8],
 ) -> io::Result<bool> {
     let mut bytes = [0u8; 8192];
-    let got = cases::read_front(input, &mut bytes, h.length)?;
+    let got = cases::read_front(input, &mut bytes, h.length);
     if got != h.length {
         printing::text(out, b"file cut\n")?;
         return Ok(false);
@@ -680,7 +680,7 @@ fn answer_further<'a, R: Read, W: Write>(
     sheet: &'a [u8],
 ) -> io::Result<bool> {
     let mut bytes = [0u8; 4096];
-    let got = cases::read_front(input, &mut bytes, h.further)?;
+    let got = cases::read_front(input, &mut bytes, h.further);
     if got != h.further {
         printing::text(out, b"numbers cut\n")?;
         return Ok(false);
@@ -720,27 +720,27 @@ fn read_repeated<R: Read>(
     from: usize,
     times: u16,
     n: usize,
-) -> io::Result<usize> {
+) -> usize {
     let mut bytes = [0u8; 8192];
-    cases::read_front(input, &mut bytes, n)?;
-    Ok(lay_front(list, from, &bytes, n, times))
+    cases::read_front(input, &mut bytes, n);
+    lay_front(list, from, &bytes, n, times)
 }
 
 // Reads a chunk into a list from a place on.
-fn read_chunk<R: Read>(input: &mut R, list: &mut [u8], from: usize) -> io::Result<usize> {
+fn read_chunk<R: Read>(input: &mut R, list: &mut [u8], from: usize) -> usize {
     let mut bytes = [0u8; 4];
-    cases::read_full(input, &mut bytes)?;
+    cases::read_full(input, &mut bytes);
     let times = file::word_at(&bytes, 0);
     read_repeated(input, list, from, times, place(file::word_at(&bytes, 2)))
 }
 
 // Reads a list's chunks, and gives its length.
-fn read_list<R: Read>(input: &mut R, list: &mut [u8], chunks: u8) -> io::Result<usize> {
+fn read_list<R: Read>(input: &mut R, list: &mut [u8], chunks: u8) -> usize {
     let mut at: usize = 0;
     for _ in 0..chunks {
-        at = read_chunk(input, list, at)?;
+        at = read_chunk(input, list, at);
     }
-    Ok(at)
+    at
 }
 
 fn answer_sheet<'a, R: Read, W: Write>(
@@ -766,7 +766,7 @@ fn answer_started<R: Read, W: Write>(
     initial: &[u8],
 ) -> io::Result<bool> {
     let mut list = [0u8; 140000];
-    let n = read_list(input, &mut list, h.sheet_chunks)?;
+    let n = read_list(input, &mut list, h.sheet_chunks);
     answer_sheet(input, out, h, initial, &list, n)
 }
 
@@ -787,7 +787,7 @@ fn answer_start<R: Read, W: Write>(
 // Answers a case whose title has been read.
 fn answer_titled<R: Read, W: Write>(input: &mut R, out: &mut W, h: Head) -> io::Result<bool> {
     let mut list = [0u8; 140000];
-    let n = read_list(input, &mut list, h.start_chunks)?;
+    let n = read_list(input, &mut list, h.start_chunks);
     answer_start(input, out, h, &list, n)
 }
 
@@ -814,7 +814,7 @@ fn answer_headed<R: Read, W: Write>(input: &mut R, out: &mut W, h: Head) -> io::
 // Reads a case and answers it, and says whether to go on.
 fn answer_next<R: Read, W: Write>(input: &mut R, out: &mut W) -> io::Result<bool> {
     let mut bytes = [0u8; 12];
-    let n = cases::read_full(input, &mut bytes)?;
+    let n = cases::read_full(input, &mut bytes);
     if n == 0 {
         return Ok(false);
     }

@@ -3,40 +3,42 @@
 // What is read can be anything, so that reading has no contract but to be safe.
 #![tactic(auto)]
 
-ghost use Rattle.std.specs.Prelude.{◌≤◌, IfOk, length};
+ghost use Rattle.std.specs.Prelude.{◌≤◌, length};
 
 use program::{decoding, file};
 use std::io;
 use std::io::{Read, Write};
 
-// Reads until the array is full or the input ends, and says how many bytes came.
-pub fn read_full<R: Read>(input: &mut R, bytes: &mut [u8]) -> io::Result<usize>
-    ensures { IfOk result (λ n. n ≤ length bytes.new) }
+// Reads until the array is full or the input ends, and says how many bytes came. A read that fails counts as the input's end.
+pub fn read_full<R: Read>(input: &mut R, bytes: &mut [u8]) -> usize
+    ensures { result ≤ length bytes.new }
 {
     let mut done = 0;
     while done < bytes.len() {
-        let n = input.read(&mut bytes[done..])?;
+        let Ok(n) = input.read(&mut bytes[done..]) else {
+            break;
+        };
         if n == 0 {
             break;
         }
         done += n;
     }
-    Ok(done)
+    done
 }
 
 // Reads so many bytes into the front of an array and says how many came: none where the array is shorter.
-pub fn read_front<R: Read>(input: &mut R, bytes: &mut [u8], n: usize) -> io::Result<usize> {
+pub fn read_front<R: Read>(input: &mut R, bytes: &mut [u8], n: usize) -> usize {
     if n <= bytes.len() {
         read_full(input, &mut bytes[..n])
     } else {
-        Ok(0)
+        0
     }
 }
 
 // Reads a title of so many bytes and prints it: answers whether all of it is there.
 pub fn title<R: Read, W: Write>(input: &mut R, out: &mut W, n: usize) -> io::Result<bool> {
     let mut bytes = [0u8; 256];
-    let got = read_front(input, &mut bytes, n)?;
+    let got = read_front(input, &mut bytes, n);
     if got != n {
         printing::text(out, b"title cut\n")?;
         return Ok(false);

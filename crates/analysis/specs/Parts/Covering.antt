@@ -16,7 +16,7 @@ pub record KeptOn (ns : List ℕ) (g : Graph) (solution : List ℕ) (mark : Mark
   pub reached : T (has_configuration ns solution (replay ns g (begun m) calls))
   pub run_reached : T (has_configuration ns solution (budgeted ns g budget m).final)
   pub no_call_meets : mark ≡ Clean → T (all_of (λ o. not (meets_in_call o)) (outcomes ns g (begun m) calls))
-  pub no_edge_meets_lem : mark ≡ Clean → T (no_edge_meets ns g (replay ns g (begun m) calls))
+  pub replay_no_edge_meets : mark ≡ Clean → T (no_edge_meets ns g (replay ns g (begun m) calls))
   pub run_no_edge_meets : mark ≡ Clean → T (no_edge_meets ns g (budgeted ns g budget m).final)
 
 unfoldable pub SoundOn : List ℕ → Graph → List ℕ → List ℕ → Mark → Type 0
