@@ -1,7 +1,6 @@
 // Membership of a record in a list of records, by an index: one array with the factors of the columns, the first record of each hash and the next record of each.
 
-ghost use Rattle.std.specs.Prelude.{◌≡◌, ℕ, suc, ◌+◌, ◌*◌, ◌/◌, ◌%◌, ◌<◌, ◌≤◌, List, length, take, drop, set, replicate, slice_index};
-ghost use Rattle.std.proofs.Math.ListN;
+ghost use Rattle.std.specs.Prelude.{◌≡◌, ℕ, suc, ◌+◌, ◌*◌, ◌/◌, ◌%◌, ◌<◌, ◌≤◌, List, length, take, drop, set, replicate, slice_index, slice_set};
 ghost use Rattle.analysis.specs.Parts.Membership as spec;
 ghost use Rattle.analysis.specs.Parts.RecordParts as parts;
 ghost use Rattle.analysis.specs.Records;
@@ -132,7 +131,7 @@ fn agreeing(bytes: &[u8], at: usize, names: usize, rho: &[u8; 32]) -> u8
 // Whether the memory at a place is a changed one: it has the change, and agrees in all other names.
 fn memory_changed(bytes: &[u8], at: usize, names: usize, rho: &[u8; 32], x: usize, set: u8) -> bool
     requires { spec.Front names rho.now × (at + names ≤ length bytes.now) }
-    ensures { result ≡ Records.same_signs (take names (drop at bytes.now)) (ListN.set (take names rho.now) x set) }
+    ensures { result ≡ Records.same_signs (take names (drop at bytes.now)) (slice_set (take names rho.now) x set) }
 {
     let count = agreeing(bytes, at, names, rho);
     if x < names {
