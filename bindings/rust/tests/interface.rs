@@ -1,5 +1,5 @@
-//! The interface is written down three times: the engine's sources, the C header and the `extern` block of this crate. Each call is the same in all, parameter by parameter; and each row is
-//! as long in the header as in the engine's definitions, and graphs and action kinds have the same numbers.
+//! The interface is written down four times: the engine's sources, the exports over them, the C header and the `extern` block of this crate. Each call is the same in all, parameter by
+//! parameter; and each row is as long in the header as in the engine's definitions, and graphs and action kinds have the same numbers.
 
 use std::collections::BTreeMap;
 
@@ -7,6 +7,7 @@ const HEADER: &str = include_str!("../../../include/pizwoter.h");
 const DESK: &str = include_str!("../src/desk.rs");
 const ROWS: &str = include_str!("../../../crates/desk/specs/Rows.antt");
 const GRAPH: &str = include_str!("../../../crates/program/specs/Graph.antt");
+const EXPORTS: &str = include_str!("../../../crates/desk_c/src/lib.rt");
 const SOURCES: [&str; 6] = [
     include_str!("../../../crates/desk/src/lib.rt"),
     include_str!("../../../crates/desk/src/files.rt"),
@@ -75,6 +76,7 @@ fn declared() -> Calls {
 fn every_call_is_the_same_in_the_sources_the_header_and_the_crate() {
     let sources: Calls = SOURCES.iter().flat_map(|text| functions(text, "pub extern \"C\" fn ", slice)).collect();
     assert_eq!(sources.len(), 13);
+    assert_eq!(functions(EXPORTS, "pub extern \"C\" fn ", slice), sources);
     assert_eq!(declared(), sources);
     let ours = DESK.split("extern \"C\" {").nth(1).unwrap().split("\n}").next().unwrap();
     assert_eq!(functions(ours, "fn ", |kind| vec![kind.to_string()]), sources);
@@ -113,23 +115,23 @@ fn graphs_and_actions_have_their_numbers() {
     let (old, new) = (defined("NONDETERMINISTIC_GRAPH"), defined("DETERMINISTIC_GRAPH"));
     assert!(GRAPH.contains(&format!("\nnamed n = cond (eqb n {old}) Nondeterministic (cond (eqb n {new}) Deterministic unnamed)\n")));
     for (action, header) in [("perform c", "COMMAND"), ("test b", "BOOLEAN"), ("leave c", "EXIT"), ("select k earlier b", "GUARD")] {
-        assert!(GRAPH.contains(&format!("\nactionKind ({action}) = {}\n", defined(&format!("ACTION_{header}")))), "{action}");
+        assert!(GRAPH.contains(&format!("\naction_kind ({action}) = {}\n", defined(&format!("ACTION_{header}")))), "{action}");
     }
 }
 
 #[test]
 fn every_row_has_its_length() {
     let rows = [
-        ("validationRoom", "VALIDATE_ROW"),
-        ("partsRoom", "PARTS_ROW"),
-        ("drawingRoom", "DRAW_ROW"),
-        ("runRoom", "STEP_ROW"),
-        ("runRoom", "RUN_ROW"),
-        ("verdictRoom", "JUDGE_ROW"),
-        ("markRoom", "MARK_ROW"),
-        ("solverRoom", "SOLVE_ROW"),
-        ("splitRoom", "SPLIT_ROW"),
-        ("figuresRoom", "FIGURES_ROW"),
+        ("validation_room", "VALIDATE_ROW"),
+        ("parts_room", "PARTS_ROW"),
+        ("drawing_room", "DRAW_ROW"),
+        ("run_room", "STEP_ROW"),
+        ("run_room", "RUN_ROW"),
+        ("verdict_room", "JUDGE_ROW"),
+        ("mark_room", "MARK_ROW"),
+        ("solver_room", "SOLVE_ROW"),
+        ("split_room", "SPLIT_ROW"),
+        ("figures_room", "FIGURES_ROW"),
         ("version", "VERSION"),
         ("clean", "CLEAN"),
         ("unclean", "UNCLEAN"),
