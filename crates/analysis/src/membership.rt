@@ -37,7 +37,7 @@ pub(crate) fn put_factors(index: &mut [u16; INDEX])
 
 fn product(byte: u8, factor: u16) -> u32
     ensures value { result ≡ byte * factor }
-    ensures upper_bound { result ≤ spec.term_most }
+    ensures small { result ≤ spec.term_most }
 {
     byte as u32 * factor as u32
 }
@@ -46,7 +46,7 @@ fn product(byte: u8, factor: u16) -> u32
 fn term(index: &[u16; INDEX], column: usize, byte: u8) -> u32
     requires { column < 34 }
     ensures value { result ≡ byte * slice_index index.now column }
-    ensures upper_bound { result ≤ spec.term_most }
+    ensures small { result ≤ spec.term_most }
 {
     product(byte, index[column])
 }
@@ -86,7 +86,7 @@ fn changed_weight(
 ) -> u32
     requires { spec.Factored index.now × spec.Weighed names rho.now weight }
     ensures value { result ≡ spec.weighted 2 (set (take names rho.now) change.name change.set) names }
-    ensures upper_bound { result ≤ spec.changed_most }
+    ensures small { result ≤ spec.changed_most }
 {
     let x = change.name as usize;
     if x < names {
@@ -168,7 +168,7 @@ pub(crate) fn find(
     h: usize,
 ) -> bool
     requires front { spec.Front names rho.now }
-    requires by_index { (n : ℕ) × spec.Sought (2 + names) bytes.now n index.now (spec.changed names rho.now change) h }
+    requires sought { (n : ℕ) × spec.Sought (2 + names) bytes.now n index.now (spec.changed names rho.now change) h }
     ensures { (n : ℕ) → spec.Sought (2 + names) bytes.now n index.now (spec.changed names rho.now change) h
         → result ≡ spec.among (2 + names) bytes.now n (spec.changed names rho.now change) }
 {

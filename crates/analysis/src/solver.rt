@@ -40,7 +40,7 @@ fn offer(
 ) -> Progress
     requires { parts.Growing (2 + names) buffer.old index.old p × Weighed names rho.now weight }
     ensures extended { parts.Extended (2 + names) buffer.old p buffer.new index.new result }
-    ensures by_index { (ns ρ : List ℕ) (room : ℕ) → length ns ≡ names → ReadInto ρ rho.now names → p.room ≡ room → change.node < 65536
+    ensures offers { (ns ρ : List ℕ) (room : ℕ) → length ns ≡ names → ReadInto ρ rho.now names → p.room ≡ room → change.node < 65536
         → parts.found_in (2 + names) buffer.new result
         ≡ spec.offer ns room change.node (parts.found_in (2 + names) buffer.old p) (set ρ change.name change.set) }
 {
@@ -80,7 +80,7 @@ fn offer_results(
 ) -> Progress
     requires { parts.Growing (2 + names) buffer.old index.old p × Weighed names rho.now weight × (found / 64 < digits_end) }
     ensures extended { parts.Extended (2 + names) buffer.old p buffer.new index.new result }
-    ensures by_index { (ns ρ : List ℕ) (room : ℕ) → length ns ≡ names → ReadInto ρ rho.now names → p.room ≡ room
+    ensures offers { (ns ρ : List ℕ) (room : ℕ) → length ns ≡ names → ReadInto ρ rho.now names → p.room ≡ room
         → parts.found_in (2 + names) buffer.new result
         ≡ foldl (spec.offer ns room node) (parts.found_in (2 + names) buffer.old p) (map (set ρ (found % 64)) (sets_of (found / 64))) }
 {
@@ -113,7 +113,7 @@ fn offer_edge(
 ) -> Progress
     requires { parts.Growing (2 + names_in code.now) buffer.old index.old p × Weighed (names_in code.now) rho.now weight × Tabled code.now }
     ensures extended { parts.Extended (2 + names_in code.now) buffer.old p buffer.new index.new result }
-    ensures by_index { (ns : List ℕ) (g : Graph) (ρ : List ℕ) (room : ℕ) → Prepared ns g code.now graph.now → ReadInto ρ rho.now (length ns)
+    ensures offers { (ns : List ℕ) (g : Graph) (ρ : List ℕ) (room : ℕ) → Prepared ns g code.now graph.now → ReadInto ρ rho.now (length ns)
         → p.room ≡ room → e < length g.edges → action ≡ action_in graph.now e → is_guard_node action ≡ false
         → parts.found_in (2 + names_in code.now) buffer.new result ≡ spec.offer_results ns g room ρ (parts.found_in (2 + names_in code.now) buffer.old p) e }
 {
@@ -145,7 +145,7 @@ fn offer_guard(
 ) -> Progress
     requires { parts.Growing (2 + names_in code.now) buffer.old index.old p × Weighed (names_in code.now) rho.now weight }
     ensures extended { parts.Extended (2 + names_in code.now) buffer.old p buffer.new index.new result }
-    ensures by_index { (ns : List ℕ) (g : Graph) (ρ : List ℕ) (room : ℕ) → Prepared ns g code.now graph.now → ReadInto ρ rho.now (length ns)
+    ensures offers { (ns : List ℕ) (g : Graph) (ρ : List ℕ) (room : ℕ) → Prepared ns g code.now graph.now → ReadInto ρ rho.now (length ns)
         → p.room ≡ room → e < length g.edges
         → parts.found_in (2 + names_in code.now) buffer.new result
         ≡ foldl (spec.offer ns room (edge_at g e).target) (parts.found_in (2 + names_in code.now) buffer.old p) (if holds then ρ ∷ [] else []) }
@@ -170,7 +170,7 @@ fn offer_guarded(
 ) -> Progress
     requires { Linked graph.now × parts.Growing (2 + names_in code.now) buffer.old index.old p × Weighed (names_in code.now) rho.now weight × Tabled code.now }
     ensures extended { parts.Extended (2 + names_in code.now) buffer.old p buffer.new index.new result }
-    ensures by_index { (ns : List ℕ) (g : Graph) (ρ : List ℕ) (room node : ℕ) → Prepared ns g code.now graph.now → ReadInto ρ rho.now (length ns)
+    ensures offers { (ns : List ℕ) (g : Graph) (ρ : List ℕ) (room node : ℕ) → Prepared ns g code.now graph.now → ReadInto ρ rho.now (length ns)
         → p.room ≡ room → Opens graph.now node first
         → parts.found_in (2 + names_in code.now) buffer.new result
         ≡ parts.along (spec.offer_results ns g room ρ) g node (length g.edges) (parts.found_in (2 + names_in code.now) buffer.old p) }
@@ -204,7 +204,7 @@ fn offer_successors(
 ) -> Progress
     requires { Linked graph.now × parts.Growing (2 + names_in code.now) buffer.old index.old p × Weighed (names_in code.now) rho.now weight × Tabled code.now }
     ensures extended { parts.Extended (2 + names_in code.now) buffer.old p buffer.new index.new result }
-    ensures by_index { (ns : List ℕ) (g : Graph) (ρ : List ℕ) (room : ℕ) → Prepared ns g code.now graph.now → ReadInto ρ rho.now (length ns)
+    ensures offers { (ns : List ℕ) (g : Graph) (ρ : List ℕ) (room : ℕ) → Prepared ns g code.now graph.now → ReadInto ρ rho.now (length ns)
         → p.room ≡ room
         → parts.found_in (2 + names_in code.now) buffer.new result
         ≡ parts.along (spec.offer_results ns g room ρ) g node (length g.edges) (parts.found_in (2 + names_in code.now) buffer.old p) }
@@ -234,7 +234,7 @@ fn offer_from(
 ) -> Progress
     requires { Linked graph.now × parts.Growing (2 + names_in code.now) buffer.old index.old p × (k < p.count) × Tabled code.now }
     ensures extended { parts.Extended (2 + names_in code.now) buffer.old p buffer.new index.new result }
-    ensures by_index { (ns : List ℕ) (g : Graph) (room : ℕ) → Prepared ns g code.now graph.now → p.room ≡ room
+    ensures offers { (ns : List ℕ) (g : Graph) (room : ℕ) → Prepared ns g code.now graph.now → p.room ≡ room
         → parts.found_in (2 + names_in code.now) buffer.new result
         ≡ spec.offer_successors ns g room (slice_index_or (parts.found_in (2 + names_in code.now) buffer.old p).records k []) (parts.found_in (2 + names_in code.now) buffer.old p) }
 {
@@ -257,7 +257,7 @@ fn descend(
 ) -> Progress
     requires { Linked graph.now × parts.Growing (2 + names_in code.now) buffer.old index.old p × Tabled code.now }
     ensures extended { parts.Extended (2 + names_in code.now) buffer.old p buffer.new index.new result }
-    ensures by_index { (ns : List ℕ) (g : Graph) (room : ℕ) → Prepared ns g code.now graph.now → p.room ≡ room
+    ensures offers { (ns : List ℕ) (g : Graph) (room : ℕ) → Prepared ns g code.now graph.now → p.room ≡ room
         → parts.found_in (2 + names_in code.now) buffer.new result ≡ spec.descend room ns g room 0 (parts.found_in (2 + names_in code.now) buffer.old p) }
 {
     let mut progress = p;
@@ -279,7 +279,7 @@ fn offer_initial(
 ) -> Progress
     requires { parts.Growing (2 + names) buffer.old index.old p × (0 < names) }
     ensures extended { parts.Extended (2 + names) buffer.old p buffer.new index.new result }
-    ensures by_index { (ns : List ℕ) (room : ℕ) → length ns ≡ names → p.room ≡ room
+    ensures offers { (ns : List ℕ) (room : ℕ) → length ns ≡ names → p.room ≡ room
         → parts.found_in (2 + names) buffer.new result
         ≡ foldl (spec.offer ns room 0) (parts.found_in (2 + names) buffer.old p) (records.records_of (records.initial_width ns) initial.now) }
 {

@@ -47,7 +47,7 @@ fn put_from(totals: Totals, mean: Fraction, variance: Fraction, at: usize, reply
 // The row of figures at the front of a reply that has room; returns what the call returns.
 fn put(f: Figures, reply: &mut [i64]) -> i32
     requires narrow { (x : Refusal) → f.validity ≡ Validity.Refused x → spec.Narrow x.offset }
-    requires figures_room_in_bounds { row.figures_room ≤ length reply.old }
+    requires room { row.figures_room ≤ length reply.old }
     ensures { spec.Tells row.figures_room (row.figures_told (Class.figures_numbers f)) reply.old result reply.new }
 {
     let v = f.validity;

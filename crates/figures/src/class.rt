@@ -100,7 +100,7 @@ fn unfit() -> Figures
 
 // The figures of a class with these totals.
 fn of_totals(count: u32, sum: i64, squares: i64) -> Figures
-    requires le_count { 1 ≤ count }
+    requires some { 1 ≤ count }
     requires bounded { Bounded (sums.class count sum squares) }
     ensures { result ≡ spec.figures_by Fit (sums.class count sum squares) }
 {

@@ -23,12 +23,8 @@ records s = records_text (name_count s.args.program.now) s.args.buffer.now s.arg
 abbrev index : (s : Start) → List ℕ
 index s = line_text (index_of s.args.program.now (front s))
 
--- the parts
-abbrev front_2 : (s : After-part-list) → List ℕ
-front_2 s = take ((2 + name_count s.args.program.now) * s.args.count) s.args.buffer.now
-
 -- the records' bytes
-list_is : (c : After-part-list) → c.part-list.result.now ≡ front_2 c
+list_is : (c : After-part-list) → c.part-list.result.now ≡ take ((2 + name_count c.args.program.now) * c.args.count) c.args.buffer.now
 list_is c =
     c.part-list.ensures
     ∙ ap (λ n. take n c.args.buffer.now) (c.bytes_of.ensures.0 ∙ ap (λ n. (2 + n) * c.args.count) c.name_count-names.ensures)

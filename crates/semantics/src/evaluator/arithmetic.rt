@@ -29,7 +29,7 @@ fn leaf_cell(code: &[u16; CODE], n: u16) -> u16
 #[cycle(operand_value)]
 fn value(code: &[u16; CODE], memory: &[i32; MEMORY], n: u16) -> i64
     requires ordered { Ordered code.now }
-    requires n_bound { n < get_or code.now arithmetic_count_place 0 }
+    requires inside { n < get_or code.now arithmetic_count_place 0 }
     ensures { (graph : List ℕ) → ValueIn code.now memory.now (arith_at (entries_in code.now graph) n) result }
 {
     let what = node(code, n);
@@ -55,7 +55,7 @@ fn value(code: &[u16; CODE], memory: &[i32; MEMORY], n: u16) -> i64
 #[cycle(operand_value)]
 fn operand(code: &[u16; CODE], memory: &[i32; MEMORY], n: u16) -> i64
     requires ordered { Ordered code.now }
-    requires n_bound { n < get_or code.now arithmetic_count_place 0 }
+    requires inside { n < get_or code.now arithmetic_count_place 0 }
     ensures { (graph : List ℕ) → ValueIn code.now memory.now (arith_at (entries_in code.now graph) n) result }
 {
     let c = leaf_cell(code, n) as usize;

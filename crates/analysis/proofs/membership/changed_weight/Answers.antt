@@ -16,7 +16,7 @@ overflow_sub-without c =
     omega (arith, told (goal.at.overflow_sub-without c).After-term, w.weighed, weighted_term 2 c.args.rho.now c.args.names c.args.change.name c.if-x-names.true)
 
 pub overflow_add-result : goal.overflow_add-result
-overflow_add-result c = omega (arith, c.term-then-x-names.ensures.upper_bound, c.requires.1.small)
+overflow_add-result c = omega (arith, c.term-then-x-names.ensures.small, c.requires.1.small)
 
 pub returns-then-x-names : goal.returns-then-x-names
 returns-then-x-names c =
@@ -25,10 +25,10 @@ returns-then-x-names c =
     let h = c.if-x-names.true in record {
       value = rw (told (goal.at.returns-then-x-names c).After-term, c.term-then-x-names.ensures.value, c.requires.0.each (2 + x) (omega (arith, w.front.few)))
           (sum_changed c.args.names c.args.rho.now (omega (arith, w.front)) c.args.weight w.weighed x c.args.change.set h);
-      upper_bound = omega (arith, c.term-then-x-names.ensures.upper_bound, w.small);
+      small = omega (arith, c.term-then-x-names.ensures.small, w.small);
     }
 
 pub returns : goal.returns
 returns c =
     let w = c.requires.1 in
-    record { value = sum_kept c.args.names c.args.rho.now (omega (arith, w.front)) c.args.weight w.weighed _ _ c.if-x-names.false; upper_bound = omega (arith, w.small) }
+    record { value = sum_kept c.args.names c.args.rho.now (omega (arith, w.front)) c.args.weight w.weighed _ _ c.if-x-names.false; small = omega (arith, w.small) }

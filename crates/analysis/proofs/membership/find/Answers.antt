@@ -9,13 +9,13 @@ use Rattle.analysis.proofs.membership.find.Goals.{After-shared_slice_known-1, In
 there : (c : In-loop-link) → let a = c.args in There (2 + a.names) a.bytes.now a.index.now c.loop-link.link
 there c =
     let p = c.requires in
-    walked_there _ _ _ _ _ _ p.by_index.1 c.loop-link.link (omega (arith, c.loop-link-test.true)) (c.loop-link.invariant p.by_index.0 p.by_index.1)
+    walked_there _ _ _ _ _ _ p.sought.1 c.loop-link.link (omega (arith, c.loop-link-test.true)) (c.loop-link.invariant p.sought.0 p.sought.1)
 
 small : (c : After-shared_slice_known-1) → c.args.h < 8192
-small c = hash_small _ _ _ _ _ _ c.requires.by_index.1
+small c = hash_small _ _ _ _ _ _ c.requires.sought.1
 
 pub overflow_cast-link : goal.overflow_cast-link
-overflow_cast-link c = let x = c.requires.by_index.1 in omega (arith, (walked_first _ _ _ _ _ _ x).inside, x.indexed.few)
+overflow_cast-link c = let x = c.requires.sought.1 in omega (arith, (walked_first _ _ _ _ _ _ x).inside, x.indexed.few)
 
 pub loop-link-init : goal.loop-link-init
 loop-link-init c n x = walked_first _ _ _ _ _ _ x

@@ -12,4 +12,4 @@ returns c =
 
 pub hash-requires : goal.hash-requires
 hash-requires c =
-    c.changed_weight.ensures.upper_bound
+    c.changed_weight.ensures.small

@@ -10,4 +10,4 @@ pub overflow_mul-result : goal.overflow_mul-result
 overflow_mul-result c = omega (arith, small (goal.at.overflow_mul-result c).Start)
 
 pub returns : goal.returns
-returns c = record { value = refl; upper_bound = small (goal.at.returns c).Start }
+returns c = record { value = refl; small = small (goal.at.returns c).Start }

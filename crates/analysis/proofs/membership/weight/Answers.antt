@@ -16,7 +16,7 @@ loop-i-preserved c =
     let p = c.requires in (
       search rules,
       rw (add-one, c.loop-i.invariant.1, c.term-sum.ensures.value, padded_at a.bytes.now a.at a.names c.loop-i.i p.1 h, p.0.each (2 + c.loop-i.i) (omega arith)),
-      omega (arith, c.loop-i.invariant.2, c.term-sum.ensures.upper_bound),
+      omega (arith, c.loop-i.invariant.2, c.term-sum.ensures.small),
     )
 
 pub returns : goal.returns

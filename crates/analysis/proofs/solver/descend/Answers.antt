@@ -29,18 +29,18 @@ loop-k-preserved c =
       extended_more _ l.invariant.0 c.offer_from-progress.ensures.extended,
       λ ns g room x q.
           descended_more _ _ _ l.k _ (omega (arith, c.loop-k-test.true, many)) (omega (arith, l.invariant.0.growing.few, l.invariant.0.room, q, many))
-          (c.offer_from-progress.ensures.by_index ns g room x (l.invariant.0.room ∙ q)) (l.invariant.1 ns g room x q),
+          (c.offer_from-progress.ensures.offers ns g room x (l.invariant.0.room ∙ q)) (l.invariant.1 ns g room x q),
     )
 
 pub returns-else-not-progress : goal.returns-else-not-progress
 returns-else-not-progress c =
     let l = c.loop-k in
-    record { extended = l.invariant.0; by_index = λ ns g room x q. descended_full _ _ _ l.k _ (found_full _ _ _ ∙ not-false _ c.if-not-progress.false) (l.invariant.1 ns g room x q) }
+    record { extended = l.invariant.0; offers = λ ns g room x q. descended_full _ _ _ l.k _ (found_full _ _ _ ∙ not-false _ c.if-not-progress.false) (l.invariant.1 ns g room x q) }
 
 pub returns-after-loop-k : goal.returns-after-loop-k
 returns-after-loop-k c =
     let l = c.loop-k in
-    record { extended = l.invariant.0; by_index = λ ns g room x q. descended_end _ _ _ l.k _ (omega (arith, c.loop-k-test.false, found_count l.invariant.0.growing)) (l.invariant.1 ns g room x q) }
+    record { extended = l.invariant.0; offers = λ ns g room x q. descended_end _ _ _ l.k _ (omega (arith, c.loop-k-test.false, found_count l.invariant.0.growing)) (l.invariant.1 ns g room x q) }
 
 pub loop-k-smaller : goal.loop-k-smaller
 loop-k-smaller c =

@@ -1,31 +1,21 @@
 -- `solver::offer`: an offer in the order of its questions.
 use Rattle.std.proofs.Common.{◌≡◌, ℕ, ◌+◌, ◌<◌, List, length, set, sym, ◌∙◌, arith}
 use Rattle.analysis.specs.Parts.Judging.{ReadInto}
-use Rattle.analysis.specs.Parts.Membership.{changed, Sought}
+use Rattle.analysis.specs.Parts.Membership.{changed}
 use Rattle.analysis.specs.Records.{listed}
 use Rattle.analysis.specs.Parts.Solving.{found_in}
 use Rattle.analysis.proofs.Chains.{bucket_small}
 use Rattle.analysis.proofs.Growing.{extended_none, extended_full, extended_put, put_fits, found_put, found_full, found_none, found_count, offer_full, offer_listed, offer_none, offer_more, listed_told, width_of}
 use Rattle.analysis.proofs.Laid.{changed_record, changed_sized}
 use Rattle.analysis.proofs.solver.offer.Goals as goal
-use Rattle.analysis.proofs.solver.offer.Goals.{After-find, After-hash_changed-h}
+use Rattle.analysis.proofs.solver.offer.Goals.{After-find}
 
 pub returns-then-p : goal.returns-then-p
 returns-then-p c =
-    record { extended = extended_none _ _ _ _ c.requires.0; by_index = λ ns ρ room e y q low. sym (offer_full _ _ _ _ _ (found_full _ _ _ ∙ c.if-p.true)) }
-
--- the record is sought among those found
-sought : (c : After-hash_changed-h)
-    → Sought (2 + c.args.names) c.args.buffer.now c.args.p.count c.args.index.now (changed c.args.names c.args.rho.now c.args.change) c.hash_changed-h.result
-sought c = record { indexed = c.requires.0.indexed; hashed = c.hash_changed-h.ensures }
+    record { extended = extended_none _ _ _ _ c.requires.0; offers = λ ns ρ room e y q low. sym (offer_full _ _ _ _ _ (found_full _ _ _ ∙ c.if-p.true)) }
 
 pub find-requires : goal.find-requires
-find-requires c = record { front = c.requires.1.front; by_index = (_, sought (goal.at.find-requires c).After-hash_changed-h) }
-
--- the record is sought among those found
-sought_2 : (c : After-find)
-    → Sought (2 + c.args.names) c.args.buffer.now c.args.p.count c.args.index.now (changed c.args.names c.args.rho.now c.args.change) c.hash_changed-h.result
-sought_2 c = record { indexed = c.requires.0.indexed; hashed = c.hash_changed-h.ensures }
+find-requires c = record { front = c.requires.1.front; sought = (_, record { indexed = c.requires.0.indexed; hashed = c.hash_changed-h.ensures }) }
 
 -- what the index answered
 told : (c : After-find)
@@ -33,17 +23,17 @@ told : (c : After-find)
     → listed ns (found_in (2 + c.args.names) c.args.buffer.now c.args.p).records c.args.change.node (set ρ c.args.change.name c.args.change.set) ≡ c.find.result
 told c ns ρ e y low =
     listed_told c.requires.0 (λ i. omega (arith, c.slice_known-1.given i)) ns _ _ _ low (width_of ns e) (changed_record y c.requires.1.front c.args.change) _
-    (c.find.ensures _ (sought_2 c))
+    (c.find.ensures _ (record { indexed = c.requires.0.indexed; hashed = c.hash_changed-h.ensures }))
 
 pub returns-then-find : goal.returns-then-find
 returns-then-find c =
-    record { extended = extended_none _ _ _ _ c.requires.0; by_index = λ ns ρ room m y q low. sym (offer_listed _ _ _ _ _ (found_full _ _ _ ∙ c.if-p.false) (told (goal.at.returns-then-find c).After-find ns ρ m y low ∙ c.if-find.true)) }
+    record { extended = extended_none _ _ _ _ c.requires.0; offers = λ ns ρ room m y q low. sym (offer_listed _ _ _ _ _ (found_full _ _ _ ∙ c.if-p.false) (told (goal.at.returns-then-find c).After-find ns ρ m y low ∙ c.if-find.true)) }
 
 pub returns-then-p-2 : goal.returns-then-p-2
 returns-then-p-2 c =
     record {
       extended = extended_full c.requires.0;
-      by_index = λ ns ρ room m y q low. found_none _ _ _
+      offers = λ ns ρ room m y q low. found_none _ _ _
           ∙ sym (offer_none _ _ _ _ _ (found_full _ _ _ ∙ c.if-p.false) (told (goal.at.returns-then-p-2 c).After-find ns ρ m y low ∙ c.if-find.false) (omega (arith, q, found_count c.requires.0, c.if-p-2.true)));
     }
 
@@ -59,7 +49,7 @@ pub returns : goal.returns
 returns c =
     let sized = changed_sized c.requires.1.front c.args.change in record {
       extended = extended_put _ _ _ _ c.requires.0 c.if-p-2.false _ _ sized c.put_changed.ensures _ _ c.hash_changed-h.ensures (c.enter.ensures _ _);
-      by_index = λ ns ρ room m y q low. found_put _ _ _ _ c.requires.0 c.if-p-2.false _ _ sized c.put_changed.ensures
+      offers = λ ns ρ room m y q low. found_put _ _ _ _ c.requires.0 c.if-p-2.false _ _ sized c.put_changed.ensures
           ∙ sym (offer_more _ _ _ _ _ (found_full _ _ _ ∙ c.if-p.false) (told (goal.at.returns c).After-find ns ρ m y low ∙ c.if-find.false) (changed_record y c.requires.1.front c.args.change)
           (omega (arith, q, found_count c.requires.0, c.requires.0.few, c.if-p-2.false)));
     }

@@ -11,8 +11,8 @@ pub returns : goal.returns
 returns c =
     record {
       extended = rw c.name_count-names.ensures at c.offer_results.ensures.extended;
-      by_index = λ ns g ρ room x y q h told plainly.
+      offers = λ ns g ρ room x y q h told plainly.
           let e = sym (c.name_count-names.ensures ∙ x.coded.count) in
           edge_offered x c.args.e h told plainly ρ _ y _ c.results-found.ensures room _
-          (rw (c.name_count-names.ensures, c.edge_target.ensures) at (c.offer_results.ensures.by_index ns ρ room e (rw e at y) q));
+          (rw (c.name_count-names.ensures, c.edge_target.ensures) at (c.offer_results.ensures.offers ns ρ room e (rw e at y) q));
     }

@@ -25,28 +25,25 @@ pub offer_successors-requires : goal.offer_successors-requires
 offer_successors-requires c =
     (c.requires.0, c.requires.1, rw (c.read_memory.ensures, c.name_count-names.ensures) (rw c.name_count-names.ensures at c.weight-weight.ensures), c.requires.3)
 
--- the buffer by the number of names, and that the record is inside it
-told_2 : (c : After-read_memory) → let a = c.args in Growing (2 + c.name_count-names.result) a.buffer.now a.index.now a.p
-told_2 c = rw c.name_count-names.ensures c.requires.1
-
-inside_2 : (c : After-read_memory) → let a = c.args in (2 + c.name_count-names.result) * a.k + (2 + c.name_count-names.result) ≤ length a.buffer.now
-inside_2 c = record_inside _ _ _ _ c.requires.2 (told_2 c).indexed.room
-
 -- the record's memory as it was read
 read : (c : After-read_memory) → let a = c.args in
-    (ns : List _) → Coded ns a.code.now → ReadInto (memory_of ns (record_at (2 + get_or a.code.now name_count_place 0) a.buffer.now a.k)) c.read_memory.new.out (length ns)
-read c ns x =
+    Growing (2 + c.name_count-names.result) a.buffer.now a.index.now a.p
+    → (2 + c.name_count-names.result) * a.k + (2 + c.name_count-names.result) ≤ length a.buffer.now
+    → (ns : List _) → Coded ns a.code.now → ReadInto (memory_of ns (record_at (2 + get_or a.code.now name_count_place 0) a.buffer.now a.k)) c.read_memory.new.out (length ns)
+read c grown room ns x =
     let e = c.name_count-names.ensures in
-    let y = memory_reads _ c.args.k _ ns (sym (e ∙ x.count)) (omega (arith, (told_2 c).wide)) (inside_2 c) _ c.read_memory.ensures in
+    let y = memory_reads _ c.args.k _ ns (sym (e ∙ x.count)) (omega (arith, grown.wide)) room _ c.read_memory.ensures in
     rw (← x.count) (rw e at y)
 
 pub returns : goal.returns
 returns c =
+    let p = goal.at.returns c in
+    let counted = p.After-name_count-names in
     record {
       extended = c.offer_successors.ensures.extended;
-      by_index = λ ns g room x q.
+      offers = λ ns g room x q.
           record_offered ns _ g _ _ c.args.k c.requires.2 room (rw c.name_count-names.ensures at c.word_at-node.ensures)
-          (c.offer_successors.ensures.by_index ns g _ room x (read (goal.at.returns c).After-read_memory ns x.coded) q);
+          (c.offer_successors.ensures.offers ns g _ room x (read p.After-read_memory (told counted) (inside counted) ns x.coded) q);
     }
 
 pub overflow_add-at : goal.overflow_add-at

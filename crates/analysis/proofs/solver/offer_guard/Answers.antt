@@ -12,8 +12,8 @@ pub returns : goal.returns
 returns c =
     record {
       extended = rw c.name_count-names.ensures at c.offer_results.ensures.extended;
-      by_index = λ ns g ρ room x y q h.
+      offers = λ ns g ρ room x y q h.
           let e = sym (c.name_count-names.ensures ∙ x.coded.count) in
           own_offered x c.args.e h y room c.args.holds c.unchanged-found.ensures c.edge_target-node.ensures _
-          (rw c.name_count-names.ensures at (c.offer_results.ensures.by_index ns ρ room e (rw e at y) q));
+          (rw c.name_count-names.ensures at (c.offer_results.ensures.offers ns ρ room e (rw e at y) q));
     }

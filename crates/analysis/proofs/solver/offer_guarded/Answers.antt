@@ -35,9 +35,9 @@ returns-then-not-t c =
     let l = c.loop-e in
     record {
       extended = extended_more _ l.invariant.0 c.offer_guard-progress.ensures.extended;
-      by_index = λ ns g ρ room node x y q n.
+      offers = λ ns g ρ room node x y q n.
           guarded_stop x y c.requires.0 n room _ l.e (l.invariant.1 node n) (inside (goal.at.returns-then-not-t c).In-loop-e) (l.invariant.2 ns g ρ room node x y q n)
-          (rw c.own_truths-t.ensures at (c.offer_guard-progress.ensures.by_index ns g ρ room x y (l.invariant.0.room ∙ q) (omega (arith, inside (goal.at.returns-then-not-t c).In-loop-e, x.edges))))
+          (rw c.own_truths-t.ensures at (c.offer_guard-progress.ensures.offers ns g ρ room x y (l.invariant.0.room ∙ q) (omega (arith, inside (goal.at.returns-then-not-t c).In-loop-e, x.edges))))
           (failing (goal.at.returns-then-not-t c).After-own_truths-t (not-true _ c.if-not-t.true));
     }
 
@@ -55,13 +55,13 @@ loop-e-preserved c =
       λ node n. next_is_followed w node _ l.e (inside (goal.at.loop-e-preserved c).In-loop-e) (l.invariant.1 node n) (failing (goal.at.loop-e-preserved c).After-own_truths-t (not-false _ c.if-not-t.false)),
       λ ns g ρ room node x y q n.
           guarded_next x y w n room _ l.e (l.invariant.1 node n) (inside (goal.at.loop-e-preserved c).In-loop-e) (l.invariant.2 ns g ρ room node x y q n)
-          (rw c.own_truths-t.ensures at (c.offer_guard-progress.ensures.by_index ns g ρ room x y (l.invariant.0.room ∙ q) (omega (arith, inside (goal.at.loop-e-preserved c).In-loop-e, x.edges)))),
+          (rw c.own_truths-t.ensures at (c.offer_guard-progress.ensures.offers ns g ρ room x y (l.invariant.0.room ∙ q) (omega (arith, inside (goal.at.loop-e-preserved c).In-loop-e, x.edges)))),
     )
 
 pub returns : goal.returns
 returns c =
     let l = c.loop-e in
-    record { extended = l.invariant.0; by_index = λ ns g ρ room node x y q o. all_along c.requires.0 _ x _ _ l.e (omega (arith, c.loop-e-test.false, c.edge_count-count.ensures)) (l.invariant.2 ns g ρ room node x y q o) }
+    record { extended = l.invariant.0; offers = λ ns g ρ room node x y q o. all_along c.requires.0 _ x _ _ l.e (omega (arith, c.loop-e-test.false, c.edge_count-count.ensures)) (l.invariant.2 ns g ρ room node x y q o) }
 
 pub own_truths-t-requires : goal.own_truths-t-requires
 own_truths-t-requires c =

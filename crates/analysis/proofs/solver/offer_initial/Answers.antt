@@ -23,15 +23,11 @@ few c =
     let a = c.args in
     omega (arith, div-le_self (length a.initial.now) a.names)
 
--- the record passed is inside the list
-inside_2 : (c : After-read_memory) → let a = c.args in a.names * c.loop-k.k + a.names ≤ length a.initial.now
-inside_2 c = record_inside _ _ c.loop-k.k c.loop-k-test.true
-
 -- the record as it was read
 read : (c : After-read_memory)
-    → let a = c.args in ReadInto (record_at a.names a.initial.now c.loop-k.k) c.read_memory.new.out a.names
-read c =
-    start_reads _ c.loop-k.k _ (omega (arith, c.loop-k.invariant.1.growing.wide)) (inside_2 c) _ c.read_memory.ensures
+    → let a = c.args in a.names * c.loop-k.k + a.names ≤ length a.initial.now → ReadInto (record_at a.names a.initial.now c.loop-k.k) c.read_memory.new.out a.names
+read c room =
+    start_reads _ c.loop-k.k _ (omega (arith, c.loop-k.invariant.1.growing.wide)) room _ c.read_memory.ensures
 
 pub weight-weight-requires : goal.weight-weight-requires
 weight-weight-requires c =
@@ -44,12 +40,14 @@ offer-progress-requires c =
 
 pub loop-k-preserved : goal.loop-k-preserved
 loop-k-preserved c =
-    let l = c.loop-k in (
+    let l = c.loop-k in
+    let p = goal.at.loop-k-preserved c in
+    let passed = read p.After-read_memory (inside p.In-loop-k) in (
       omega (arith, c.loop-k-test.true),
       extended_more _ l.invariant.1 c.offer-progress.ensures.extended,
       λ ns room e q. rw add-one
           (tabulated_more _ _ _ l.k
-          (c.offer-progress.ensures.by_index ns _ room e (read (goal.at.loop-k-preserved c).After-read_memory) (l.invariant.1.room ∙ q) (omega arith) ∙ ap (offer ns room 0 _) (set_out _ 32 0 (omega (arith, (read (goal.at.loop-k-preserved c).After-read_memory).sized, l.invariant.1.growing.wide))))
+          (c.offer-progress.ensures.offers ns _ room e passed (l.invariant.1.room ∙ q) (omega arith) ∙ ap (offer ns room 0 _) (set_out _ 32 0 (omega (arith, passed.sized, l.invariant.1.growing.wide))))
           (l.invariant.2 ns room e q)),
     )
 
@@ -58,7 +56,7 @@ returns c =
     let l = c.loop-k in
     let a = c.args in
     let all : l.k ≡ length a.initial.now / a.names = omega (arith, l.invariant.0) in
-    record { extended = l.invariant.1; by_index = λ ns room e q. starts_all ns e _ _ _ (rw all at (l.invariant.2 ns room e q)) }
+    record { extended = l.invariant.1; offers = λ ns room e q. starts_all ns e _ _ _ (rw all at (l.invariant.2 ns room e q)) }
 
 pub overflow_mul-at : goal.overflow_mul-at
 overflow_mul-at c =

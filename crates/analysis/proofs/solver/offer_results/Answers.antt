@@ -22,10 +22,10 @@ loop-sets-preserved c =
       extended_more _ l.invariant.1 c.offer-progress.ensures.extended,
       λ ns ρ room e y q.
           sets_more (offer ns room c.args.node) (set ρ (c.args.found % 64)) l.sets c.loop-sets-test.true l.invariant.0
-          (rw (c.name_of-name.ensures, c.first_set.ensures) at (c.offer-progress.ensures.by_index ns ρ room e y (l.invariant.1.room ∙ q) c.ranges.node.fits)) (l.invariant.2 ns ρ room e y q),
+          (rw (c.name_of-name.ensures, c.first_set.ensures) at (c.offer-progress.ensures.offers ns ρ room e y (l.invariant.1.room ∙ q) c.ranges.node.fits)) (l.invariant.2 ns ρ room e y q),
     )
 
 pub returns : goal.returns
 returns c =
     let l = c.loop-sets in
-    record { extended = l.invariant.1; by_index = λ ns ρ room e y q. sets_end _ _ l.sets c.loop-sets-test.false (l.invariant.2 ns ρ room e y q) }
+    record { extended = l.invariant.1; offers = λ ns ρ room e y q. sets_end _ _ l.sets c.loop-sets-test.false (l.invariant.2 ns ρ room e y q) }

@@ -30,9 +30,9 @@ returns-then-guards c =
     let l = c.loop-e in
     let w = c.requires.0 in record {
       extended = extended_more _ l.invariant.1 c.offer_guarded.ensures.extended;
-      by_index = λ ns g ρ room x y q.
+      offers = λ ns g ρ room x y q.
           guarded_all x y w room _ l.e (inside (goal.at.returns-then-guards c).In-loop-e) (l.invariant.0 (inside (goal.at.returns-then-guards c).In-loop-e)) l.invariant.3 (guard (goal.at.returns-then-guards c).After-guards c.if-guards.true) (l.invariant.2 ns g ρ room x y q)
-          (λ n. c.offer_guarded.ensures.by_index ns g ρ room _ x y (l.invariant.1.room ∙ q) n);
+          (λ n. c.offer_guarded.ensures.offers ns g ρ room _ x y (l.invariant.1.room ∙ q) n);
     }
 
 pub offer_edge-progress-requires : goal.offer_edge-progress-requires
@@ -56,11 +56,11 @@ loop-e-preserved c =
       extended_more _ l.invariant.1 c.offer_edge-progress.ensures.extended,
       λ ns g ρ room x y q.
           next_along w _ x _ _ l.e h (l.invariant.0 h) (l.invariant.2 ns g ρ room x y q)
-          (c.offer_edge-progress.ensures.by_index ns g ρ room x y (l.invariant.1.room ∙ q) (omega (arith, h, x.edges)) told (ap is_guard_node told ∙ plain)),
+          (c.offer_edge-progress.ensures.offers ns g ρ room x y (l.invariant.1.room ∙ q) (omega (arith, h, x.edges)) told (ap is_guard_node told ∙ plain)),
       λ low. next_is_followed w _ _ l.e h (l.invariant.3 low) plain,
     )
 
 pub returns : goal.returns
 returns c =
     let l = c.loop-e in
-    record { extended = l.invariant.1; by_index = λ ns g ρ room x y q. all_along c.requires.0 _ x _ _ l.e (omega (arith, c.loop-e-test.false, c.edge_count-count.ensures)) (l.invariant.2 ns g ρ room x y q) }
+    record { extended = l.invariant.1; offers = λ ns g ρ room x y q. all_along c.requires.0 _ x _ _ l.e (omega (arith, c.loop-e-test.false, c.edge_count-count.ensures)) (l.invariant.2 ns g ρ room x y q) }

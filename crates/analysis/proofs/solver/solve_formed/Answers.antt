@@ -28,7 +28,7 @@ returns c ns g x =
     let q = ap (λ (p : Progress). p.room) c.nothing_in-none.ensures ∙ room_of_lem x.coded c.args.buffer.now e in
     answered_found _ _ _ (extended_more _ (rw e at first.extended) c.descend.ensures.extended)
     (solution_found ns g _ _ _ _ c.nothing_in-none.result (ap (λ (p : Progress). p.count) c.nothing_in-none.ensures) (ap (λ (p : Progress). p.full) c.nothing_in-none.ensures)
-    (rw e at (first.by_index ns _ (sym (e ∙ x.coded.count)) q)) (c.descend.ensures.by_index ns g _ x (first.extended.room ∙ q)))
+    (rw e at (first.offers ns _ (sym (e ∙ x.coded.count)) q)) (c.descend.ensures.offers ns g _ x (first.extended.room ∙ q)))
     c.replied.ensures
 
 pub nothing_in-none-requires : goal.nothing_in-none-requires

@@ -11,7 +11,7 @@ pub returns-then-reply-lt-FIGURES : goal.returns-then-reply-lt-FIGURES
 returns-then-reply-lt-FIGURES c = short_told _ _ (omega (arith, c.if-reply-lt-FIGURES.true)) _
 
 pub put-requires : goal.put-requires
-put-requires c = record { narrow = list_narrow _ c.of_list.ensures.value; figures_room_in_bounds = omega (arith, c.if-reply-lt-FIGURES.false) }
+put-requires c = record { narrow = list_narrow _ c.of_list.ensures.value; room = omega (arith, c.if-reply-lt-FIGURES.false) }
 
 pub returns : goal.returns
 unfolding figured figures_row

@@ -22,7 +22,7 @@ pub returns-then-reply-lt-FIGURES : goal.returns-then-reply-lt-FIGURES
 returns-then-reply-lt-FIGURES c = short_told _ _ (omega (arith, c.if-reply-lt-FIGURES.true)) _
 
 pub put-requires : goal.put-requires
-put-requires c = record { narrow = join_narrow _ _ (told (goal.at.put-requires c).After-of_join); figures_room_in_bounds = omega (arith, c.if-reply-lt-FIGURES.false) }
+put-requires c = record { narrow = join_narrow _ _ (told (goal.at.put-requires c).After-of_join); room = omega (arith, c.if-reply-lt-FIGURES.false) }
 
 pub returns : goal.returns
 unfolding joined join_row

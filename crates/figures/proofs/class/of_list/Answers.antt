@@ -16,26 +16,25 @@ use Rattle.figures.proofs.class.of_list.Goals.{After-struct_told-in-Fit-1, In-Fi
 fit : (c : In-Fit) → list_validity c.args.marks.now ≡ Fit
 fit c = sym c.check-v.ensures ∙ c.in-Fit.is
 
--- the arm of a fit list
-fit_2 : (c : After-struct_told-in-Fit-1) → list_validity c.args.marks.now ≡ Fit
-fit_2 c = sym c.check-v.ensures ∙ c.in-Fit.is
-
 -- the totals that are handed on
-told : (c : After-struct_told-in-Fit-1) → handed c.of_marks-t.result ≡ totals c.args.marks.now
-told c =
-    ap handed c.of_marks-t.ensures ∙ small_handed (totals _) (fit_bounded _ (fit_2 c))
+told : (c : After-struct_told-in-Fit-1) → list_validity c.args.marks.now ≡ Fit → handed c.of_marks-t.result ≡ totals c.args.marks.now
+told c known =
+    ap handed c.of_marks-t.ensures ∙ small_handed (totals _) (fit_bounded _ known)
 
 pub of_totals-requires : goal.of_totals-requires
 unfolding totals
 of_totals-requires c =
-    let known = fit (goal.at.of_totals-requires c).In-Fit in
+    let p = goal.at.of_totals-requires c in
+    let known = fit p.In-Fit in
     let count : c.of_marks-t.result.count ≡ length c.args.marks.now = ap (λ (t : Totals). t.count) c.of_marks-t.ensures in
-    record { le_count = omega (arith, (fit_count _ known).some); bounded = subst Bounded (sym (told (goal.at.of_totals-requires c).After-struct_told-in-Fit-1)) (fit_bounded _ known) }
+    record { some = omega (arith, (fit_count _ known).some); bounded = subst Bounded (sym (told p.After-struct_told-in-Fit-1 known)) (fit_bounded _ known) }
 
 pub returns-in-Fit : goal.returns-in-Fit
 unfolding figures_row
 returns-in-Fit c =
-    numbered (c.of_totals.ensures ∙ ap (figures_by Fit) (told (goal.at.returns-in-Fit c).After-struct_told-in-Fit-1) ∙ sym (list_fit _ (fit (goal.at.returns-in-Fit c).In-Fit)))
+    let p = goal.at.returns-in-Fit c in
+    let known = fit p.In-Fit in
+    numbered (c.of_totals.ensures ∙ ap (figures_by Fit) (told p.After-struct_told-in-Fit-1 known) ∙ sym (list_fit _ known))
 
 pub returns-in-Refused : goal.returns-in-Refused
 unfolding figures_row

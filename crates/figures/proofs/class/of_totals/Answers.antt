@@ -23,7 +23,7 @@ lowest-requires c =
     rw (to_z-of_z w64 c.args.sum c.ranges.sum)
     (record {
       whole = omega (arith, c.requires.bounded.limits.low, c.requires.bounded.few);
-      some = c.requires.le_count;
+      some = c.requires.some;
       narrow = omega (arith, c.requires.bounded.few);
     })
 
@@ -32,7 +32,7 @@ lowest-requires-2 c =
     rw (to_z-of_z w64 c.spread-spread.result (record { sfits = c.spread-spread.type_inv }), told (goal.at.lowest-requires-2 c).After-spread-spread)
     (record {
       whole = omega (arith, spread_small _ c.requires.bounded);
-      some = mul-pos c.requires.le_count c.requires.le_count;
+      some = mul-pos c.requires.some c.requires.some;
       narrow = omega (arith, mul-le-mul c.requires.bounded.few c.requires.bounded.few);
     })
 

@@ -12,32 +12,25 @@ use Rattle.program.proofs.file.fit_layout.Goals.{After-long, After-long-2, After
 second : (c : After-long-second) → StartsAt c.args.s.now 1 (3 + c.long-second.result)
 second c = next_from (first_starts _ c.requires) (omega arith) c.whole_word-names.ensures c.long-second.ensures
 
--- where the fields after the first start
-second_2 : (c : After-long) → StartsAt c.args.s.now 1 (3 + c.long-second.result)
-second_2 c = next_from (first_starts _ c.requires) (omega arith) c.whole_word-names.ensures c.long-second.ensures
+third : (c : After-long) → StartsAt c.args.s.now 1 (3 + c.long-second.result) → StartsAt c.args.s.now 2 (3 + c.long-second.result + 3 + c.long.result)
+third c before = next_from before (omega arith) c.whole_word-arithmetic.ensures c.long.ensures
 
-third : (c : After-long) → StartsAt c.args.s.now 2 (3 + c.long-second.result + 3 + c.long.result)
-third c = next_from (second_2 c) (omega arith) c.whole_word-arithmetic.ensures c.long.ensures
-
--- where the fields after the first start
-second_3 : (c : After-long-2) → StartsAt c.args.s.now 1 (3 + c.long-second.result)
-second_3 c = next_from (first_starts _ c.requires) (omega arith) c.whole_word-names.ensures c.long-second.ensures
-
-third_2 : (c : After-long-2) → StartsAt c.args.s.now 2 (3 + c.long-second.result + 3 + c.long.result)
-third_2 c = next_from (second_3 c) (omega arith) c.whole_word-arithmetic.ensures c.long.ensures
-
-fourth : (c : After-long-2) → StartsAt c.args.s.now 3 (3 + c.long-second.result + 3 + c.long.result + 3 + c.long-2.result)
-fourth c = next_from (third_2 c) (omega arith) c.whole_word-boolean.ensures c.long-2.ensures
+fourth : (c : After-long-2)
+    → StartsAt c.args.s.now 2 (3 + c.long-second.result + 3 + c.long.result) → StartsAt c.args.s.now 3 (3 + c.long-second.result + 3 + c.long.result + 3 + c.long-2.result)
+fourth c before = next_from before (omega arith) c.whole_word-boolean.ensures c.long-2.ensures
 
 pub returns : goal.returns
 unfolding layout_of names_field table_field
 returns c =
+    let p = goal.at.returns c in
+    let two = second p.After-long-second in
+    let three = third p.After-long two in
     λ i.
     record {
       names = span_from (first_starts _ c.requires) names_field c.whole_word-names.ensures i;
-      arithmetic = span_from (second (goal.at.returns c).After-long-second) (table_field Arithmetic) c.whole_word-arithmetic.ensures i;
-      boolean = span_from (third (goal.at.returns c).After-long) (table_field Boolean) c.whole_word-boolean.ensures i;
-      commands = span_from (fourth (goal.at.returns c).After-long-2) (table_field Commands) c.whole_word-commands.ensures i;
+      arithmetic = span_from two (table_field Arithmetic) c.whole_word-arithmetic.ensures i;
+      boolean = span_from three (table_field Boolean) c.whole_word-boolean.ensures i;
+      commands = span_from (fourth p.After-long-2 three) (table_field Commands) c.whole_word-commands.ensures i;
     }
 
 pub whole_word-names-requires : goal.whole_word-names-requires
@@ -50,8 +43,10 @@ whole_word-arithmetic-requires c =
 
 pub whole_word-boolean-requires : goal.whole_word-boolean-requires
 whole_word-boolean-requires c =
-    length_there (third (goal.at.whole_word-boolean-requires c).After-long)
+    let p = goal.at.whole_word-boolean-requires c in
+    length_there (third p.After-long (second p.After-long-second))
 
 pub whole_word-commands-requires : goal.whole_word-commands-requires
 whole_word-commands-requires c =
-    length_there (fourth (goal.at.whole_word-commands-requires c).After-long-2)
+    let p = goal.at.whole_word-commands-requires c in
+    length_there (fourth p.After-long-2 (third p.After-long (second p.After-long-second)))

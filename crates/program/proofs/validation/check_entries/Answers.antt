@@ -23,27 +23,24 @@ boolean_fit c = answered c.check_table-boolean.ensures.checked.valid c.refused-2
 commands_fit : (c : Else-refused-3) → table_validity c.args.s.now Commands ≡ Fit
 commands_fit c = answered c.check_table-commands.ensures.checked.valid c.refused-3.ensures c.if-refused-3.false
 
-arithmetic_fit_3 : (c : Else-refused-3) → table_validity c.args.s.now Arithmetic ≡ Fit
-arithmetic_fit_3 c = answered c.check_table-arithmetic.ensures.checked.valid c.refused.ensures c.if-refused.false
-
-boolean_fit_3 : (c : Else-refused-3) → table_validity c.args.s.now Boolean ≡ Fit
-boolean_fit_3 c = answered c.check_table-boolean.ensures.checked.valid c.refused-2.ensures c.if-refused-2.false
-
 -- the operands of all three are counted, and it is noted whether a command may be a jump
-all_counted : (c : Else-refused-3) → UsesIn c.args.s.now c.check_table-commands.new.uses
-all_counted c =
+all_counted : (c : Else-refused-3)
+    → table_validity c.args.s.now Arithmetic ≡ Fit → table_validity c.args.s.now Boolean ≡ Fit → UsesIn c.args.s.now c.check_table-commands.new.uses
+all_counted c x y =
     let a = c.check_table-arithmetic.ensures.checked in
     let b = c.check_table-boolean.ensures.checked in
     let d = c.check_table-commands.ensures.checked in
-    counted_all _ _ _ _ (a.counted (a.valid ∙ arithmetic_fit_3 c)) (b.counted (b.valid ∙ boolean_fit_3 c)) (d.counted (d.valid ∙ commands_fit c))
+    counted_all _ _ _ _ (a.counted (a.valid ∙ x)) (b.counted (b.valid ∙ y)) (d.counted (d.valid ∙ commands_fit c))
 
-all_noted : (c : Else-refused-3) → NotedTo c.args.s.now Commands (entry_count c.args.s.now Commands) c.args.jumps.now c.check_table-commands.new.jumps
-all_noted c =
+all_noted : (c : Else-refused-3)
+    → table_validity c.args.s.now Arithmetic ≡ Fit → table_validity c.args.s.now Boolean ≡ Fit
+    → NotedTo c.args.s.now Commands (entry_count c.args.s.now Commands) c.args.jumps.now c.check_table-commands.new.jumps
+all_noted c x y =
     let a = c.check_table-arithmetic.ensures in
     let b = c.check_table-boolean.ensures in
     let d = c.check_table-commands.ensures in
     noted_then
-    (noted_then (a.noted (a.checked.valid ∙ arithmetic_fit_3 c)) (b.noted (b.checked.valid ∙ boolean_fit_3 c)))
+    (noted_then (a.noted (a.checked.valid ∙ x)) (b.noted (b.checked.valid ∙ y)))
     (d.noted (d.checked.valid ∙ commands_fit c))
 
 pub returns-then-refused : goal.returns-then-refused
@@ -71,15 +68,22 @@ returns-then-refused-3 c =
     }
 
 pub slice_bounds-check_all_uses-end : goal.slice_bounds-check_all_uses-end
-slice_bounds-check_all_uses-end c = sym (all_counted (goal.at.slice_bounds-check_all_uses-end c).Else-refused-3).room
+slice_bounds-check_all_uses-end c =
+    let p = goal.at.slice_bounds-check_all_uses-end c in
+    sym (all_counted p.Else-refused-3 (arithmetic_fit p.Else-refused) (boolean_fit p.Else-refused-2)).room
 
 pub check_all_uses-requires : goal.check_all_uses-requires
-check_all_uses-requires c = (c.requires, all_counted (goal.at.check_all_uses-requires c).Else-refused-3)
+check_all_uses-requires c =
+    let p = goal.at.check_all_uses-requires c in
+    (c.requires, all_counted p.Else-refused-3 (arithmetic_fit p.Else-refused) (boolean_fit p.Else-refused-2))
 
 pub returns : goal.returns
 unfolding in_turn
 returns c =
+    let p = goal.at.returns c in
+    let x = arithmetic_fit p.Else-refused in
+    let y = boolean_fit p.Else-refused-2 in
     record {
-      valid = passed (arithmetic_fit_3 (goal.at.returns c).Else-refused-3) (passed (boolean_fit_3 (goal.at.returns c).Else-refused-3) (passed (commands_fit (goal.at.returns c).Else-refused-3) (last_asked _ _ c.check_all_uses.ensures)));
-      noted = λ fit. all_noted (goal.at.returns c).Else-refused-3;
+      valid = passed x (passed y (passed (commands_fit p.Else-refused-3) (last_asked _ _ c.check_all_uses.ensures)));
+      noted = λ fit. all_noted p.Else-refused-3 x y;
     }

@@ -28,24 +28,12 @@ few c =
     let t = c.args.table in
     omega (arith, bound c, few_used t _ (c.requires.0.few t), ap (to_be_used t) (laid_count _ _ c.requires.0.same t))
 
--- the loop goes through the entries that are to be used, and these have slots
-bound_2 : (c : After-refused) → c.to_be_used-count.result ≡ to_be_used c.args.table (entry_count c.args.s.now c.args.table)
-bound_2 c =
-    c.to_be_used-count.ensures
-    ∙ ap (λ (x : Span). to_be_used c.args.table x.count) c.span_of-span.ensures
-    ∙ ap (to_be_used c.args.table) (laid_count _ _ c.requires.0.same c.args.table)
-
-few_2 : (c : After-refused) → c.to_be_used-count.result ≤ capacity c.args.table
-few_2 c =
-    let t = c.args.table in
-    omega (arith, bound_2 c, few_used t _ (c.requires.0.few t), ap (to_be_used t) (laid_count _ _ c.requires.0.same t))
-
 -- what is asked in a turn is question 10 of the turn's entry
-asked : (c : After-refused) → c.ask-v.result ≡ use_validity c.args.s.now c.args.table c.loop-n.n
-asked c =
+asked : (c : After-refused) → c.to_be_used-count.result ≤ capacity c.args.table → c.ask-v.result ≡ use_validity c.args.s.now c.args.table c.loop-n.n
+asked c slots =
     let t = c.args.table in
     let start = ap (λ (x : Span). x.start) c.span_of-span.ensures ∙ laid_start _ _ c.requires.0.same t in
-    let h : c.loop-n.n < capacity t = omega (arith, few_2 c) in
+    let h : c.loop-n.n < capacity t = omega (arith, slots) in
     use_asked _ _ t c.loop-n.n _ _ c.requires.1 h c.slot.ensures (entry_in _ t _ _ _ start c.long.ensures) c.ask-v.ensures
 
 pub loop-n-init : goal.loop-n-init
@@ -65,12 +53,15 @@ pub returns-then-refused : goal.returns-then-refused
 unfolding used_validity
 returns-then-refused c =
     let l = c.loop-n in
-    each_stops _ _ l.n _ _ (omega (arith, bound (goal.at.returns-then-refused c).After-to_be_used-count)) l.invariant.1 (asked (goal.at.returns-then-refused c).After-refused) c.refused.ensures c.if-refused.true
+    let p = goal.at.returns-then-refused c in
+    let counted = p.After-to_be_used-count in
+    each_stops _ _ l.n _ _ (omega (arith, bound counted)) l.invariant.1 (asked p.After-refused (few counted)) c.refused.ensures c.if-refused.true
 
 pub loop-n-preserved : goal.loop-n-preserved
 loop-n-preserved c =
     let l = c.loop-n in
-    (search rules, rw add-one (each_goes_on _ l.n _ _ l.invariant.1 (asked (goal.at.loop-n-preserved c).After-refused) c.refused.ensures c.if-refused.false))
+    let p = goal.at.loop-n-preserved c in
+    (search rules, rw add-one (each_goes_on _ l.n _ _ l.invariant.1 (asked p.After-refused (few p.After-to_be_used-count)) c.refused.ensures c.if-refused.false))
 
 pub returns : goal.returns
 unfolding used_validity

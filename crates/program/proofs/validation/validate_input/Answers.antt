@@ -1,5 +1,7 @@
 -- `program::validation::validate_input` meets its contract.
+use Prim.Native.Nat.{ℕ}
 use lib.ListN.{length}
+use mathlib.Core.List.{List}
 use mathlib.Core.Path.{◌≡◌, ◌∙◌, ap}
 use native.Mathlib.Omega.{arith}
 use Rattle.program.specs.Asking.{in_turn}
@@ -13,35 +15,25 @@ use Rattle.program.proofs.Asking.{stops, answered, passed, last_asked, numbered}
 use Rattle.program.proofs.Fit.{counts_allowed}
 use Rattle.program.proofs.Reading.{laid_names, asked_head, asked_end}
 use Rattle.program.proofs.validation.validate_input.Goals as goal
-use Rattle.program.proofs.validation.validate_input.Goals.{After-check_end-end, After-check_head-initial, After-heads-h, Else-refused}
+use Rattle.program.proofs.validation.validate_input.Goals.{After-check_end-end, After-check_head-initial, Else-refused}
 
 -- the questions that are answered yes
 heads_fit : (c : Else-refused) → heads_validity c.args.s.now 0 program_fields ≡ Fit
 heads_fit c = answered c.check_heads-heads.ensures c.refused.ensures c.if-refused.false
 
 -- what stands at the start list's field
-fifth : (c : After-heads-h) → c.heads-h.result.initial ≡ field_head c.args.s.now 4
+fifth : (s : List ℕ) {h : FieldHeads} → h ≡ heads_of s → h.initial ≡ field_head s 4
 unfolding heads_of
-fifth c = ap (λ (h : FieldHeads). h.initial) c.heads-h.ensures
-
--- what stands at the start list's field
-fifth_2 : (c : After-check_head-initial) → c.heads-h.result.initial ≡ field_head c.args.s.now 4
-unfolding heads_of
-fifth_2 c = ap (λ (h : FieldHeads). h.initial) c.heads-h.ensures
+fifth s e = ap (λ (h : FieldHeads). h.initial) e
 
 -- questions 1 to 4 are asked of it
 initial : (c : After-check_head-initial) → c.check_head-initial.result ≡ head_validity (length c.args.s.now) (field_head c.args.s.now 4) (initial_field (name_count c.args.s.now))
 initial c =
-    asked_head _ c.check_head-initial.ensures (fifth_2 c) (c.initial_field.ensures ∙ ap initial_field (laid_names _ _ (c.layout_by-l.ensures _ c.heads-h.ensures)))
-
--- what stands at the start list's field
-fifth_3 : (c : After-check_end-end) → c.heads-h.result.initial ≡ field_head c.args.s.now 4
-unfolding heads_of
-fifth_3 c = ap (λ (h : FieldHeads). h.initial) c.heads-h.ensures
+    asked_head _ c.check_head-initial.ensures (fifth _ c.heads-h.ensures) (c.initial_field.ensures ∙ ap initial_field (laid_names _ _ (c.layout_by-l.ensures _ c.heads-h.ensures)))
 
 -- and question 5 after it
 ended : (c : After-check_end-end) → c.check_end-end.result ≡ end_validity c.args.s.now 5
-ended c = asked_end _ 4 c.check_end-end.ensures c.after.ensures (fifth_3 c)
+ended c = asked_end _ 4 c.check_end-end.ensures c.after.ensures (fifth _ c.heads-h.ensures)
 
 pub returns-then-refused : goal.returns-then-refused
 unfolding input_validity in_turn input_row

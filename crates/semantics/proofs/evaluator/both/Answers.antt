@@ -16,12 +16,9 @@ returns-then-is_fault c =
     rw (handed c.earlier-fault.result c.earlier-fault.type_inv, found (goal.at.returns-then-is_fault c).After-earlier-fault)
     (conjoin_fault _ _ (fault_first _ _ _ (found (goal.at.returns-then-is_fault c).After-earlier-fault) c.earlier-fault.type_inv c.is_fault.ensures c.if-is_fault.true))
 
-found_2 : (c : Else-is_fault) → c.earlier-fault.result ≡ earlier c.args.a c.args.b
-found_2 c = gave _ _ _ c.ranges.a c.ranges.b c.earlier-fault.ensures
-
 -- neither is a fault
 none : (c : Else-is_fault) → (is_fault c.args.a ≡ false) × (is_fault c.args.b ≡ false)
-none c = no_faults _ _ (fault_first _ _ _ (found_2 c) c.earlier-fault.type_inv c.is_fault.ensures c.if-is_fault.false)
+none c = no_faults _ _ (fault_first _ _ _ (gave _ _ _ c.ranges.a c.ranges.b c.earlier-fault.ensures) c.earlier-fault.type_inv c.is_fault.ensures c.if-is_fault.false)
 
 pub returns-then-a-eq1 : goal.returns-then-a-eq1
 returns-then-a-eq1 c =

@@ -17,12 +17,9 @@ returns-then-is_fault c =
     rw (handed c.earlier-first.result c.earlier-first.type_inv, found (goal.at.returns-then-is_fault c).After-earlier-first)
     (compare_fault _ _ (fault_first _ _ _ (found (goal.at.returns-then-is_fault c).After-earlier-first) c.earlier-first.type_inv c.is_fault.ensures c.if-is_fault.true) c.args.c)
 
-found_2 : (c : Else-is_fault) → c.earlier-first.result ≡ earlier c.args.a c.args.b
-found_2 c = gave _ _ _ c.ranges.a c.ranges.b c.earlier-first.ensures
-
 -- neither is a fault
 none : (c : Else-is_fault) → (is_fault c.args.a ≡ false) × (is_fault c.args.b ≡ false)
-none c = no_faults _ _ (fault_first _ _ _ (found_2 c) c.earlier-first.type_inv c.is_fault.ensures c.if-is_fault.false)
+none c = no_faults _ _ (fault_first _ _ _ (gave _ _ _ c.ranges.a c.ranges.b c.earlier-first.ensures) c.earlier-first.type_inv c.is_fault.ensures c.if-is_fault.false)
 
 pub overflow_cast-a : goal.overflow_cast-a
 overflow_cast-a c = rw (to_z-of_z w64 c.args.a c.ranges.a) (code_small _ c.requires.left (none (goal.at.overflow_cast-a c).Else-is_fault).0)

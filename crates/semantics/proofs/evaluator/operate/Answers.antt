@@ -18,12 +18,9 @@ returns-then-is_fault c =
     rw (handed c.earlier-first.result c.earlier-first.type_inv, found (goal.at.returns-then-is_fault c).After-earlier-first)
     record { code = earlier_code _ _ c.requires.left c.requires.right; evaluated = combine_fault _ _ (fault_first _ _ _ (found (goal.at.returns-then-is_fault c).After-earlier-first) c.earlier-first.type_inv c.is_fault.ensures c.if-is_fault.true) c.args.o }
 
-found_2 : (c : Else-is_fault) → c.earlier-first.result ≡ earlier c.args.a c.args.b
-found_2 c = gave _ _ _ c.ranges.a c.ranges.b c.earlier-first.ensures
-
 -- neither is a fault, so both fit 32 bits
 none : (c : Else-is_fault) → (is_fault c.args.a ≡ false) × (is_fault c.args.b ≡ false)
-none c = no_faults _ _ (fault_first _ _ _ (found_2 c) c.earlier-first.type_inv c.is_fault.ensures c.if-is_fault.false)
+none c = no_faults _ _ (fault_first _ _ _ (gave _ _ _ c.ranges.a c.ranges.b c.earlier-first.ensures) c.earlier-first.type_inv c.is_fault.ensures c.if-is_fault.false)
 
 left_fits : (c : Else-is_fault) → SFits w32 c.args.a
 left_fits c = code_small _ c.requires.left (none c).0

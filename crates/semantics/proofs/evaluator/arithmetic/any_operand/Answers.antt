@@ -6,7 +6,7 @@ use Rattle.semantics.proofs.Valued.{past_valued}
 use Rattle.semantics.proofs.evaluator.arithmetic.any_operand.Goals as goal
 
 pub operand-requires : goal.operand-requires
-operand-requires c = record { ordered = c.requires; n_bound = omega (arith, c.if-n-arithmetic_count.true, c.arithmetic_count.ensures) }
+operand-requires c = record { ordered = c.requires; inside = omega (arith, c.if-n-arithmetic_count.true, c.arithmetic_count.ensures) }
 
 pub returns-then-n-arithmetic_count : goal.returns-then-n-arithmetic_count
 returns-then-n-arithmetic_count c graph = rw (handed c.operand.result c.operand.type_inv) (c.operand.ensures graph)

@@ -6,7 +6,7 @@ use Rattle.semantics.proofs.Valued.{past_valued}
 use Rattle.semantics.proofs.evaluator.arithmetic.any_value.Goals as goal
 
 pub value-requires : goal.value-requires
-value-requires c = record { ordered = c.requires; n_bound = omega (arith, c.if-n-arithmetic_count.true, c.arithmetic_count.ensures) }
+value-requires c = record { ordered = c.requires; inside = omega (arith, c.if-n-arithmetic_count.true, c.arithmetic_count.ensures) }
 
 pub returns-then-n-arithmetic_count : goal.returns-then-n-arithmetic_count
 returns-then-n-arithmetic_count c graph = rw (handed c.value.result c.value.type_inv) (c.value.ensures graph)
