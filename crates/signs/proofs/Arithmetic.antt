@@ -16,7 +16,7 @@ use Rattle.signs.specs.declared.Reason.{Reason}
 use Rattle.signs.specs.declared.Reason.TheVariants.{DivisorZero, ExponentNegative}
 use Rattle.signs.specs.declared.Sign.{Sign}
 use Rattle.signs.specs.declared.Sign.TheVariants.{Minus, Zero, Plus}
-use Rattle.signs.specs.declared.Value.TheVariants.{Number, Undefined}
+use Rattle.std.specs.Prelude.{Ok, Err}
 use Rattle.signs.proofs.Finite.{every_sign, at_sign}
 use Rattle.signs.proofs.Open.{definitions}
 use Rattle.signs.proofs.Power.{power_zero, zero_pow}
@@ -89,19 +89,19 @@ downward zero = tt
 downward (suc n) = tt
 
 -- a value is never both
-never : {X : Type 0} (z : ℤ) (r : Reason) → Undefined r ≡ Number z → X
+never : {X : Type 0} (z : ℤ) (r : Reason) → Err r ≡ Ok z → X
 never z r e = let no : ◌≡◌ {A = ℕ} 0 1 = cc in absurd (omega arith)
 
 -- a quotient that has a value is one by a divisor other than 0
-divided : (a b z : ℤ) → quotient a b ≡ Number z → quot_z a b ≡ z
+divided : (a b z : ℤ) → quotient a b ≡ Ok z → quot_z a b ≡ z
 unfolding quotient
 divided a b z e = go (equal b (pos 0)) e
   where
-    go : (t : Bool) → cond t (Undefined DivisorZero) (exact (quot_z a b)) ≡ Number z → quot_z a b ≡ z
+    go : (t : Bool) → cond t (Err DivisorZero) (exact (quot_z a b)) ≡ Ok z → quot_z a b ≡ z
     go true e = never z DivisorZero e
     go false e = (exact_number (quot_z a b) z e).1
 
-quotients : (a b : ℤ) {z : ℤ} → quotient a b ≡ Number z → Right Div (sign_of a) (sign_of b) (quot_z a b)
+quotients : (a b : ℤ) {z : ℤ} → quotient a b ≡ Ok z → Right Div (sign_of a) (sign_of b) (quot_z a b)
 unfolding definitions
 quotients a (pos zero) {z} e = never z DivisorZero e
 quotients (pos zero) (pos (suc b)) e = rw (zero-div (suc b)) tt
@@ -126,7 +126,7 @@ powers (negsuc a) (suc n) = go (eqb (suc n % 2) 0)
     go false = rw (negative (suc a ^ suc n) more) tt
 
 -- where an operator on two numbers has a value, the grid's set for their signs has its sign
-pub sound : (o : Operator) (a b z : ℤ) → apply o a b ≡ Number z → T (has (grid o (sign_of a) (sign_of b)) (sign_of z))
+pub sound : (o : Operator) (a b z : ℤ) → apply o a b ≡ Ok z → T (has (grid o (sign_of a) (sign_of b)) (sign_of z))
 unfolding apply raised
 sound Add a b z e = rw (sym (exact_number (a +ℤ b) z e).1) (sum a b)
 sound Sub a b z e = rw (sym (exact_number (a -ℤ b) z e).1) (difference a b)

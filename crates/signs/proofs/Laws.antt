@@ -16,8 +16,8 @@ use Rattle.signs.specs.declared.Comparison.{Comparison}
 use Rattle.signs.specs.declared.Operator.{Operator}
 use Rattle.signs.specs.declared.Sign.{Sign}
 use Rattle.signs.specs.declared.Truths.{Truths}
-use Rattle.signs.specs.declared.Value.{Value}
-use Rattle.signs.specs.declared.Value.TheVariants.{Number}
+use Rattle.std.specs.Prelude.{Result, Ok}
+use Rattle.signs.specs.declared.Reason.{Reason}
 use Rattle.signs.proofs.Answers
 use Rattle.signs.proofs.Arithmetic
 use Rattle.signs.proofs.Compared
@@ -97,7 +97,7 @@ any_of_members = Membership.any_of_members
 -- ---- Operators
 
 -- where an operator on two numbers has a value, the grid's set for their signs has the value's sign
-pub sound : (o : Operator) (a b z : ℤ) → apply o a b ≡ Number z → T (has (grid o (sign_of a) (sign_of b)) (sign_of z))
+pub sound : (o : Operator) (a b z : ℤ) → apply o a b ≡ Ok z → T (has (grid o (sign_of a) (sign_of b)) (sign_of z))
 sound = Arithmetic.sound
 
 pub grid_below : (o : Operator) (l r : Sign) → grid o l r < 8
@@ -132,7 +132,7 @@ operate_monotone o a a' b b' ha hb s h =
     subst T (sym (has_operate o a' b' s)) (pair_monotone (λ l r. has (grid o l r) s) a a' b b' ha hb (subst T (has_operate o a b s) h))
 
 -- so an operator on sets that have the signs of two numbers has the sign of their value
-pub operate_sound : (o : Operator) (x y z : ℤ) (a b : ℕ) → T (has a (sign_of x)) → T (has b (sign_of y)) → apply o x y ≡ Number z → T (has (operate o a b) (sign_of z))
+pub operate_sound : (o : Operator) (x y z : ℤ) (a b : ℕ) → T (has a (sign_of x)) → T (has b (sign_of y)) → apply o x y ≡ Ok z → T (has (operate o a b) (sign_of z))
 operate_sound o x y z a b ha hb e = operate_entry o a b (sign_of x) (sign_of y) ha hb (sign_of z) (sound o x y z e)
 
 -- ---- Comparisons
@@ -224,5 +224,5 @@ and_then_monotone a a' b b' ha hb false =
 -- ---- Rows of numbers
 
 -- a value is fixed by its row alone
-pub value_row_lem : (v w : Value) → value_numbers v ≡ value_numbers w → v ≡ w
+pub value_row_lem : (v w : Result ℤ Reason) → value_numbers v ≡ value_numbers w → v ≡ w
 value_row_lem = Readback.value_row_lem

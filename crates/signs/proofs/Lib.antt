@@ -1,4 +1,5 @@
 pub mod Open
+pub mod Results
 pub mod Signed
 pub mod Range
 pub mod Power

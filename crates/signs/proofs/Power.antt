@@ -11,7 +11,7 @@ use lib.Pow.{pow_mono}
 use lib.Signed.{lt_z, mag}
 use Rattle.signs.specs.Number.{power, raised, exact}
 use Rattle.signs.specs.declared.Reason.TheVariants.{ExponentNegative, OutOfRange}
-use Rattle.signs.specs.declared.Value.TheVariants.{Undefined}
+use Rattle.std.specs.Prelude.{Err}
 use Rattle.signs.proofs.Range.{exact_outside}
 use Rattle.signs.proofs.Signed.{magnitude, mag_le, nat_abs_suc}
 
@@ -69,7 +69,7 @@ zero_pow zero h = absurd (omega arith)
 zero_pow (suc n) h = pow-suc 0 n ∙ mul-zero (0 ^ n)
 
 -- a power of so large a magnitude is out of the range
-outside : (z : ℤ) (n : ℕ) → 4294967296 ≤ nat_abs z ^ n → exact (power z n) ≡ Undefined OutOfRange
+outside : (z : ℤ) (n : ℕ) → 4294967296 ≤ nat_abs z ^ n → exact (power z n) ≡ Err OutOfRange
 outside z n h = exact_outside (power z n) (omega (arith, nat_abs_suc (power z n), power_magnitude z n))
 
 -- a base whose power leaves the range is at least 2 in magnitude
@@ -81,13 +81,13 @@ base m i h = go (ltb m 2) refl
     go false e = ltb-false m 2 e
 
 -- once a power is out of the range, so is every higher one
-pub power_stays : (z : ℤ) (i n : ℕ) → i ≤ n → 2147483648 ≤ mag (power z i) → exact (power z n) ≡ Undefined OutOfRange
+pub power_stays : (z : ℤ) (i n : ℕ) → i ≤ n → 2147483648 ≤ mag (power z i) → exact (power z n) ≡ Err OutOfRange
 power_stays z i n le h = go (ltb i n) refl
   where
     large : 2147483648 ≤ nat_abs z ^ i
     large = omega (arith, mag_le (power z i), power_magnitude z i)
 
-    go : (b : Bool) → ltb i n ≡ b → exact (power z n) ≡ Undefined OutOfRange
+    go : (b : Bool) → ltb i n ≡ b → exact (power z n) ≡ Err OutOfRange
     go true e =
         outside z n
         (omega (
@@ -98,7 +98,7 @@ power_stays z i n le h = go (ltb i n) refl
         ))
     go false e = let same : i ≡ n = omega (arith, ltb-false i n e) in rw (sym same) (exact_outside (power z i) h)
 
-big : (z : ℤ) (n : ℕ) → 2 ≤ nat_abs z → 32 ≤ n → exact (power z n) ≡ Undefined OutOfRange
+big : (z : ℤ) (n : ℕ) → 2 ≤ nat_abs z → 32 ≤ n → exact (power z n) ≡ Err OutOfRange
 big z n two h = outside z n (omega (arith, pow_mono {i = 32} {j = n} h, pow-le-pow_left two n))
 
 -- from the exponent 32 on, only its parity counts
@@ -119,7 +119,7 @@ power_shortened z n = go (ltb n 32) refl
     go false e = power_enough z n (ltb-false n 32 e)
 
 -- `raised` by the sign of its exponent
-pub raised_negative : (a b : ℤ) → lt_z b (pos 0) ≡ true → raised a b ≡ Undefined ExponentNegative
+pub raised_negative : (a b : ℤ) → lt_z b (pos 0) ≡ true → raised a b ≡ Err ExponentNegative
 unfolding raised
 raised_negative a (pos n) e = absurd (omega (arith, ltb-true n 0 e))
 raised_negative a (negsuc n) e = refl

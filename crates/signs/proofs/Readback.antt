@@ -5,34 +5,34 @@ use Prim.Native.Nat.{ℕ, ◌-◌}
 use lib.IntN.{ℤ, pos, negsuc}
 use lib.ListN.{length, get_or}
 use Rattle.signs.specs.Number.{reason_number, value_numbers}
+use Rattle.signs.specs.declared.Reason.{Reason}
 use Rattle.signs.specs.declared.Reason.TheVariants.{ConditionFalse, DivisorZero, ExponentNegative, IndexNegative, IndexTooLarge, OutOfRange}
-use Rattle.signs.specs.declared.Value.{Value}
-use Rattle.signs.specs.declared.Value.TheVariants.{Number, Undefined}
+use Rattle.std.specs.Prelude.{Result, Ok, Err}
 
 -- a natural number out of a row of integers
 unfoldable pub natural : ℤ → ℕ
 natural (pos n) = n
 natural (negsuc n) = 0
 
-abbrev value_read : List ℤ → Value
+abbrev value_read : List ℤ → Result ℤ Reason
 value_read l =
     get_or
-    (Undefined OutOfRange
-    ∷ Undefined (get_or (ConditionFalse ∷ DivisorZero ∷ ExponentNegative ∷ IndexNegative ∷ IndexTooLarge ∷ OutOfRange ∷ []) (natural (get_or l 0 (pos 0)) - 31) OutOfRange)
-    ∷ Number (get_or l 1 (pos 0))
+    (Err OutOfRange
+    ∷ Err (get_or (ConditionFalse ∷ DivisorZero ∷ ExponentNegative ∷ IndexNegative ∷ IndexTooLarge ∷ OutOfRange ∷ []) (natural (get_or l 0 (pos 0)) - 31) OutOfRange)
+    ∷ Ok (get_or l 1 (pos 0))
     ∷ [])
     (length l)
-    (Undefined OutOfRange)
+    (Err OutOfRange)
 
-value_back : (v : Value) → value_read (value_numbers v) ≡ v
+value_back : (v : Result ℤ Reason) → value_read (value_numbers v) ≡ v
 unfolding value_numbers reason_number natural
-value_back (Number z) = refl
-value_back (Undefined ConditionFalse) = refl
-value_back (Undefined DivisorZero) = refl
-value_back (Undefined ExponentNegative) = refl
-value_back (Undefined IndexNegative) = refl
-value_back (Undefined IndexTooLarge) = refl
-value_back (Undefined OutOfRange) = refl
+value_back (Ok z) = refl
+value_back (Err ConditionFalse) = refl
+value_back (Err DivisorZero) = refl
+value_back (Err ExponentNegative) = refl
+value_back (Err IndexNegative) = refl
+value_back (Err IndexTooLarge) = refl
+value_back (Err OutOfRange) = refl
 
-pub value_row_lem : (v w : Value) → value_numbers v ≡ value_numbers w → v ≡ w
+pub value_row_lem : (v w : Result ℤ Reason) → value_numbers v ≡ value_numbers w → v ≡ w
 value_row_lem v w e = sym (value_back v) ∙ ap (λ l. value_read l) e ∙ value_back w

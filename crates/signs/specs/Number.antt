@@ -7,8 +7,7 @@ use Rattle.signs.specs.declared.Comparison.{Comparison}
 use Rattle.signs.specs.declared.Comparison.TheVariants.{Equal, Greater, AtLeast}
 use Rattle.signs.specs.declared.Reason.{Reason}
 use Rattle.signs.specs.declared.Reason.TheVariants.{ConditionFalse, DivisorZero, ExponentNegative, IndexNegative, IndexTooLarge, OutOfRange}
-use Rattle.signs.specs.declared.Value.{Value}
-use Rattle.signs.specs.declared.Value.TheVariants.{Number, Undefined}
+use Rattle.std.specs.Prelude.{Result, Ok, Err}
 
 -- "the reason is: 31 condition false; 32 divisor zero; 33 exponent negative; 34 index below zero; 35 index at or past the size; 36 exact result
 -- outside the range"
@@ -21,17 +20,17 @@ reason_number IndexTooLarge = 35
 reason_number OutOfRange = 36
 
 -- a value in document 01's numbers: 0 and the number, or the reason
-unfoldable pub value_numbers : Value → List ℤ
-value_numbers (Number z) = pos 0 ∷ z ∷ []
-value_numbers (Undefined r) = pos (reason_number r) ∷ []
+unfoldable pub value_numbers : Result ℤ Reason → List ℤ
+value_numbers (Ok z) = pos 0 ∷ z ∷ []
+value_numbers (Err r) = pos (reason_number r) ∷ []
 
 -- "Values run from −2147483648 to 2147483647."
 unfoldable pub in_range : ℤ → Bool
 in_range z = le_z (neg_ℤ (pos 2147483648)) z && le_z z (pos 2147483647)
 
 -- "36 exact result outside the range": an exact result as a value
-unfoldable pub exact : ℤ → Value
-exact z = cond (in_range z) (Number z) (Undefined OutOfRange)
+unfoldable pub exact : ℤ → Result ℤ Reason
+exact z = cond (in_range z) (Ok z) (Err OutOfRange)
 
 -- whether two numbers are the same
 unfoldable pub equal : ℤ → ℤ → Bool
@@ -47,16 +46,16 @@ power (pos a) n = pos (a ^ n)
 power (negsuc a) n = cond (eqb (n % 2) 0) (pos (suc a ^ n)) (neg_ℤ (pos (suc a ^ n)))
 
 -- "32 divisor zero", before 36; "Division drops the fraction"
-unfoldable pub quotient : ℤ → ℤ → Value
-quotient a b = cond (equal b (pos 0)) (Undefined DivisorZero) (exact (quot_z a b))
+unfoldable pub quotient : ℤ → ℤ → Result ℤ Reason
+quotient a b = cond (equal b (pos 0)) (Err DivisorZero) (exact (quot_z a b))
 
 -- "33 exponent negative", before 36
-unfoldable pub raised : ℤ → ℤ → Value
+unfoldable pub raised : ℤ → ℤ → Result ℤ Reason
 raised a (pos n) = exact (power a n)
-raised a (negsuc n) = Undefined ExponentNegative
+raised a (negsuc n) = Err ExponentNegative
 
 -- the value of an operator on two numbers: "3 to 7 are P + Q, P − Q, P × Q, P / Q, P ^ Q"
-unfoldable pub apply : Operator → ℤ → ℤ → Value
+unfoldable pub apply : Operator → ℤ → ℤ → Result ℤ Reason
 apply Add a b = exact (a +ℤ b)
 apply Sub a b = exact (a -ℤ b)
 apply Mul a b = exact (a *ℤ b)

@@ -2,48 +2,42 @@
 ghost use Rattle.std.specs.Prelude.{◌≡◌, cond, ◌+◌, ◌%◌, ltb};
 ghost use Rattle.signs.specs.Number as spec;
 
-use super::{Comparison, Operator, Reason, Value};
+use super::{Comparison, Operator, Reason};
 
 // An exact result as a value.
-fn exact(z: i64) -> Value
+fn exact(z: i64) -> Result<i32, Reason>
     ensures { result ≡ spec.exact z }
 {
     if z < -2147483648 {
-        return Value::Undefined(Reason::OutOfRange);
+        return Err(Reason::OutOfRange);
     }
     if 2147483647 < z {
-        Value::Undefined(Reason::OutOfRange)
+        Err(Reason::OutOfRange)
     } else {
-        Value::Number(z as i32)
+        Ok(z as i32)
     }
 }
 
 // The quotient without its fraction: a zero divisor is asked about before the range.
-fn quotient(a: i32, b: i32) -> Value
+fn quotient(a: i32, b: i32) -> Result<i32, Reason>
     ensures { result ≡ spec.quotient a b }
 {
     if b == 0 {
-        Value::Undefined(Reason::DivisorZero)
+        Err(Reason::DivisorZero)
     } else {
         exact(a as i64 / b as i64)
     }
 }
 
 // The product of so many times the same factor; it stops where the product leaves the range, since no further factor brings it back.
-fn repeated(base: i32, count: u32) -> Value
+fn repeated(base: i32, count: u32) -> Result<i32, Reason>
     ensures { result ≡ spec.exact (spec.power base count) }
 {
     let mut product: i32 = 1;
-    let mut i: u32 = 0;
-    while i < count {
-        let next = exact(product as i64 * base as i64);
-        let Value::Number(z) = next else {
-            return next;
-        };
-        product = z;
-        i += 1;
+    for _ in 0..count {
+        product = exact(product as i64 * base as i64)?;
     }
-    Value::Number(product)
+    Ok(product)
 }
 
 // An exponent of at most 33 that gives the same value: from 32 on, a power of 0, 1 or -1 goes by the exponent's parity, and any other is out of range.
@@ -54,18 +48,18 @@ fn enough(n: u32) -> u32
 }
 
 // A power: a negative exponent is asked about before the range.
-fn raised(a: i32, b: i32) -> Value
+fn raised(a: i32, b: i32) -> Result<i32, Reason>
     ensures { result ≡ spec.raised a b }
 {
     if b < 0 {
-        Value::Undefined(Reason::ExponentNegative)
+        Err(Reason::ExponentNegative)
     } else {
         repeated(a, enough(b as u32))
     }
 }
 
 // The value of an operator on two numbers.
-pub fn apply(operator: Operator, a: i32, b: i32) -> Value
+pub fn apply(operator: Operator, a: i32, b: i32) -> Result<i32, Reason>
     ensures value { result ≡ spec.apply operator a b }
     ensures numbers { spec.value_numbers result ≡ spec.value_row operator a b }
 {

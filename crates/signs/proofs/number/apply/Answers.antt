@@ -1,13 +1,14 @@
 -- `number::apply`: each arm knows its operator; sum, difference and product of widened numbers fit 64 bits.
 use mathlib.Core.Path.{◌≡◌, ap, ◌∙◌}
-use lib.IntN.{◌+ℤ◌, ◌-ℤ◌, ◌*ℤ◌}
+use lib.IntN.{ℤ, ◌+ℤ◌, ◌-ℤ◌, ◌*ℤ◌}
+use Rattle.std.specs.Prelude.{Result}
+use Rattle.signs.specs.declared.Reason.{Reason}
 use Rattle.signs.proofs.Signed.{passed, widens, wide_fits, wide_result, sum_fits, difference_fits, product_fits}
 use Rattle.signs.specs.Number.{value_numbers, value_row, apply, exact, quotient, raised}
-use Rattle.signs.specs.declared.Value.{Value}
 use Rattle.signs.proofs.number.apply.Goals as goal
 
 -- the value, and the same in document 01's numbers
-numbered : {v w : Value} → v ≡ w → record { value : v ≡ w; numbers : value_numbers v ≡ value_numbers w }
+numbered : {v w : Result ℤ Reason} → v ≡ w → record { value : v ≡ w; numbers : value_numbers v ≡ value_numbers w }
 numbered e = record { value = e; numbers = ap value_numbers e }
 
 pub overflow_add-x : goal.overflow_add-x

@@ -7,7 +7,7 @@ use mir.Val.{SFits, to_z, of_z}
 use mir.ValLaws.{to_z-of_z}
 use Rattle.signs.proofs.Range.{exact_within, exact_outside, below, above, within}
 use Rattle.signs.proofs.Signed.{less}
-use Rattle.signs.specs.declared.Value.TheVariants.{Number}
+use Rattle.std.specs.Prelude.{Ok}
 use Rattle.signs.proofs.number.exact.Goals as goal
 use Rattle.signs.proofs.number.exact.Goals.{Else-z-gt2147483647}
 
@@ -30,4 +30,4 @@ returns-then-z-gt2147483647 c =
 
 pub returns-else-z-gt2147483647 : goal.returns-else-z-gt2147483647
 returns-else-z-gt2147483647 c =
-    ap Number (to_z-of_z w32 (to_z w64 (of_z w64 c.args.z)) (overflow_cast-result (goal.at.returns-else-z-gt2147483647 c).Else-z-gt2147483647) ∙ to_z-of_z w64 c.args.z c.ranges.z) ∙ sym (exact_within c.args.z (fits (goal.at.returns-else-z-gt2147483647 c).Else-z-gt2147483647))
+    ap Ok (to_z-of_z w32 (to_z w64 (of_z w64 c.args.z)) (overflow_cast-result (goal.at.returns-else-z-gt2147483647 c).Else-z-gt2147483647) ∙ to_z-of_z w64 c.args.z c.ranges.z) ∙ sym (exact_within c.args.z (fits (goal.at.returns-else-z-gt2147483647 c).Else-z-gt2147483647))
