@@ -1,15 +1,13 @@
 -- What an accepted solution is closed under: it has every start record at node 0 and, for each of its records and each edge out of its node, every
 -- result at the edge's target.
+use Rattle.program.specs.Asking.{Validity}
+use Rattle.std.specs.Prelude.{Err, Ok, None, Option, Some}
 use Rattle.std.proofs.Common.{◌≡◌, ℕ, Bool, true, false, not, ◌&&◌, T, eqb, ltb, List, [], ◌∷◌, length, sym, refl, ap, ◌∙◌, subst, arith, eqb→eq, ltb→lt}
 use mathlib.Core.List.{Memᴰ}
 use mir.Facts.{and_yes}
 use Rattle.signs.specs.Lists.{any_of}
 use Rattle.program.specs.FirstSuch.{first_such}
 use Rattle.program.specs.Graph.{Graph, edge_at}
-use Rattle.program.specs.declared.First.{First}
-use Rattle.program.specs.declared.First.TheVariants.{At, Nothing}
-use Rattle.program.specs.declared.Validity.{Validity}
-use Rattle.program.specs.declared.Validity.TheVariants.{Fit, Refused}
 use Rattle.program.proofs.Laws.{first_nothing, such_none}
 use Rattle.program.proofs.Tests.{passed}
 use Rattle.program.specs.Meaning.{meaning}
@@ -49,25 +47,25 @@ none_fails {A} p {x} xs e m = by (p x) refl
 
 -- what an accepted verdict says
 pub record Judged (ns : List ℕ) (g : Graph) (initial solution : List ℕ) (mark : Mark) : Type 0 where
-  pub initial_there : missing_initial ns initial solution ≡ Nothing
+  pub initial_there : missing_initial ns initial solution ≡ None
   pub results_there : missing_result ns g solution ≡ Nowhere
   pub marked : index_mark ns g solution ≡ mark
 
-by_missing : (k : First) (spot : Spot) (m mark : Mark) → verdict_by k spot m ≡ Accepted mark → (k ≡ Nothing) × (spot ≡ Nowhere) × (m ≡ mark)
+by_missing : (k : Option ℕ) (spot : Spot) (m mark : Mark) → verdict_by k spot m ≡ Accepted mark → (k ≡ None) × (spot ≡ Nowhere) × (m ≡ mark)
 unfolding verdict_by
-by_missing (At k) spot m mark e = absurd (let z : ◌≡◌ {A = ℕ} 0 1 = cc in omega arith)
-by_missing Nothing (Here k e) m mark p = absurd (let z : ◌≡◌ {A = ℕ} 0 1 = cc in omega arith)
-by_missing Nothing Nowhere m mark e = (refl, refl, cc)
+by_missing (Some k) spot m mark e = absurd (let z : ◌≡◌ {A = ℕ} 0 1 = cc in omega arith)
+by_missing None (Here k e) m mark p = absurd (let z : ◌≡◌ {A = ℕ} 0 1 = cc in omega arith)
+by_missing None Nowhere m mark e = (refl, refl, cc)
 
-pub not_refused_accepted : (v : Validity) (w : Verdict) (mark : Mark) → verdict_unless_refused v w ≡ Accepted mark → (v ≡ Fit) × (w ≡ Accepted mark)
+pub not_refused_accepted : (v : Validity) (w : Verdict) (mark : Mark) → verdict_unless_refused v w ≡ Accepted mark → (v ≡ Ok tt) × (w ≡ Accepted mark)
 unfolding verdict_unless_refused
-not_refused_accepted Fit w mark e = (refl, e)
-not_refused_accepted (Refused x) w mark e = absurd (let z : ◌≡◌ {A = ℕ} 0 1 = cc in omega arith)
+not_refused_accepted (Ok _) w mark e = (refl, e)
+not_refused_accepted (Err x) w mark e = absurd (let z : ◌≡◌ {A = ℕ} 0 1 = cc in omega arith)
 
 well_formed_accepted : (list : RecordList) (v : Validity) (w : Verdict) (mark : Mark) → unless_malformed list v w ≡ Accepted mark → w ≡ Accepted mark
 unfolding unless_malformed
-well_formed_accepted list Fit w mark e = e
-well_formed_accepted list (Refused x) w mark e = absurd (let z : ◌≡◌ {A = ℕ} 0 1 = cc in omega arith)
+well_formed_accepted list (Ok _) w mark e = e
+well_formed_accepted list (Err x) w mark e = absurd (let z : ◌≡◌ {A = ℕ} 0 1 = cc in omega arith)
 
 pub accepted : (ns : List ℕ) (g : Graph) (initial solution : List ℕ) (mark : Mark) → verdict_over ns g initial solution ≡ Accepted mark → Judged ns g initial solution mark
 unfolding verdict_over
@@ -84,10 +82,10 @@ unfolding is_here
 nowhere_only (Here k e) p = absurd (subst T p tt)
 nowhere_only Nowhere p = refl
 
-no_edge : (k : ℕ) (e : First) → spot_at k e ≡ Nowhere → e ≡ Nothing
+no_edge : (k : ℕ) (e : Option ℕ) → spot_at k e ≡ Nowhere → e ≡ None
 unfolding spot_at
-no_edge k (At e) p = absurd (let z : ◌≡◌ {A = ℕ} 0 1 = cc in omega arith)
-no_edge k Nothing p = refl
+no_edge k (Some e) p = absurd (let z : ◌≡◌ {A = ℕ} 0 1 = cc in omega arith)
+no_edge k None p = refl
 
 -- of two tests of which the first passes, the second fails where not both pass
 second_fails : (a b : Bool) → T a → (a && b) ≡ false → b ≡ false
@@ -102,7 +100,7 @@ module _ (ns : List ℕ) (g : Graph) (solution : List ℕ) where
       let w = at_any_of (gives ns node ρ) (record_at (record_width ns) solution) (record_count (record_width ns) solution) has in
       by (record_at (record_width ns) solution w.0) w.2 (no_edge w.0 _ (first_nothing is_here Nowhere refl nowhere_only _ _ none w.0 w.1))
     where
-      by : (r : List ℕ) → T (gives ns node ρ r) → first_such (length g.edges) (λ e. leaves g e (node_of r) && picks (memory_of ns r) e) ≡ Nothing → picks ρ e ≡ false
+      by : (r : List ℕ) → T (gives ns node ρ r) → first_such (length g.edges) (λ e. leaves g e (node_of r) && picks (memory_of ns r) e) ≡ None → picks ρ e ≡ false
       by r t none =
           let same = and_yes (eqb (node_of r) node) (same_signs (memory_of ns r) ρ) t in
           let edge = and_yes (ltb e (length g.edges)) (eqb (edge_at g e).source node) l in

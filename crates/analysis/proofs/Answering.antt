@@ -1,9 +1,10 @@
 -- The solver's answer: its questions, and the list that it leaves in the buffer.
+use Rattle.std.specs.Prelude.{Err, Ok}
 use Rattle.std.proofs.Common.{◌≡◌, ℕ, zero, suc, ◌+◌, ◌*◌, ◌/◌, ◌≤◌, min, Bool, false, List, [], ◌∷◌, ◌++◌, length, get_or, take, sym, refl, ap, ◌∙◌, subst, append_assoc, append-nil, mul-le-mul_left, mul-zero, mul-suc, arith, take-append-drop, length-take-le, take-add}
 use mathlib.Core.List.{foldl, flatten}
 use native.Mathlib.Nat.{mul-div-le}
 use Rattle.signs.specs.Lists.{tabulate}
-use Rattle.program.specs.Asking.{ask, then_ask}
+use Rattle.program.specs.Asking.{ask, then_ask, Validity}
 use Rattle.program.specs.Drawing.{over}
 use Rattle.program.specs.File.{sizes}
 use Rattle.program.specs.Graph.{Graph, graph}
@@ -11,8 +12,6 @@ use Rattle.program.specs.Parts.Prepared.{Coded, name_count_place}
 use Rattle.program.specs.Questions.{validity}
 use Rattle.program.specs.declared.Construction.{Construction}
 use Rattle.program.specs.declared.Refusal.{Refusal}
-use Rattle.program.specs.declared.Validity.{Validity}
-use Rattle.program.specs.declared.Validity.TheVariants.{Fit, Refused}
 use Rattle.program.proofs.Lists.{length_tabulate}
 use Rattle.analysis.specs.Parts.Membership.{Indexed}
 use Rattle.analysis.specs.Records.{initial_width, record_width, record_at, records_of, whole_records, initial_whole, initial_formed, wrong_byte}
@@ -65,12 +64,12 @@ flatten_found width (suc n) buffer = flatten_more (tabulate n (record_at width b
 
 module _ {f : Found} {before : List ℕ} where
   pub answered_found : (width : ℕ) (buffer : List ℕ) (p : Progress) {q : Progress} {index : List ℕ} → Extended width before q buffer index p → found_in width buffer p ≡ f
-      → {r : Solved} → r ≡ record { solving = finished_or p.full; count = p.count } → Answered Fit Fit f before buffer r
+      → {r : Solved} → r ≡ record { solving = finished_or p.full; count = p.count } → Answered (Ok tt) (Ok tt) f before buffer r
   unfolding solved_with buffer_with found_in over
   answered_found width buffer p x e {r} same =
       record {
-        reply = same ∙ ap (λ (n : ℕ). record { solving = finished_or p.full; count = n }) (sym (length_tabulate p.count (record_at width buffer))) ∙ ap (solved_with Fit Fit) e;
-        buffer = laid ∙ ap (λ (v : Found). buffer_with Fit Fit v before) e;
+        reply = same ∙ ap (λ (n : ℕ). record { solving = finished_or p.full; count = n }) (sym (length_tabulate p.count (record_at width buffer))) ∙ ap (solved_with (Ok tt) (Ok tt)) e;
+        buffer = laid ∙ ap (λ (v : Found). buffer_with (Ok tt) (Ok tt) v before) e;
       }
     where
       long : length (take (width * p.count) buffer) ≡ width * p.count
@@ -80,17 +79,17 @@ module _ {f : Found} {before : List ℕ} where
       laid = rw (flatten_found width p.count buffer, long, ← x.past) (sym (take-append-drop (width * p.count) buffer))
 
   -- by the answer to each question
-  pub answered_formed : {asked formed : Validity} {buffer : List ℕ} {r : Solved} → formed ≡ Fit → Answered asked Fit f before buffer r → Answered asked formed f before buffer r
+  pub answered_formed : {asked formed : Validity} {buffer : List ℕ} {r : Solved} → formed ≡ Ok tt → Answered asked (Ok tt) f before buffer r → Answered asked formed f before buffer r
   answered_formed {asked} {formed} {buffer} {r} e a = subst (λ (v : Validity). Answered asked v f before buffer r) (sym e) a
 
   pub answered_asked : {asked then formed : Validity} {buffer : List ℕ} {r : Solved} → asked ≡ then → Answered then formed f before buffer r → Answered asked formed f before buffer r
   answered_asked {asked} {then} {formed} {buffer} {r} e a = subst (λ (v : Validity). Answered v formed f before buffer r) (sym e) a
 
-  pub answered_malformed : {formed : Validity} (x : Refusal) {r : Solved} → formed ≡ Refused x → r ≡ record { solving = Malformed (wrong_byte Initial x); count = 0 } → Answered Fit formed f before before r
+  pub answered_malformed : {formed : Validity} (x : Refusal) {r : Solved} → formed ≡ Err x → r ≡ record { solving = Malformed (wrong_byte Initial x); count = 0 } → Answered (Ok tt) formed f before before r
   unfolding solved_with buffer_with
-  answered_malformed x {r} e p = subst (λ (v : Validity). Answered Fit v f before before r) (sym e) (record { reply = p; buffer = refl })
+  answered_malformed x {r} e p = subst (λ (v : Validity). Answered (Ok tt) v f before before r) (sym e) (record { reply = p; buffer = refl })
 
-  pub answered_refused : {asked formed : Validity} (x : Refusal) {r : Solved} → asked ≡ Refused x → r ≡ record { solving = Refuses x; count = 0 } → Answered asked formed f before before r
+  pub answered_refused : {asked formed : Validity} (x : Refusal) {r : Solved} → asked ≡ Err x → r ≡ record { solving = Refuses x; count = 0 } → Answered asked formed f before before r
   unfolding solved_with buffer_with
   answered_refused {asked} {formed} x {r} e p = subst (λ (v : Validity). Answered v formed f before before r) (sym e) (record { reply = p; buffer = refl })
 
@@ -100,11 +99,11 @@ pub whole_asked : {ns code : List ℕ} → Coded ns code → (initial : List ℕ
 unfolding initial_whole initial_width
 whole_asked x initial e p q = sym (q ∙ ap (λ (b : Bool). ask b 16 0) p ∙ ap (λ (n : ℕ). ask (whole_records n initial) 16 0) (e ∙ x.count))
 
-pub validity_fit : (s initial : List ℕ) → validity s ≡ Fit → initial_validity s initial ≡ initial_whole (sizes s) initial
+pub validity_fit : (s initial : List ℕ) → validity s ≡ Ok tt → initial_validity s initial ≡ initial_whole (sizes s) initial
 unfolding initial_validity then_ask
 validity_fit s initial e = rw e
 
-pub validity_refused : (s initial : List ℕ) (x : Refusal) → validity s ≡ Refused x → initial_validity s initial ≡ Refused x
+pub validity_refused : (s initial : List ℕ) (x : Refusal) → validity s ≡ Err x → initial_validity s initial ≡ Err x
 unfolding initial_validity then_ask
 validity_refused s initial x e = rw e
 

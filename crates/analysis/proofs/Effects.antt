@@ -1,4 +1,5 @@
 -- Where an action has an effect on a memory, the abstract memory afterwards is among the action's results (book, Proposition 4.25).
+use Rattle.std.specs.Prelude.{Err, Ok}
 use Rattle.std.proofs.Common.{◌≡◌, ℕ, ◌+◌, ◌<◌, Bool, true, false, cond, ◌&&◌, T, ltb, ◌≢◌, ◌⊎◌, List, [], ◌∷◌, ◌++◌, map, length, get_or, set, ℤ, pos, negsuc, sym, refl, ap, ◌∙◌, subst, inl, inr, arith, ltb-true}
 use mathlib.Core.List.Memᴰ
 use mathlib.Core.List.{flat_map, Memᴰ}
@@ -15,12 +16,8 @@ use Rattle.program.proofs.Lists.{get_or_tabulate}
 use Rattle.program.proofs.Tests.{is_true}
 use Rattle.program.specs.Meaning.{Meaning, nothing, assigns, stores, condition}
 use Rattle.semantics.specs.Action.{pass, store_to, effect, after, is_defined}
-use Rattle.semantics.specs.Expression.{fault, cell_value, at, nowhere, place_of, value, truth_in}
+use Rattle.semantics.specs.Expression.{fault, cell_value, at, nowhere, place_of, value, truth_in, Evaluation, Truth}
 use Rattle.semantics.specs.declared.Effect.{Effect}
-use Rattle.semantics.specs.declared.Evaluation.{Evaluation}
-use Rattle.semantics.specs.declared.Evaluation.TheVariants.{Number, Undefined}
-use Rattle.semantics.specs.declared.Truth.{Truth}
-use Rattle.semantics.specs.declared.Truth.TheVariants.{Known, Undefined as Unknown}
 use Rattle.analysis.specs.Abstraction.{signs_of, name_values, abstract_memory}
 use Rattle.analysis.specs.Results.{assigned_sets, sets_with, stored_sets, results}
 use Rattle.analysis.specs.Signs.{may_index, signs_in, truths_in}
@@ -91,27 +88,27 @@ module _ (ns : List ℕ) (m : List ℤ) (room : length m ≡ cell_count ns) wher
   assigns_among x a t u d = by (value ns m a) refl d
     where
       by : (v : Evaluation) → value ns m a ≡ v → T (is_defined (store_to (at (first_cell ns x)) v)) → Memᴰ (abstract_memory ns (after m (store_to (at (first_cell ns x)) v))) (map (set ρ x) (map single (members (signs_in ρ a))))
-      by (Number z) p d =
+      by (Ok z) p d =
           let there = variable_there ns x t in
           let first : first_cell ns x ≡ first_cell ns x + 0 = omega arith in
           rw (ap (λ (c : ℕ). abstract_memory ns (set m c z)) first ∙ one_cell x 0 z there.0 (omega (arith, there.1)) there.1)
           (Memᴰ.map (set ρ x) (Memᴰ.map single (has_member (signs_in ρ a) (sign_of z) (value_sound ns m a u z p))))
-      by (Undefined f) p d = absurd d
+      by (Err f) p d = absurd d
 
   stores_among : (x : ℕ) (i a : Arith) → T (is_array ns x) → T (arith_named ns i) → T (arith_named ns a)
       → Among (store_to (place_of ns x (value ns m i)) (value ns m a)) (cond (may_index (signs_in ρ i)) (map (set ρ x) (stored_sets (get_or ρ x 0) (signs_in ρ a))) [])
   unfolding store_to place_of after is_defined
   stores_among x i a t u w d = by (value ns m i) refl d
     where
-      at_cell : (j : ℕ) → value ns m i ≡ Number (pos j) → j < get_or ns x 0 → (v : Evaluation) → value ns m a ≡ v → T (is_defined (store_to (at (first_cell ns x + j)) v))
+      at_cell : (j : ℕ) → value ns m i ≡ Ok (pos j) → j < get_or ns x 0 → (v : Evaluation) → value ns m a ≡ v → T (is_defined (store_to (at (first_cell ns x + j)) v))
           → Memᴰ (abstract_memory ns (after m (store_to (at (first_cell ns x + j)) v))) (cond (may_index (signs_in ρ i)) (map (set ρ x) (stored_sets (get_or ρ x 0) (signs_in ρ a))) [])
-      at_cell j p h (Number z) q d =
+      at_cell j p h (Ok z) q d =
           let there = array_there ns x t in
           rw (is_true (may_index (signs_in ρ i)) (may_index_lem (signs_in ρ i) j (value_sound ns m i u (pos j) p)))
           (array_among x j z there.0 (omega (arith, there.1)) (signs_in ρ a) (value_sound ns m a w z q))
-      at_cell j p h (Undefined f) q d = absurd d
+      at_cell j p h (Err f) q d = absurd d
 
-      inside : (j : ℕ) → value ns m i ≡ Number (pos j) → (b : Bool) → ltb j (get_or ns x 0) ≡ b
+      inside : (j : ℕ) → value ns m i ≡ Ok (pos j) → (b : Bool) → ltb j (get_or ns x 0) ≡ b
           → T (is_defined (store_to (cond b (at (first_cell ns x + j)) (nowhere (fault IndexTooLarge))) (value ns m a)))
           → Memᴰ (abstract_memory ns (after m (store_to (cond b (at (first_cell ns x + j)) (nowhere (fault IndexTooLarge))) (value ns m a)))) (cond (may_index (signs_in ρ i)) (map (set ρ x) (stored_sets (get_or ρ x 0) (signs_in ρ a))) [])
       inside j p true h d = at_cell j p (ltb-true j (get_or ns x 0) h) (value ns m a) refl d
@@ -119,18 +116,18 @@ module _ (ns : List ℕ) (m : List ℤ) (room : length m ≡ cell_count ns) wher
 
       by : (v : Evaluation) → value ns m i ≡ v → T (is_defined (store_to (place_of ns x v) (value ns m a)))
           → Memᴰ (abstract_memory ns (after m (store_to (place_of ns x v) (value ns m a)))) (cond (may_index (signs_in ρ i)) (map (set ρ x) (stored_sets (get_or ρ x 0) (signs_in ρ a))) [])
-      by (Number (pos j)) p d = inside j p (ltb j (get_or ns x 0)) refl d
-      by (Number (negsuc j)) p d = absurd d
-      by (Undefined f) p d = absurd d
+      by (Ok (pos j)) p d = inside j p (ltb j (get_or ns x 0)) refl d
+      by (Ok (negsuc j)) p d = absurd d
+      by (Err f) p d = absurd d
 
   condition_among : (b : Boolean) → T (boolean_named ns b) → Among (pass (truth_in ns m b)) (cond (truths_in ρ b).holds (ρ ∷ []) [])
   unfolding pass after is_defined among
   condition_among b t d = by (truth_in ns m b) refl d
     where
       by : (v : Truth) → truth_in ns m b ≡ v → T (is_defined (pass v)) → Memᴰ (abstract_memory ns (after m (pass v))) (cond (truths_in ρ b).holds (ρ ∷ []) [])
-      by (Known true) p d = rw (is_true (truths_in ρ b).holds (truth_sound ns m b t true p)) (Memᴰ.head refl)
-      by (Known false) p d = absurd d
-      by (Unknown f) p d = absurd d
+      by (Ok true) p d = rw (is_true (truths_in ρ b).holds (truth_sound ns m b t true p)) (Memᴰ.head refl)
+      by (Ok false) p d = absurd d
+      by (Err f) p d = absurd d
 
   pub effect_among : (x : Meaning) → T (meaning_named ns x) → T (is_defined (effect ns m x)) → Memᴰ (abstract_memory ns (after m (effect ns m x))) (results ρ x)
   unfolding meaning_named effect results after

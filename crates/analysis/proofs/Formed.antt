@@ -1,4 +1,5 @@
 -- The solver's own list passes questions 16 and 17: its records are whole, each at a node of the graph, with signs that are right for their names.
+use Rattle.std.specs.Prelude.{Err, Ok}
 use Rattle.std.proofs.Common.{◌≡◌, ℕ, zero, suc, ◌+◌, ◌*◌, ◌/◌, ◌%◌, ◌<◌, ◌≤◌, Bool, true, false, cond, ◌&&◌, T, eqb, ltb, List, [], ◌∷◌, ◌++◌, map, length, get_or, take, drop, set, sym, refl, ap, ◌∙◌, subst, true≢false, append_assoc, append-nil, add_assoc, add_comm, mul-zero, mul-suc, arith, length-append, length-drop, length-set, length-take-le, get_or-drop, take_all, get_or-set_other, get_or-take, get_or-set_same, take_at, ltb-true, lt-ltb, eq-eqb, ne_eqb, le-leb}
 use mathlib.Core.List.{flat_map, flatten, foldl}
 use native.Mathlib.Decide.{ℕ_discrete}
@@ -16,11 +17,9 @@ use Rattle.program.specs.Graph.{Graph, graph, edges, edge_count, node_count, edg
 use Rattle.program.specs.Meaning.{Meaning, nothing, assigns, stores, condition, meaning}
 use Rattle.program.specs.Parts.Preceding.{plain_graph}
 use Rattle.program.specs.Parts.Sorted.{arith_named, meaning_named}
-use Rattle.program.specs.Asking.{ask, then_ask, ask_each, is_refused}
+use Rattle.program.specs.Asking.{ask, then_ask, ask_each, is_refused, Validity}
 use Rattle.program.specs.declared.Construction.{Construction}
 use Rattle.program.specs.declared.Construction.TheVariants.{Nondeterministic}
-use Rattle.program.specs.declared.Validity.{Validity}
-use Rattle.program.specs.declared.Validity.TheVariants.{Fit, Refused}
 use Rattle.program.specs.Questions.{validity}
 use Rattle.program.proofs.Laws.{all_nothing, each_fit, two_nodes, edge_inside, few_nodes, edge_faithful, meaning_named_lem, plain_graph_lem}
 use Rattle.program.proofs.Lists.{Each, none, more, each_append, each_at}
@@ -133,7 +132,7 @@ results_formed {ns} {ρ} h (stores x i a) t =
 results_formed {ns} {ρ} h (condition b) t = each_either (truths_in ρ b).holds (more h none) none
 
 -- and the records of a start list of which 17 was answered yes
-start_formed : (ns initial : List ℕ) → initial_formed ns initial ≡ Fit → Each (FormedMemory ns) (records_of (initial_width ns) initial)
+start_formed : (ns initial : List ℕ) → initial_formed ns initial ≡ Ok tt → Each (FormedMemory ns) (records_of (initial_width ns) initial)
 unfolding records_of initial_formed initial_width record_count record_at byte_at
 start_formed ns initial fit =
     each_tabulate (length initial / length ns) (record_at (length ns) initial)
@@ -208,7 +207,7 @@ module _ (ns : List ℕ) (g : Graph) (room : ℕ) (low : g.nodes ≤ 65536) wher
         (λ e. descend_formed turns (k + 1) _ (successors_formed (get_or f.records k []) f (each_at k [] p.each (ltb-true _ _ e)) p)) p
 
     -- from a start list of which 17 was answered yes
-    solution_kept : 0 < g.nodes → (initial : List ℕ) → initial_formed ns initial ≡ Fit → Formed (solution ns g initial room)
+    solution_kept : 0 < g.nodes → (initial : List ℕ) → initial_formed ns initial ≡ Ok tt → Formed (solution ns g initial room)
     unfolding solution
     solution_kept some initial fit =
         descend_formed room 0 _
@@ -218,13 +217,13 @@ module _ (ns : List ℕ) (g : Graph) (room : ℕ) (low : g.nodes ≤ 65536) wher
 -- ---- The records as they lie
 
 -- what is asked of each and answered yes
-each_fits : (n : ℕ) (q : ℕ → Validity) → ((k : ℕ) → k < n → q k ≡ Fit) → ask_each n q ≡ Fit
+each_fits : (n : ℕ) (q : ℕ → Validity) → ((k : ℕ) → k < n → q k ≡ Ok tt) → ask_each n q ≡ Ok tt
 unfolding ask_each is_refused
-each_fits n q h = all_nothing is_refused Fit refl only n q h
+each_fits n q h = all_nothing is_refused (Ok tt) refl only n q h
   where
-    only : (v : Validity) → is_refused v ≡ false → v ≡ Fit
-    only Fit e = refl
-    only (Refused x) e = absurd (true≢false e)
+    only : (v : Validity) → is_refused v ≡ false → v ≡ Ok tt
+    only (Ok _) e = refl
+    only (Err x) e = absurd (true≢false e)
 
 module _ {width : ℕ} where
   pub flat_length : (rs : List (List ℕ)) → Each (λ r. length r ≡ width) rs → length (flatten rs) ≡ width * length rs
@@ -269,7 +268,7 @@ module _ (ns : List ℕ) (g : Graph) (room : ℕ) (few : room ≤ 4096) (rs : Li
   laid_at : (k : ℕ) → k < length rs → record_at (record_width ns) (flatten rs) k ≡ get_or rs k []
   laid_at k h = rw (← append-nil (flatten rs)) (record_laid rs sized_each [] k h)
 
-  node_passes : (k : ℕ) → k < length rs → ask (ltb (word_at (flatten rs) (record_width ns * k)) g.nodes) 17 (record_width ns * k) ≡ Fit
+  node_passes : (k : ℕ) → k < length rs → ask (ltb (word_at (flatten rs) (record_width ns * k)) g.nodes) 17 (record_width ns * k) ≡ Ok tt
   unfolding ask record_width
   node_passes k h =
       rw (lt-ltb (word_at (flatten rs) (record_width ns * k)) g.nodes
@@ -282,17 +281,17 @@ module _ (ns : List ℕ) (g : Graph) (room : ℕ) (few : room ≤ 4096) (rs : Li
       rw (← laid_at k h, get_or-take (length ns) (drop 2 (take (record_width ns) row)) i 0 l, get_or-drop 2 (take (record_width ns) row) i 0)
       (sym (get_or-take (record_width ns) row (2 + i) 0 (omega arith) ∙ get_or-drop (record_width ns * k) (flatten rs) (2 + i) 0 ∙ ap (λ n. get_or (flatten rs) n 0) (sym (add_assoc (record_width ns * k) 2 i))))
 
-  memory_passes : (k : ℕ) → k < length rs → memory_formed ns (flatten rs) (record_width ns * k + 2) ≡ Fit
+  memory_passes : (k : ℕ) → k < length rs → memory_formed ns (flatten rs) (record_width ns * k + 2) ≡ Ok tt
   unfolding memory_formed ask
   memory_passes k h = each_fits (length ns) _ (λ i l. rw (byte_read k h i l, (each_at k [] all.each h).memory.formed i l))
 
-  pub formed_list : solution_formed ns g (flatten rs) ≡ Fit
+  pub formed_list : solution_formed ns g (flatten rs) ≡ Ok tt
   unfolding solution_formed then_ask
   formed_list = rw count_laid (each_fits (length rs) _ (λ k h. rw (node_passes k h) (memory_passes k h)))
 
 -- ---- The solver's list for a file
 
-module _ (κ : Construction) (s initial : List ℕ) (fit : validity s ≡ Fit) (formed : initial_formed (sizes s) initial ≡ Fit) (room : ℕ) where
+module _ (κ : Construction) (s initial : List ℕ) (fit : validity s ≡ Ok tt) (formed : initial_formed (sizes s) initial ≡ Ok tt) (room : ℕ) where
   pub solution_list : FormedList (sizes s) (graph κ s).nodes room (solution (sizes s) (graph κ s) initial room).records
   unfolding edges edge_count node_count edge_at
   solution_list =

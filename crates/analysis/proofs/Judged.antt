@@ -1,6 +1,7 @@
 -- What the questions answered yes give a search, and the verdict by what was found.
+use Rattle.std.specs.Prelude.{Err, Ok}
 use Rattle.std.proofs.Common.{◌≡◌, ℕ, ◌+◌, ◌*◌, ◌/◌, ◌%◌, ◌<◌, ◌≤◌, Bool, true, ◌&&◌, eqb, leb, List, length, take, drop, sym, ap, ◌∙◌, subst, arith, leb-true}
-use Rattle.program.specs.Asking.{ask, ask_plain, then_ask}
+use Rattle.program.specs.Asking.{ask, ask_plain, then_ask, Validity}
 use Rattle.program.specs.File.{name_count, sizes}
 use Rattle.program.specs.Graph as drawn
 use Rattle.program.specs.Graph.{graph}
@@ -9,8 +10,6 @@ use Rattle.program.specs.Questions.{validity}
 use Rattle.program.specs.declared.Construction.{Construction}
 use Rattle.program.specs.declared.Construction.TheVariants.{Nondeterministic}
 use Rattle.program.specs.declared.Refusal.{Refusal}
-use Rattle.program.specs.declared.Validity.{Validity}
-use Rattle.program.specs.declared.Validity.TheVariants.{Fit, Refused}
 use Rattle.program.proofs.Laws.{sizes_length, counts, ask_fit, prepared_still}
 use Rattle.program.proofs.Tests.{two}
 use Rattle.analysis.specs.Parts.Judging.{names_in, marked}
@@ -42,33 +41,33 @@ module _ (ns : List ℕ) (names : ℕ) (p : names ≡ length ns) where
   both_asked initial solution b e v q = sym (q ∙ ap (λ (x : Bool). ask x 16 0) e ∙ rw p)
 
 -- what it gives where it is answered yes
-pub list_whole : (width : ℕ) (solution : List ℕ) (b : Bool) → b ≡ whole_records width solution → (v : Validity) → v ≡ ask b 16 0 → v ≡ Fit → whole_records width solution ≡ true
+pub list_whole : (width : ℕ) (solution : List ℕ) (b : Bool) → b ≡ whole_records width solution → (v : Validity) → v ≡ ask b 16 0 → v ≡ Ok tt → whole_records width solution ≡ true
 list_whole width solution b e v q f = sym e ∙ ask_fit b 16 0 (sym q ∙ f)
 
-pub both_whole_lem : (u v : ℕ) (initial solution : List ℕ) (b : Bool) → b ≡ (whole_records u initial && whole_records v solution) → (w : Validity) → w ≡ ask b 16 0 → w ≡ Fit
+pub both_whole_lem : (u v : ℕ) (initial solution : List ℕ) (b : Bool) → b ≡ (whole_records u initial && whole_records v solution) → (w : Validity) → w ≡ ask b 16 0 → w ≡ Ok tt
     → (whole_records u initial ≡ true) × (whole_records v solution ≡ true)
 both_whole_lem u v initial solution b e w q f = two (whole_records u initial) (whole_records v solution) (sym e ∙ ask_fit b 16 0 (sym q ∙ f))
 
 -- so many names, of a well-formed program
-pub some_names : (s : List ℕ) → validity s ≡ Fit → (names : ℕ) → names ≡ name_count s → (0 < names) × (names ≤ 32)
+pub some_names : (s : List ℕ) → validity s ≡ Ok tt → (names : ℕ) → names ≡ name_count s → (0 < names) × (names ≤ 32)
 some_names s fit names p = let c = counts s fit in (omega (arith, c.some_name), omega (arith, c.names))
 
 -- a well-formed program is prepared with its links, and still is with the set table; and so many names of a prepared one
-pub still : {κ : Construction} {s : List ℕ} {r : Validity} {old code graph : List ℕ} → PreparedLinked κ s r old graph → r ≡ Fit → TablePut old code → Prepared (sizes s) (drawn.graph κ s) code graph
+pub still : {κ : Construction} {s : List ℕ} {r : Validity} {old code graph : List ℕ} → PreparedLinked κ s r old graph → r ≡ Ok tt → TablePut old code → Prepared (sizes s) (drawn.graph κ s) code graph
 still p f t = prepared_still _ _ (code_long t.tabled) t.before (p.prepared.prepared f)
 
-pub ready : {κ : Construction} {s : List ℕ} {r : Validity} {old code graph : List ℕ} → PreparedLinked κ s r old graph → r ≡ Fit → TablePut old code → Ready code graph
+pub ready : {κ : Construction} {s : List ℕ} {r : Validity} {old code graph : List ℕ} → PreparedLinked κ s r old graph → r ≡ Ok tt → TablePut old code → Ready code graph
 ready p f t = record { ns = _; g = _; prepared = still p f t; linked = p.linked f; tabled = t.tabled }
 
 pub ready_names : {code graph : List ℕ} → Ready code graph → (0 < names_in code) × (names_in code ≤ 32)
 ready_names r = let c = r.prepared.coded in (omega (arith, c.some, c.count), omega (arith, c.few, c.count))
 
 -- the verdict of a program file: refused, or judged over its graph
-pub verdict_refused : (κ : Construction) (s initial solution : List ℕ) (x : Refusal) → validity s ≡ Refused x → verdict κ s initial solution ≡ Refuses x
+pub verdict_refused : (κ : Construction) (s initial solution : List ℕ) (x : Refusal) → validity s ≡ Err x → verdict κ s initial solution ≡ Refuses x
 unfolding verdict verdict_unless_refused
 verdict_refused κ s initial solution x p = rw p
 
-pub verdict_judged : (κ : Construction) (s initial solution : List ℕ) → validity s ≡ Fit → verdict κ s initial solution ≡ verdict_over (sizes s) (graph κ s) initial solution
+pub verdict_judged : (κ : Construction) (s initial solution : List ℕ) → validity s ≡ Ok tt → verdict κ s initial solution ≡ verdict_over (sizes s) (graph κ s) initial solution
 unfolding verdict verdict_unless_refused
 verdict_judged κ s initial solution p = rw p
 
@@ -87,11 +86,11 @@ promised κ s initial solution k = record {
 }
 
 -- the index mark of a list by itself: refused, or over the prepared program
-pub marking_refused : (s solution : List ℕ) (x : Refusal) → validity s ≡ Refused x → marking s solution ≡ Declined x
+pub marking_refused : (s solution : List ℕ) (x : Refusal) → validity s ≡ Err x → marking s solution ≡ Declined x
 unfolding marking solution_validity marking_by then_ask
 marking_refused s solution x p = rw p
 
-pub marking_marked : (s solution : List ℕ) → validity s ≡ Fit → marking s solution ≡ marked (sizes s) (graph Nondeterministic s) solution
+pub marking_marked : (s solution : List ℕ) → validity s ≡ Ok tt → marking s solution ≡ marked (sizes s) (graph Nondeterministic s) solution
 unfolding marking solution_validity marked then_ask
 marking_marked s solution p = rw p
 

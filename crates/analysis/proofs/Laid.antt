@@ -1,18 +1,17 @@
 -- How records lie in their lists.
+use Rattle.std.specs.Prelude.{Ok}
 use Rattle.std.proofs.Common.{◌≡◌, ℕ, zero, suc, ◌+◌, ◌*◌, ◌/◌, ◌<◌, ◌≤◌, Bool, true, false, cond, not, ◌&&◌, ◌||◌, eqb, leb, List, [], ◌∷◌, ◌++◌, length, get_or, take, drop, set, sym, refl, ap, ◌∙◌, append_assoc, le_refl, add-zero, add_assoc, suc-add, mul-le-mul_left, zero-add, mul-suc, arith, length-append, length-drop, length-set, length-take, length-take-le, get_or-take, take-take, drop-drop, take_at, ext_get_or, drop_at, ltb-true, ne_eqb}
 use mathlib.Core.Bool.{false≢true}
 use native.Mathlib.Decide.{ℕ_discrete, dec_lt}
 use native.Mathlib.Nat.{mul-div-le}
 use lib.ListN.{get_or-eq_default}
 use lib.Seq.{paste, take-nil, set_out, sets-eq}
-use Rattle.program.specs.Asking.{ask, ask_each, is_refused}
+use Rattle.program.specs.Asking.{ask, ask_each, is_refused, Validity}
 use Rattle.program.specs.Drawing.{over}
 use Rattle.program.specs.Parts.DrawingParts.{over_at}
 use Rattle.program.specs.File.{byte_at, word_at}
 use Rattle.program.specs.Graph.{Graph, word_bytes}
 use Rattle.program.specs.Parts.Prepared.{Coded, size_in, name_count_place}
-use Rattle.program.specs.declared.Validity.{Validity}
-use Rattle.program.specs.declared.Validity.TheVariants.{Fit}
 use Rattle.program.proofs.Asking.{then_first, then_second}
 use Rattle.signs.proofs.Lists.{or_false}
 use Rattle.program.proofs.Laws.{ask_fit, each_fit, each_goes_on, each_same}
@@ -67,8 +66,8 @@ formed_by_tests size b = by (eqb size 0) one_known
     by true k = or_false (eqb b 1 || eqb b 2 || eqb b 4)
     by false k = or_known (eqb b 1 || eqb b 2 || eqb b 4) (leb 1 b && leb b 7) k
 
-pub byte_passed : (code bytes : List ℕ) (at i : ℕ) → ask_each i (byte_asked code bytes at) ≡ Fit → well_formed (size_in code i) (byte_at bytes (at + i)) ≡ true
-    → ask_each (suc i) (byte_asked code bytes at) ≡ Fit
+pub byte_passed : (code bytes : List ℕ) (at i : ℕ) → ask_each i (byte_asked code bytes at) ≡ Ok tt → well_formed (size_in code i) (byte_at bytes (at + i)) ≡ true
+    → ask_each (suc i) (byte_asked code bytes at) ≡ Ok tt
 unfolding ask is_refused
 byte_passed code bytes at i e p = each_goes_on (byte_asked code bytes at) i _ _ e refl refl (rw p)
 
@@ -204,8 +203,8 @@ module _ (at names : ℕ) (rho : List ℕ) (c : Change) (f : Front names rho) (b
 
 -- ---- What question 17 says of a list where it is answered yes
 
-module _ (ns : List ℕ) (g : Graph) (bytes : List ℕ) (fit : solution_formed ns g bytes ≡ Fit) (k : ℕ) (h : k < record_count (record_width ns) bytes) where
-  record_fit : record_formed ns g.nodes bytes (record_width ns * k) ≡ Fit
+module _ (ns : List ℕ) (g : Graph) (bytes : List ℕ) (fit : solution_formed ns g bytes ≡ Ok tt) (k : ℕ) (h : k < record_count (record_width ns) bytes) where
+  record_fit : record_formed ns g.nodes bytes (record_width ns * k) ≡ Ok tt
   unfolding solution_formed record_formed
   record_fit = each_fit _ _ fit k h
 
@@ -214,12 +213,12 @@ module _ (ns : List ℕ) (g : Graph) (bytes : List ℕ) (fit : solution_formed n
   unfolding record_formed
   node_formed = ltb-true _ _ (ask_fit _ 17 _ (then_first _ _ record_fit))
 
-  pub memory_formed_lem : memory_formed ns bytes (record_width ns * k + 2) ≡ Fit
+  pub memory_formed_lem : memory_formed ns bytes (record_width ns * k + 2) ≡ Ok tt
   unfolding record_formed
   memory_formed_lem = then_second _ _ record_fit
 
 -- each byte of a memory is right for its name
-pub byte_formed : (ns bytes : List ℕ) (at : ℕ) → memory_formed ns bytes at ≡ Fit → (i : ℕ) → i < length ns → well_formed (get_or ns i 0) (byte_at bytes (at + i)) ≡ true
+pub byte_formed : (ns bytes : List ℕ) (at : ℕ) → memory_formed ns bytes at ≡ Ok tt → (i : ℕ) → i < length ns → well_formed (get_or ns i 0) (byte_at bytes (at + i)) ≡ true
 unfolding memory_formed
 byte_formed ns bytes at fit i h = ask_fit _ 17 _ (each_fit _ _ fit i h)
 

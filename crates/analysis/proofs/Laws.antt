@@ -1,4 +1,5 @@
 -- The theorems on sheets for the crates above and for a reader, on one page. Their proofs are in the modules that they cite.
+use Rattle.std.specs.Prelude.{Ok}
 use Rattle.std.proofs.Common.{◌≡◌, ℕ, ◌≤◌, List}
 use mathlib.Core.List.{flatten}
 use Rattle.program.specs.File.{sizes}
@@ -8,7 +9,6 @@ use Rattle.program.specs.Questions.{validity}
 use Rattle.program.specs.Syntax.{Command}
 use Rattle.program.specs.declared.Construction.{Construction}
 use Rattle.program.specs.declared.Construction.TheVariants.{Nondeterministic}
-use Rattle.program.specs.declared.Validity.TheVariants.{Fit}
 use Rattle.analysis.specs.Index.{boolean_indexes}
 use Rattle.analysis.specs.Records.{initial_formed}
 use Rattle.analysis.specs.Signs.{truths_in}
@@ -37,7 +37,7 @@ third_term = ThirdTerm.third_term
 -- ---- The index mark
 
 -- (order 8) it is the same for every construction: the first edge with an index that may be negative has it in its own guard
-pub mark_same : (s : List ℕ) → validity s ≡ Fit → (κ : Construction) (solution : List ℕ) → index_mark (sizes s) (graph κ s) solution ≡ index_mark (sizes s) (graph Nondeterministic s) solution
+pub mark_same : (s : List ℕ) → validity s ≡ Ok tt → (κ : Construction) (solution : List ℕ) → index_mark (sizes s) (graph κ s) solution ≡ index_mark (sizes s) (graph Nondeterministic s) solution
 mark_same = Marks.mark_same
 
 -- ---- The exit of a do
@@ -52,7 +52,7 @@ exit_indexes = Exits.exit_indexes
 -- ---- The solver's list
 
 -- the list for a well-formed file and start list has room records at most, each at a node of the graph and with signs that are right for their names
-module _ (κ : Construction) (s initial : List ℕ) (fit : validity s ≡ Fit) (formed : initial_formed (sizes s) initial ≡ Fit) (room : ℕ) where
+module _ (κ : Construction) (s initial : List ℕ) (fit : validity s ≡ Ok tt) (formed : initial_formed (sizes s) initial ≡ Ok tt) (room : ℕ) where
   pub solution_list : FormedList (sizes s) (graph κ s).nodes room (solution (sizes s) (graph κ s) initial room).records
   solution_list = Formed.solution_list κ s initial fit formed room
 

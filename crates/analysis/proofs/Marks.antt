@@ -1,5 +1,6 @@
 -- The index mark is the same for every construction: where an action has an index that may be negative, its own guard has it or that of a lower edge out of its node, so
 -- the first such edge is the same without the earlier guards. Of index sets this uses only that those of ∧ are its sides' and those of ¬ its part's.
+use Rattle.std.specs.Prelude.{Ok, None, Option, Some}
 use Rattle.std.proofs.Common.{◌≡◌, ℕ, zero, suc, ◌<◌, ◌≤◌, Bool, true, false, not, ◌&&◌, ◌||◌, ltb, List, [], ◌∷◌, map, length, get_or, sym, refl, ap, ◌∙◌, arith, lt-ltb, eq-eqb, eqb-true}
 use mathlib.Core.Bool.{false≢true, or_assoc, or-true, or-false}
 use mathlib.Core.List.{flat_map}
@@ -14,9 +15,6 @@ use Rattle.program.specs.Questions.{validity}
 use Rattle.program.specs.Syntax.{Boolean, negation, skip}
 use Rattle.program.specs.declared.Construction.{Construction}
 use Rattle.program.specs.declared.Construction.TheVariants.{Nondeterministic}
-use Rattle.program.specs.declared.First.{First}
-use Rattle.program.specs.declared.First.TheVariants.{At, Nothing}
-use Rattle.program.specs.declared.Validity.TheVariants.{Fit}
 use Rattle.program.proofs.Guards.{Joins}
 use Rattle.program.proofs.Laws.{selected_any, all_before, first_same, such_same, none_such, such_none, first_such_lem, such_first, edge_follows, plain_graph_lem}
 use Rattle.program.proofs.Tests.{two, both}
@@ -31,11 +29,11 @@ use Rattle.analysis.proofs.Negative.{any_append}
 same_first : (n : ℕ) (p q : ℕ → Bool) → ((e : ℕ) → e < n → q e ≡ true → p e ≡ true) → ((e : ℕ) → e < n → ((k : ℕ) → k ≤ e → q k ≡ false) → p e ≡ false) → first_such n p ≡ first_such n q
 same_first n p q own none = by (first_such n q) refl
   where
-    by : (x : First) → first_such n q ≡ x → first_such n p ≡ x
-    by (At k) e =
+    by : (x : Option ℕ) → first_such n q ≡ x → first_such n p ≡ x
+    by (Some k) e =
         let f = such_first n q k e in
         first_such_lem n p k (record { below = f.below; passes = own k f.below f.passes; before = λ j h. none j (omega (arith, f.below)) (λ i l. f.before i (omega arith)) })
-    by Nothing e = none_such n p (λ k h. none k h (λ i l. such_none n q e i (omega arith)))
+    by None e = none_such n p (λ k h. none k h (λ i l. such_none n q e i (omega arith)))
 
 not_false : (b : Bool) → b ≡ false → not b ≡ true
 not_false b e = rw e
@@ -160,7 +158,7 @@ module _ (g : Graph) where
           ∙ such_same (length g.edges) _ _ (λ e h. rw (count_plain, edge_plain e))
 
 -- of a fit file, on every construction's graph
-pub mark_same : (s : List ℕ) → validity s ≡ Fit → (κ : Construction) (solution : List ℕ) → index_mark (sizes s) (graph κ s) solution ≡ index_mark (sizes s) (graph Nondeterministic s) solution
+pub mark_same : (s : List ℕ) → validity s ≡ Ok tt → (κ : Construction) (solution : List ℕ) → index_mark (sizes s) (graph κ s) solution ≡ index_mark (sizes s) (graph Nondeterministic s) solution
 unfolding edges edge_count
 mark_same s fit κ solution =
     own_mark (graph κ s) (edge_follows s fit κ) (sizes s) solution

@@ -1,4 +1,5 @@
 -- Where an action is undefined for reason 34, one of its index sets has minus.
+use Rattle.std.specs.Prelude.{Err, Ok}
 use Rattle.std.proofs.Common.{◌≡◌, ℕ, true, false, ◌&&◌, T, List, ◌∷◌, ◌++◌, ℤ, refl, ap, ◌∙◌, arith}
 use mir.Facts.{and_yes}
 use Rattle.signs.specs.Number.{reason_number}
@@ -8,13 +9,9 @@ use Rattle.program.specs.Parts.Sorted.{meaning_named, arith_named, boolean_named
 use Rattle.program.specs.Syntax.{Arith, Boolean}
 use Rattle.program.specs.Meaning.{Meaning, nothing, assigns, stores, condition}
 use Rattle.semantics.specs.Action.{pass, store_to, effect}
-use Rattle.semantics.specs.Expression.{fault, fault_number, Place, at, nowhere, place_of, value, truth_in}
+use Rattle.semantics.specs.Expression.{fault, fault_number, Place, at, nowhere, place_of, value, truth_in, Evaluation, Truth}
 use Rattle.semantics.specs.declared.Effect.TheVariants.{Undefined as Fails, Unchanged, Stored}
-use Rattle.semantics.specs.declared.Evaluation.{Evaluation}
-use Rattle.semantics.specs.declared.Evaluation.TheVariants.{Number, Undefined}
 use Rattle.semantics.specs.declared.Fault.{Fault}
-use Rattle.semantics.specs.declared.Truth.{Truth}
-use Rattle.semantics.specs.declared.Truth.TheVariants.{Known, Undefined as Unknown}
 use Rattle.analysis.specs.Abstraction.{abstract_memory}
 use Rattle.analysis.specs.Index.{arith_indexes, boolean_indexes, index_sets, may_be_negative}
 use Rattle.analysis.specs.Signs.{signs_in}
@@ -37,8 +34,8 @@ module _ (ns : List ℕ) (m : List ℤ) (f : Fault) (negative : T (is_negative_i
   assigns_minus x a t e = by (value ns m a) refl e
     where
       by : (v : Evaluation) → value ns m a ≡ v → store_to (at (first_cell ns x)) v ≡ Fails f → SomeMinus (arith_indexes ρ a)
-      by (Number z) p e = stored_defined (first_cell ns x) z f e
-      by (Undefined g) p e = let q : g ≡ f = cc in value_minus ns m a t f (p ∙ ap Undefined q) negative
+      by (Ok z) p e = stored_defined (first_cell ns x) z f e
+      by (Err g) p e = let q : g ≡ f = cc in value_minus ns m a t f (p ∙ ap Err q) negative
 
   stores_minus : (x : ℕ) (i a : Arith) → T (arith_named ns i) → T (arith_named ns a)
       → store_to (place_of ns x (value ns m i)) (value ns m a) ≡ Fails f → SomeMinus (signs_in ρ i ∷ (arith_indexes ρ i ++ arith_indexes ρ a))
@@ -46,10 +43,10 @@ module _ (ns : List ℕ) (m : List ℤ) (f : Fault) (negative : T (is_negative_i
   stores_minus x i a t u e = by (place_of ns x (value ns m i)) (value ns m a) refl refl e
     where
       by : (p : Place) (v : Evaluation) → place_of ns x (value ns m i) ≡ p → value ns m a ≡ v → store_to p v ≡ Fails f → SomeMinus (signs_in ρ i ∷ (arith_indexes ρ i ++ arith_indexes ρ a))
-      by (at c) (Number z) p q e = stored_defined c z f e
-      by (at c) (Undefined g) p q e =
+      by (at c) (Ok z) p q e = stored_defined c z f e
+      by (at c) (Err g) p q e =
           let same : g ≡ f = cc in
-          second_minus (signs_in ρ i ∷ arith_indexes ρ i) (arith_indexes ρ a) (value_minus ns m a u f (q ∙ ap Undefined same) negative)
+          second_minus (signs_in ρ i ∷ arith_indexes ρ i) (arith_indexes ρ a) (value_minus ns m a u f (q ∙ ap Err same) negative)
       by (nowhere g) v p q e =
           let same : g ≡ f = cc in
           first_minus (signs_in ρ i ∷ arith_indexes ρ i) (arith_indexes ρ a)
@@ -60,9 +57,9 @@ module _ (ns : List ℕ) (m : List ℤ) (f : Fault) (negative : T (is_negative_i
   condition_minus b t e = by (truth_in ns m b) refl e
     where
       by : (v : Truth) → truth_in ns m b ≡ v → pass v ≡ Fails f → SomeMinus (boolean_indexes ρ b)
-      by (Known true) p e = unchanged_defined f e
-      by (Known false) p e = let q : f ≡ fault ConditionFalse = cc in absurd (rw q at negative)
-      by (Unknown g) p e = let q : g ≡ f = cc in truth_minus ns m b t f (p ∙ ap Unknown q) negative
+      by (Ok true) p e = unchanged_defined f e
+      by (Ok false) p e = let q : f ≡ fault ConditionFalse = cc in absurd (rw q at negative)
+      by (Err g) p e = let q : g ≡ f = cc in truth_minus ns m b t f (p ∙ ap Err q) negative
 
   -- an action that is undefined for reason 34
   pub effect_minus : (x : Meaning) → T (meaning_named ns x) → effect ns m x ≡ Fails f → T (may_be_negative ρ x)

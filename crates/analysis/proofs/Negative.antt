@@ -1,4 +1,5 @@
 -- Where an expression, a condition or an action is undefined for reason 34, one of its index sets has minus.
+use Rattle.std.specs.Prelude.{Err, Ok, Result}
 use Rattle.std.proofs.Common.{◌≡◌, ℕ, ◌+◌, Bool, true, false, cond, not, ◌&&◌, ◌||◌, T, eqb, ltb, List, ◌∷◌, ◌++◌, get_or, ℤ, pos, negsuc, ◌+ℤ◌, ◌-ℤ◌, ◌*ℤ◌, refl, ap, ◌∙◌, arith}
 use lib.Signed.{quot_z}
 use mir.Facts.{and_yes}
@@ -11,18 +12,12 @@ use Rattle.signs.specs.declared.Operator.TheVariants.{Add, Sub, Mul, Div, Pow}
 use Rattle.signs.specs.declared.Reason.{Reason}
 use Rattle.signs.specs.declared.Reason.TheVariants.{DivisorZero, ExponentNegative, IndexTooLarge, OutOfRange}
 use Rattle.signs.specs.declared.Sign.TheVariants.{Minus}
-use Rattle.signs.specs.declared.Value.{Value}
-use Rattle.signs.specs.declared.Value.TheVariants.{Number as Exactly, Undefined as Unfit}
 use Rattle.signs.proofs.Lists.{or_left, or_right, any_of_append}
 use Rattle.program.specs.File.{first_cell, is_array}
 use Rattle.program.specs.Parts.Sorted.{arith_named, boolean_named}
 use Rattle.program.specs.Syntax.{Arith, number, variable, element, operator, Boolean, truth, comparison, conjunction, short_circuit, negation}
-use Rattle.semantics.specs.Expression.{cell_value, fault, fault_number, Place, at, nowhere, place_of, value_at, operated, combine, value, compare_values, conjoin, and_then, negate, truth_in}
-use Rattle.semantics.specs.declared.Evaluation.{Evaluation}
-use Rattle.semantics.specs.declared.Evaluation.TheVariants.{Number, Undefined}
+use Rattle.semantics.specs.Expression.{cell_value, fault, fault_number, Place, at, nowhere, place_of, value_at, operated, combine, value, compare_values, conjoin, and_then, negate, truth_in, Evaluation, Truth}
 use Rattle.semantics.specs.declared.Fault.{Fault}
-use Rattle.semantics.specs.declared.Truth.{Truth}
-use Rattle.semantics.specs.declared.Truth.TheVariants.{Known, Undefined as Unknown}
 use Rattle.analysis.specs.Abstraction.{abstract_memory}
 use Rattle.analysis.specs.Index.{arith_indexes, boolean_indexes, any_negative}
 use Rattle.analysis.specs.Signs.{signs_in}
@@ -48,35 +43,35 @@ pub second_minus : (xs ys : List ℕ) → SomeMinus ys → SomeMinus (xs ++ ys)
 second_minus xs ys t = rw (any_append xs ys) (or_right (any_negative xs) (any_negative ys) t)
 
 -- where an evaluation is a number, it is not undefined; where a truth is known, neither
-pub no_fault {ℓ} : {A : Type ℓ} (z : ℤ) (f : Fault) → Number z ≡ Undefined f → A
+pub no_fault {ℓ} : {A : Type ℓ} (z : ℤ) (f : Fault) → Ok z ≡ Err f → A
 no_fault z f e = absurd (let z : ◌≡◌ {A = ℕ} 0 1 = cc in omega arith)
 
-pub no_doubt {ℓ} : {A : Type ℓ} (v : Bool) (f : Fault) → Known v ≡ Unknown f → A
+pub no_doubt {ℓ} : {A : Type ℓ} (v : Bool) (f : Fault) → Ok v ≡ Err f → A
 no_doubt v f e = absurd (let z : ◌≡◌ {A = ℕ} 0 1 = cc in omega arith)
 
 -- arithmetic is never undefined for 34
-exact_never : (z : ℤ) (s : Reason) → exact z ≡ Unfit s → T (eqb (reason_number s) 34) → ⊥
+exact_never : (z : ℤ) (s : Reason) → exact z ≡ Err s → T (eqb (reason_number s) 34) → ⊥
 unfolding exact reason_number
 exact_never z s e u = by (in_range z) e
   where
-    by : (b : Bool) → cond b (Exactly z) (Unfit OutOfRange) ≡ Unfit s → ⊥
+    by : (b : Bool) → cond b (Ok z) (Err OutOfRange) ≡ Err s → ⊥
     by true e = let z : ◌≡◌ {A = ℕ} 0 1 = cc in omega arith
     by false e = let p : s ≡ OutOfRange = cc in (rw p at u)
 
-quotient_never : (a b : ℤ) (s : Reason) → quotient a b ≡ Unfit s → T (eqb (reason_number s) 34) → ⊥
+quotient_never : (a b : ℤ) (s : Reason) → quotient a b ≡ Err s → T (eqb (reason_number s) 34) → ⊥
 unfolding quotient reason_number
 quotient_never a b s e u = by (equal b (pos 0)) e
   where
-    by : (c : Bool) → cond c (Unfit DivisorZero) (exact (quot_z a b)) ≡ Unfit s → ⊥
+    by : (c : Bool) → cond c (Err DivisorZero) (exact (quot_z a b)) ≡ Err s → ⊥
     by true e = let p : s ≡ DivisorZero = cc in (rw p at u)
     by false e = exact_never (quot_z a b) s e u
 
-raised_never : (a b : ℤ) (s : Reason) → raised a b ≡ Unfit s → T (eqb (reason_number s) 34) → ⊥
+raised_never : (a b : ℤ) (s : Reason) → raised a b ≡ Err s → T (eqb (reason_number s) 34) → ⊥
 unfolding raised reason_number
 raised_never a (pos n) s e u = exact_never (power a n) s e u
 raised_never a (negsuc n) s e u = let p : s ≡ ExponentNegative = cc in (rw p at u)
 
-apply_never : (o : Operator) (a b : ℤ) (s : Reason) → apply o a b ≡ Unfit s → T (eqb (reason_number s) 34) → ⊥
+apply_never : (o : Operator) (a b : ℤ) (s : Reason) → apply o a b ≡ Err s → T (eqb (reason_number s) 34) → ⊥
 unfolding apply
 apply_never Add a b s e u = exact_never (a +ℤ b) s e u
 apply_never Sub a b s e u = exact_never (a -ℤ b) s e u
@@ -90,7 +85,7 @@ module _ (ns : List ℕ) (m : List ℤ) where
 
   -- an index is evaluated: where that is undefined for 34 its own sets have minus, and where it is below zero its set has
   abbrev ValueMinus : Arith → Type 0
-  ValueMinus a = (f : Fault) → value ns m a ≡ Undefined f → T (is_negative_index f) → SomeMinus (arith_indexes ρ a)
+  ValueMinus a = (f : Fault) → value ns m a ≡ Err f → T (is_negative_index f) → SomeMinus (arith_indexes ρ a)
 
   pub place_minus : (x : ℕ) (i : Arith) → T (arith_named ns i) → ValueMinus i → (f : Fault) → place_of ns x (value ns m i) ≡ nowhere f → T (is_negative_index f) → SomeMinus (signs_in ρ i ∷ arith_indexes ρ i)
   unfolding place_of any_of any_negative is_negative_index fault_number reason_number sign_of
@@ -101,17 +96,17 @@ module _ (ns : List ℕ) (m : List ℤ) where
       fits j false e = let p : f ≡ fault IndexTooLarge = cc in absurd (rw p at u)
 
       by : (v : Evaluation) → value ns m i ≡ v → place_of ns x v ≡ nowhere f → SomeMinus (signs_in ρ i ∷ arith_indexes ρ i)
-      by (Number (pos j)) v e = fits j (ltb j (get_or ns x 0)) e
-      by (Number (negsuc j)) v e = or_left (has (signs_in ρ i) Minus) (any_negative (arith_indexes ρ i)) (value_sound ns m i t (negsuc j) v)
-      by (Undefined g) v e =
+      by (Ok (pos j)) v e = fits j (ltb j (get_or ns x 0)) e
+      by (Ok (negsuc j)) v e = or_left (has (signs_in ρ i) Minus) (any_negative (arith_indexes ρ i)) (value_sound ns m i t (negsuc j) v)
+      by (Err g) v e =
           let p : g ≡ f = cc in
-          or_right (has (signs_in ρ i) Minus) (any_negative (arith_indexes ρ i)) (below f (v ∙ ap Undefined p) u)
+          or_right (has (signs_in ρ i) Minus) (any_negative (arith_indexes ρ i)) (below f (v ∙ ap Err p) u)
 
   element_minus : (k x : ℕ) (i : Arith) → T (arith_named ns i) → ValueMinus i → ValueMinus (element k x i)
   unfolding value value_at arith_indexes
   element_minus k x i t below f e u = by (place_of ns x (value ns m i)) refl e
     where
-      by : (p : Place) → place_of ns x (value ns m i) ≡ p → value_at m p ≡ Undefined f → SomeMinus (signs_in ρ i ∷ arith_indexes ρ i)
+      by : (p : Place) → place_of ns x (value ns m i) ≡ p → value_at m p ≡ Err f → SomeMinus (signs_in ρ i ∷ arith_indexes ρ i)
       by (at c) p e = no_fault (cell_value m c) f e
       by (nowhere g) p e = let q : g ≡ f = cc in place_minus x i t below f (p ∙ ap nowhere q) u
 
@@ -119,16 +114,16 @@ module _ (ns : List ℕ) (m : List ℤ) where
   unfolding value combine operated arith_indexes is_negative_index fault_number
   operator_minus k o a b left right f e u = sides (value ns m a) (value ns m b) refl refl e
     where
-      exactly : (l r : ℤ) (v : Value) → apply o l r ≡ v → operated v ≡ Undefined f → SomeMinus (arith_indexes ρ a ++ arith_indexes ρ b)
-      exactly l r (Exactly w) v e = no_fault w f e
-      exactly l r (Unfit s) v e = let q : f ≡ fault s = cc in absurd (apply_never o l r s v (rw q at u))
+      exactly : (l r : ℤ) (v : Result ℤ Reason) → apply o l r ≡ v → operated v ≡ Err f → SomeMinus (arith_indexes ρ a ++ arith_indexes ρ b)
+      exactly l r (Ok w) v e = no_fault w f e
+      exactly l r (Err s) v e = let q : f ≡ fault s = cc in absurd (apply_never o l r s v (rw q at u))
 
-      sides : (x y : Evaluation) → value ns m a ≡ x → value ns m b ≡ y → combine o x y ≡ Undefined f → SomeMinus (arith_indexes ρ a ++ arith_indexes ρ b)
-      sides (Number l) (Number r) p q e = exactly l r (apply o l r) refl e
-      sides (Number l) (Undefined g) p q e = second_minus (arith_indexes ρ a) (arith_indexes ρ b) (right f (q ∙ e) u)
-      sides (Undefined g) y p q e = first_minus (arith_indexes ρ a) (arith_indexes ρ b) (left f (p ∙ e) u)
+      sides : (x y : Evaluation) → value ns m a ≡ x → value ns m b ≡ y → combine o x y ≡ Err f → SomeMinus (arith_indexes ρ a ++ arith_indexes ρ b)
+      sides (Ok l) (Ok r) p q e = exactly l r (apply o l r) refl e
+      sides (Ok l) (Err g) p q e = second_minus (arith_indexes ρ a) (arith_indexes ρ b) (right f (q ∙ e) u)
+      sides (Err g) y p q e = first_minus (arith_indexes ρ a) (arith_indexes ρ b) (left f (p ∙ e) u)
 
-  pub value_minus : (a : Arith) → T (arith_named ns a) → (f : Fault) → value ns m a ≡ Undefined f → T (is_negative_index f) → SomeMinus (arith_indexes ρ a)
+  pub value_minus : (a : Arith) → T (arith_named ns a) → (f : Fault) → value ns m a ≡ Err f → T (is_negative_index f) → SomeMinus (arith_indexes ρ a)
   unfolding arith_named value
   value_minus (number k w) t f e u = no_fault w f e
   value_minus (variable k x) t f e u = no_fault (cell_value m (first_cell ns x)) f e
@@ -141,46 +136,46 @@ module _ (ns : List ℕ) (m : List ℤ) where
 
   -- the same of a condition
   abbrev TruthMinus : Boolean → Type 0
-  TruthMinus b = (f : Fault) → truth_in ns m b ≡ Unknown f → T (is_negative_index f) → SomeMinus (boolean_indexes ρ b)
+  TruthMinus b = (f : Fault) → truth_in ns m b ≡ Err f → T (is_negative_index f) → SomeMinus (boolean_indexes ρ b)
 
   comparison_minus : (k : ℕ) (c : Comparison) (a b : Arith) → ValueMinus a → ValueMinus b → TruthMinus (comparison k c a b)
   unfolding truth_in compare_values boolean_indexes
   comparison_minus k c a b left right f e u = sides (value ns m a) (value ns m b) refl refl e
     where
-      sides : (x y : Evaluation) → value ns m a ≡ x → value ns m b ≡ y → compare_values c x y ≡ Unknown f → SomeMinus (arith_indexes ρ a ++ arith_indexes ρ b)
-      sides (Number l) (Number r) p q e = no_doubt (compares c l r) f e
-      sides (Number l) (Undefined g) p q e =
-          let same : g ≡ f = cc in second_minus (arith_indexes ρ a) (arith_indexes ρ b) (right f (q ∙ ap Undefined same) u)
-      sides (Undefined g) y p q e =
-          let same : g ≡ f = cc in first_minus (arith_indexes ρ a) (arith_indexes ρ b) (left f (p ∙ ap Undefined same) u)
+      sides : (x y : Evaluation) → value ns m a ≡ x → value ns m b ≡ y → compare_values c x y ≡ Err f → SomeMinus (arith_indexes ρ a ++ arith_indexes ρ b)
+      sides (Ok l) (Ok r) p q e = no_doubt (compares c l r) f e
+      sides (Ok l) (Err g) p q e =
+          let same : g ≡ f = cc in second_minus (arith_indexes ρ a) (arith_indexes ρ b) (right f (q ∙ ap Err same) u)
+      sides (Err g) y p q e =
+          let same : g ≡ f = cc in first_minus (arith_indexes ρ a) (arith_indexes ρ b) (left f (p ∙ ap Err same) u)
 
   conjunction_minus : (k : ℕ) (a b : Boolean) → TruthMinus a → TruthMinus b → TruthMinus (conjunction k a b)
   unfolding truth_in conjoin boolean_indexes
   conjunction_minus k a b left right f e u = sides (truth_in ns m a) (truth_in ns m b) refl refl e
     where
-      sides : (x y : Truth) → truth_in ns m a ≡ x → truth_in ns m b ≡ y → conjoin x y ≡ Unknown f → SomeMinus (boolean_indexes ρ a ++ boolean_indexes ρ b)
-      sides (Known l) (Known r) p q e = no_doubt (l && r) f e
-      sides (Known l) (Unknown g) p q e = second_minus (boolean_indexes ρ a) (boolean_indexes ρ b) (right f (q ∙ e) u)
-      sides (Unknown g) y p q e = first_minus (boolean_indexes ρ a) (boolean_indexes ρ b) (left f (p ∙ e) u)
+      sides : (x y : Truth) → truth_in ns m a ≡ x → truth_in ns m b ≡ y → conjoin x y ≡ Err f → SomeMinus (boolean_indexes ρ a ++ boolean_indexes ρ b)
+      sides (Ok l) (Ok r) p q e = no_doubt (l && r) f e
+      sides (Ok l) (Err g) p q e = second_minus (boolean_indexes ρ a) (boolean_indexes ρ b) (right f (q ∙ e) u)
+      sides (Err g) y p q e = first_minus (boolean_indexes ρ a) (boolean_indexes ρ b) (left f (p ∙ e) u)
 
   short_circuit_minus : (k : ℕ) (a b : Boolean) → TruthMinus a → TruthMinus b → TruthMinus (short_circuit k a b)
   unfolding truth_in and_then boolean_indexes
   short_circuit_minus k a b left right f e u = by (truth_in ns m a) refl e
     where
-      by : (x : Truth) → truth_in ns m a ≡ x → and_then x (truth_in ns m b) ≡ Unknown f → SomeMinus (boolean_indexes ρ a ++ boolean_indexes ρ b)
-      by (Known true) p e = second_minus (boolean_indexes ρ a) (boolean_indexes ρ b) (right f e u)
-      by (Known false) p e = no_doubt false f e
-      by (Unknown g) p e = first_minus (boolean_indexes ρ a) (boolean_indexes ρ b) (left f (p ∙ e) u)
+      by : (x : Truth) → truth_in ns m a ≡ x → and_then x (truth_in ns m b) ≡ Err f → SomeMinus (boolean_indexes ρ a ++ boolean_indexes ρ b)
+      by (Ok true) p e = second_minus (boolean_indexes ρ a) (boolean_indexes ρ b) (right f e u)
+      by (Ok false) p e = no_doubt false f e
+      by (Err g) p e = first_minus (boolean_indexes ρ a) (boolean_indexes ρ b) (left f (p ∙ e) u)
 
   negation_minus : (k : ℕ) (a : Boolean) → TruthMinus a → TruthMinus (negation k a)
   unfolding truth_in negate boolean_indexes
   negation_minus k a inner f e u = by (truth_in ns m a) refl e
     where
-      by : (x : Truth) → truth_in ns m a ≡ x → negate x ≡ Unknown f → SomeMinus (boolean_indexes ρ a)
-      by (Known l) p e = no_doubt (not l) f e
-      by (Unknown g) p e = inner f (p ∙ e) u
+      by : (x : Truth) → truth_in ns m a ≡ x → negate x ≡ Err f → SomeMinus (boolean_indexes ρ a)
+      by (Ok l) p e = no_doubt (not l) f e
+      by (Err g) p e = inner f (p ∙ e) u
 
-  pub truth_minus : (b : Boolean) → T (boolean_named ns b) → (f : Fault) → truth_in ns m b ≡ Unknown f → T (is_negative_index f) → SomeMinus (boolean_indexes ρ b)
+  pub truth_minus : (b : Boolean) → T (boolean_named ns b) → (f : Fault) → truth_in ns m b ≡ Err f → T (is_negative_index f) → SomeMinus (boolean_indexes ρ b)
   unfolding boolean_named truth_in
   truth_minus (truth k) t f e u = no_doubt true f e
   truth_minus (comparison k c a b) t f e u =

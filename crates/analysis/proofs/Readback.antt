@@ -1,13 +1,10 @@
 -- Rows of verdicts, marks, lists and splits read back: two replies with the same row are the same. Of verdicts only where a refusal has a question's
 -- number: 41 and a record are 41's row, and would be that of a question 41.
+use Rattle.std.specs.Prelude.{Err, Ok, None, Option, Some}
 use Rattle.std.proofs.Common.{◌≡◌, ℕ, ◌≤◌, cond, eqb, List, [], ◌∷◌, length, get_or, refl, ap, arith, ne_eqb}
-use Rattle.program.specs.Asking.{validity_numbers}
+use Rattle.program.specs.Asking.{validity_numbers, Validity}
 use Rattle.program.specs.declared.Construction.{Construction}
-use Rattle.program.specs.declared.First.{First}
-use Rattle.program.specs.declared.First.TheVariants.{At, Nothing}
 use Rattle.program.specs.declared.Refusal.{Refusal}
-use Rattle.program.specs.declared.Validity.{Validity}
-use Rattle.program.specs.declared.Validity.TheVariants.{Fit, Refused}
 use Rattle.program.proofs.Never.{never}
 use Rattle.program.proofs.Laws.{same_row, refusal_read, placed_ask, validity_placed}
 use Rattle.program.proofs.Places.{Placed}
@@ -74,19 +71,19 @@ verdict_row_lem v w p q = same_row verdict_numbers (λ l. verdict_read l) (verdi
 -- a verdict's refusals are those of questions
 unless_asked : (v : Validity) (w : Verdict) {most : ℕ} → Placed most v → QuestionsOnly w → QuestionsOnly (verdict_unless_refused v w)
 unfolding verdict_unless_refused QuestionsOnly
-unless_asked Fit w p q x e = q x e
-unless_asked (Refused y) w p q x e = let same : y ≡ x = cc in (p x (ap Refused same)).asked
+unless_asked (Ok _) w p q x e = q x e
+unless_asked (Err y) w p q x e = let same : y ≡ x = cc in (p x (ap Err same)).asked
 
 formed_asked : (list : RecordList) (v : Validity) (w : Verdict) → QuestionsOnly w → QuestionsOnly (unless_malformed list v w)
 unfolding unless_malformed QuestionsOnly
-formed_asked list Fit w q x e = q x e
-formed_asked list (Refused y) w q x e = never cc
+formed_asked list (Ok _) w q x e = q x e
+formed_asked list (Err y) w q x e = never cc
 
-found_asked : (f : First) (spot : Spot) (mark : Mark) → QuestionsOnly (verdict_by f spot mark)
+found_asked : (f : Option ℕ) (spot : Spot) (mark : Mark) → QuestionsOnly (verdict_by f spot mark)
 unfolding verdict_by QuestionsOnly
-found_asked (At k) spot mark x e = never cc
-found_asked Nothing (Here k k') mark x e = never cc
-found_asked Nothing Nowhere mark x e = never cc
+found_asked (Some k) spot mark x e = never cc
+found_asked None (Here k k') mark x e = never cc
+found_asked None Nowhere mark x e = never cc
 
 pub verdict_asked : (κ : Construction) (s initial solution : List ℕ) → QuestionsOnly (verdict κ s initial solution)
 unfolding verdict verdict_over both_whole
@@ -154,13 +151,13 @@ solved_row q r = same_row solved_numbers (λ l. solved_read l) (solved_back q.so
 abbrev split_read : List ℕ → Split
 split_read l =
     cond (eqb (length l) 3)
-    (record { validity = Fit; «record» = get_or l 1 0; column = get_or l 2 0 })
-    (record { validity = Refused (refusal_read l); «record» = get_or l 2 0; column = get_or l 3 0 })
+    (record { validity = Ok tt; «record» = get_or l 1 0; column = get_or l 2 0 })
+    (record { validity = Err (refusal_read l); «record» = get_or l 2 0; column = get_or l 3 0 })
 
 split_back : (v : Validity) (k c : ℕ) → let x : Split = record { validity = v; «record» = k; column = c } in split_read (split_numbers x) ≡ x
 unfolding split_numbers validity_numbers
-split_back Fit k c = refl
-split_back (Refused x) k c = refl
+split_back (Ok _) k c = refl
+split_back (Err x) k c = refl
 
 pub split_row_lem : (x y : Split) → split_numbers x ≡ split_numbers y → x ≡ y
 split_row_lem x y =

@@ -1,4 +1,5 @@
 -- A solution is searched through its index: what is found of one abstract memory, of the results of an edge, and of the edges out of a node.
+use Rattle.std.specs.Prelude.{None, Option, Some}
 use Rattle.std.proofs.Common.{◌≡◌, ℕ, suc, ◌+◌, ◌*◌, ◌/◌, ◌%◌, ◌<◌, ◌≤◌, Bool, true, false, cond, not, ◌&&◌, eqb, List, [], ◌∷◌, map, length, get_or, set, sym, refl, ap, ◌∙◌, arith, lt-ltb, eq-eqb}
 use mathlib.Core.Bool.{false≢true}
 use native.Mathlib.Decide.{ℕ_discrete, dec_lt}
@@ -13,8 +14,6 @@ use Rattle.program.specs.Meaning.{meaning}
 use Rattle.program.specs.Parts.Preceding.{plain}
 use Rattle.program.specs.Parts.Prepared.{Prepared, Following, entries_in, source_in, target_in, action_in, decoded_meaning, is_guard_node, edge_count_place}
 use Rattle.program.specs.declared.ActionNode.{ActionNode}
-use Rattle.program.specs.declared.First.{First}
-use Rattle.program.specs.declared.First.TheVariants.{At, Nothing}
 use Rattle.program.proofs.Laws.{first_at, first_more, first_such_lem, none_such, such_stops, such_goes_on}
 use Rattle.semantics.specs.Parts.Selecting.{Opens}
 use Rattle.semantics.specs.Step.{leaves}
@@ -104,7 +103,7 @@ module _ {ns : List ℕ} {g : Graph} {code graph : List ℕ} (p : Prepared ns g 
       by true t = rw (leaves_by k l, t) (at.before k h (omega (arith, p.edges)) t)
       by false t = rw (leaves_by k l, t)
 
-  first_along : e < get_or graph edge_count_place 0 → q e ≡ true → first_such (length g.edges) (λ k. leaves g k node && q k) ≡ At e
+  first_along : e < get_or graph edge_count_place 0 → q e ≡ true → first_such (length g.edges) (λ k. leaves g k node && q k) ≡ Some e
   first_along h t =
       first_such_lem _ _ e
       (record {
@@ -113,7 +112,7 @@ module _ {ns : List ℕ} {g : Graph} {code graph : List ℕ} (p : Prepared ns g 
         before = λ k l. fails k l (omega (arith, p.edges));
       })
 
-  none_along : get_or graph edge_count_place 0 ≤ e → first_such (length g.edges) (λ k. leaves g k node && q k) ≡ Nothing
+  none_along : get_or graph edge_count_place 0 ≤ e → first_such (length g.edges) (λ k. leaves g k node && q k) ≡ None
   none_along h = none_such _ _ (λ k l. fails k (omega (arith, p.edges)) l)
 
 -- an edge that a query does not pick, whatever program was prepared and whatever abstract memory was read
@@ -126,11 +125,11 @@ module _ (q : Query) (code graph solution index rho : List ℕ) (node e : ℕ) (
   unpicked_before : Following graph node (λ k. picks ns g solution q ρ k ≡ false) e
   unpicked_before = record { here = at.here; before = λ k h l t. at.before k h l t ns g ρ x y }
 
-  pub picked_here : e < get_or graph edge_count_place 0 → picks ns g solution q ρ e ≡ true → first_picked ns g solution q node ρ ≡ At e
+  pub picked_here : e < get_or graph edge_count_place 0 → picks ns g solution q ρ e ≡ true → first_picked ns g solution q node ρ ≡ Some e
   unfolding first_picked
   picked_here h p = first_along x.prepared node _ e unpicked_before h p
 
-  pub none_picked : get_or graph edge_count_place 0 ≤ e → first_picked ns g solution q node ρ ≡ Nothing
+  pub none_picked : get_or graph edge_count_place 0 ≤ e → first_picked ns g solution q node ρ ≡ None
   unfolding first_picked
   none_picked h = none_along x.prepared node _ e unpicked_before h
 
@@ -163,7 +162,7 @@ module _ {ns : List ℕ} {g : Graph} {code graph solution index ρ rho : List �
   unpicked : (k : ℕ) → k < e → k < get_or graph edge_count_place 0 → eqb (source_in graph k) node ≡ true → picks ns g solution MissingResult ρ k ≡ false
   unpicked k l h s = picks_own k (omega arith) h s ∙ (at.before k l h s).listed ns g ρ x y (omega (arith, count_is))
 
-  pub no_guard : get_or graph edge_count_place 0 ≤ e → first_picked ns g solution MissingResult node ρ ≡ Nothing
+  pub no_guard : get_or graph edge_count_place 0 ≤ e → first_picked ns g solution MissingResult node ρ ≡ None
   unfolding first_picked
   no_guard h = none_along x.prepared node _ e (record { here = at.here; before = unpicked }) h
 
@@ -172,13 +171,13 @@ module _ {ns : List ℕ} {g : Graph} {code graph solution index ρ rho : List �
     leaves_here = eq-eqb (source_in graph e) node (at.here h)
 
     -- a result is missing along it
-    pub missing_here : any_missing ns solution (edge_at g e).target (cond (truths_in rho (own_at code graph e)).holds (ρ ∷ []) []) ≡ true → first_picked ns g solution MissingResult node ρ ≡ At e
+    pub missing_here : any_missing ns solution (edge_at g e).target (cond (truths_in rho (own_at code graph e)).holds (ρ ∷ []) []) ≡ true → first_picked ns g solution MissingResult node ρ ≡ Some e
     unfolding first_picked
     missing_here t = first_along x.prepared node _ e (record { here = at.here; before = unpicked }) h (picks_own e (omega arith) h leaves_here ∙ t)
 
     -- or none is, and its own guard may not fail: no edge after it has a result
     pub none_after : any_missing ns solution (edge_at g e).target (cond (truths_in rho (own_at code graph e)).holds (ρ ∷ []) []) ≡ false → (truths_in rho (own_at code graph e)).fails ≡ false
-        → first_picked ns g solution MissingResult node ρ ≡ Nothing
+        → first_picked ns g solution MissingResult node ρ ≡ None
     unfolding first_picked picks any_missing any_of
     none_after t u = none_along x.prepared node _ (get_or graph edge_count_place 0) (record { here = λ l. absurd (omega arith); before = each }) (omega arith)
       where
@@ -200,7 +199,7 @@ module _ {ns : List ℕ} {g : Graph} {code graph solution index ρ rho : List �
 
 -- where a query is handed over, it is 42
 pub handed_here : (q : Query) {ns : List ℕ} {g : Graph} {code graph solution index ρ rho : List ℕ} {node e : ℕ} → Searched ns g code graph q solution index → ReadInto ρ rho (length ns)
-    → Following graph node (λ k. handed_over q (action_in graph k) ≡ false) e → e < get_or graph edge_count_place 0 → handed_over q (action_in graph e) ≡ true → {r : First}
+    → Following graph node (λ k. handed_over q (action_in graph k) ≡ false) e → e < get_or graph edge_count_place 0 → handed_over q (action_in graph e) ≡ true → {r : Option ℕ}
     → (Searched ns g code graph MissingResult solution index → ReadInto ρ rho (length ns) → Opens graph node e → r ≡ first_picked ns g solution MissingResult node ρ)
     → r ≡ first_picked ns g solution q node ρ
 unfolding handed_over
@@ -281,7 +280,7 @@ module _ (ns : List ℕ) (names : ℕ) (initial solution : List ℕ) (e : length
   is_missing k = not (has_at ns solution 0 (record_at (initial_width ns) initial k))
 
   abbrev pub NoneMissing : ℕ → Type 0
-  NoneMissing k = first_such k is_missing ≡ Nothing
+  NoneMissing k = first_such k is_missing ≡ None
 
   pub none_looked : NoneMissing 0
   unfolding first_such first_of
@@ -295,10 +294,10 @@ module _ (ns : List ℕ) (names : ℕ) (initial solution : List ℕ) (e : length
   counts count c = ap (λ (n : ℕ). record_count n initial) e ∙ sym c
 
   pub start_missing : (k count : ℕ) → count ≡ record_count names initial → k < count → NoneMissing k → has_at ns solution 0 (record_at (initial_width ns) initial k) ≡ false
-      → missing_initial ns initial solution ≡ At k
+      → missing_initial ns initial solution ≡ Some k
   unfolding missing_initial
   start_missing k count c h n p = such_stops (record_count (initial_width ns) initial) is_missing k (omega (arith, counts count c)) n (ap not p)
 
-  pub starts_listed : (k count : ℕ) → count ≡ record_count names initial → k ≡ count → NoneMissing k → missing_initial ns initial solution ≡ Nothing
+  pub starts_listed : (k count : ℕ) → count ≡ record_count names initial → k ≡ count → NoneMissing k → missing_initial ns initial solution ≡ None
   unfolding missing_initial
   starts_listed k count c h n = ap (λ (m : ℕ). first_such m is_missing) (counts count c ∙ sym h) ∙ n

@@ -1,5 +1,7 @@
 -- The third term (document 01; book, Propositions 4.9 and 4.31): an accepted solution has the memory's record at the node reached, after any list
 -- of step calls and any budgeted run; and a clean mark means that no call meets a negative index.
+use Rattle.program.specs.Asking.{Validity}
+use Rattle.std.specs.Prelude.{Err, Ok}
 use Rattle.std.proofs.Common.{◌≡◌, ℕ, ◌<◌, not, ◌&&◌, T, List, [], ◌∷◌, length, ℤ, refl, ap, ◌∙◌, subst, arith}
 use mir.Facts.{and_yes, yes_and, not_T}
 use Rattle.signs.specs.Lists.{all_of, indices}
@@ -8,8 +10,6 @@ use Rattle.program.specs.Graph.{Graph, graph, edges, edge_count, edge_at}
 use Rattle.program.specs.Questions.{validity}
 use Rattle.program.specs.Parts.Sorted.{meaning_named, action_named}
 use Rattle.program.specs.declared.Construction.{Construction}
-use Rattle.program.specs.declared.Validity.{Validity}
-use Rattle.program.specs.declared.Validity.TheVariants.{Fit, Refused}
 use Rattle.program.proofs.Laws.{ask_fit, turn_fit, edge_faithful, meaning_named_lem}
 use Rattle.program.proofs.Tests.{passed}
 use Rattle.program.specs.Meaning.{meaning}
@@ -82,10 +82,10 @@ module _ (ns : List ℕ) (g : Graph) (named : (e : ℕ) → e < length g.edges �
   call_never_meets clean c e has = by (step_validity ns g c.run.node c.memory e) (edge_effect ns g c.memory e) refl refl
     where
       by : (v : Validity) (x : Effect) → step_validity ns g c.run.node c.memory e ≡ v → edge_effect ns g c.memory e ≡ x → T (not (meets_in_call (outcome_unless_refused v (outcome_by x))))
-      by Fit (Fails f) p q = not_T (is_negative_index f) (λ t. never_meets clean c e has (passed (ask_fit _ 15 0 (turn_fit _ 2 p))) (rw q t))
-      by Fit Unchanged p q = tt
-      by Fit (Stored k z) p q = tt
-      by (Refused r) x p q = tt
+      by (Ok _) (Fails f) p q = not_T (is_negative_index f) (λ t. never_meets clean c e has (passed (ask_fit _ 15 0 (turn_fit _ 2 p))) (rw q t))
+      by (Ok _) Unchanged p q = tt
+      by (Ok _) (Stored k z) p q = tt
+      by (Err r) x p q = tt
 
   -- a list of calls
   covered_replay : (es : List ℕ) (c : Configuration) → Covered c → Covered (replay ns g c es)
@@ -114,8 +114,8 @@ module _ (ns : List ℕ) (g : Graph) (named : (e : ℕ) → e < length g.edges �
   covered_budgeted budget m has = by (memory_validity ns m) refl
     where
       by : (v : Validity) → memory_validity ns m ≡ v → Covered (budgeted ns g budget m).final
-      by Fit p = rw (budgeted_run ns g budget m p) (covered_run budget (begun m) (memory_fit ns m p) has)
-      by (Refused x) p = rw (refused_run ns g budget m x p) has
+      by (Ok _) p = rw (budgeted_run ns g budget m p) (covered_run budget (begun m) (memory_fit ns m p) has)
+      by (Err x) p = rw (refused_run ns g budget m x p) has
 
   -- the third term of a graph
   pub sound : SoundOn ns g initial solution mark
@@ -133,7 +133,7 @@ module _ (ns : List ℕ) (g : Graph) (named : (e : ℕ) → e < length g.edges �
       }
 
 -- where a file is fit, its steps and runs are those of its graph, and so is what holds of them
-sound_file : (κ : Construction) (s initial solution : List ℕ) (mark : Mark) → validity s ≡ Fit → SoundOn (sizes s) (graph κ s) initial solution mark → Sound κ s initial solution mark
+sound_file : (κ : Construction) (s initial solution : List ℕ) (mark : Mark) → validity s ≡ Ok tt → SoundOn (sizes s) (graph κ s) initial solution mark → Sound κ s initial solution mark
 unfolding SoundOn Sound
 sound_file κ s initial solution mark fit on m t calls budget =
     let k = on m t calls budget in

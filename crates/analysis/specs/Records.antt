@@ -1,11 +1,10 @@
 -- Lists of records (document 01: start list and sign sheet), membership, and questions 16 and 17. The names have the sizes ns.
 use Rattle.std.specs.Prelude.{ℕ, ◌+◌, ◌*◌, ◌/◌, ◌%◌, Bool, true, false, ◌&&◌, List, [], ◌∷◌, ◌++◌, length, take, drop, ◌==◌, nat_le, nat_lt, slice_index}
 use Rattle.signs.specs.Lists.{any_of, tabulate}
-use Rattle.program.specs.Asking.{ask, ask_plain, then_ask, ask_each}
+use Rattle.program.specs.Asking.{ask, ask_plain, then_ask, ask_each, Validity}
 use Rattle.program.specs.File.{byte_at, word_at}
 use Rattle.program.specs.Graph.{Graph, word_bytes}
 use Rattle.program.specs.declared.Refusal.{Refusal}
-use Rattle.program.specs.declared.Validity.{Validity}
 use Rattle.analysis.specs.Abstraction.{well_formed}
 use Rattle.analysis.specs.declared.RecordList.{RecordList}
 use Rattle.analysis.specs.declared.RecordList.TheVariants.{Initial, Solution}

@@ -1,15 +1,13 @@
 -- What the sheet program prints, line by line (document 01, "The sheet program and the factorial lesson").
-use Rattle.std.specs.Prelude.{ℕ, not, List, [], ◌∷◌, ◌++◌, map, length, slice_index_or}
+use Rattle.std.specs.Prelude.{ℕ, not, List, [], ◌∷◌, ◌++◌, map, length, slice_index_or, Err, Ok}
 use mathlib.Core.List.{flatten}
 use Rattle.signs.specs.Lists.{tabulate}
-use Rattle.program.specs.Asking.{ask_plain, in_turn}
+use Rattle.program.specs.Asking.{ask_plain, in_turn, Validity}
 use Rattle.program.specs.File.{sizes}
 use Rattle.program.specs.Graph.{graph}
 use Rattle.program.specs.Questions.{input_validity, program_part, initial_part}
 use Rattle.program.specs.declared.Construction.TheVariants.{Nondeterministic}
 use Rattle.program.specs.declared.Refusal.{Refusal}
-use Rattle.program.specs.declared.Validity.{Validity}
-use Rattle.program.specs.declared.Validity.TheVariants.{Fit, Refused}
 use Rattle.analysis.specs.Records.{node_of, memory_of, initial_formed}
 use Rattle.analysis.specs.Solver.{Found, solution, room_of}
 use Rattle.analysis.specs.Verdict.{index_mark, mark_numbers}
@@ -47,8 +45,8 @@ print_validity input f =
 
 -- "A refusal prints only 'refused N at PLACE', with 0 where there is no place."
 unfoldable pub lines_by : List ℕ → Found → Validity → List Line
-lines_by input f Fit = listing (program_part input) f.records
-lines_by input f (Refused x) = refusal_line x ∷ []
+lines_by input f (Ok _) = listing (program_part input) f.records
+lines_by input f (Err x) = refusal_line x ∷ []
 
 unfoldable pub printed_lines : List ℕ → List Line
 printed_lines input = let f = sheet_of input in lines_by input f (print_validity input f)

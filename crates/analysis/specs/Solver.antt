@@ -1,15 +1,13 @@
 -- The solver's list, for a graph g whose names have the sizes ns (document 01, "Signs": "The solver goes through …", and question 18).
-use Rattle.std.specs.Prelude.{ℕ, zero, suc, ◌+◌, ◌/◌, min, Bool, true, false, cond, List, [], ◌∷◌, ◌++◌, length, nat_lt, slice_index_or}
+use Rattle.std.specs.Prelude.{ℕ, zero, suc, ◌+◌, ◌/◌, min, Bool, true, false, cond, List, [], ◌∷◌, ◌++◌, length, nat_lt, slice_index_or, Err, Ok}
 use mathlib.Core.List.{foldl, flatten}
 use Rattle.signs.specs.Lists.{passing, indices}
-use Rattle.program.specs.Asking.{then_ask}
+use Rattle.program.specs.Asking.{then_ask, Validity}
 use Rattle.program.specs.Drawing.{over}
 use Rattle.program.specs.File.{sizes}
 use Rattle.program.specs.Graph.{Graph, graph, edge_at}
 use Rattle.program.specs.Questions.{validity}
 use Rattle.program.specs.declared.Construction.{Construction}
-use Rattle.program.specs.declared.Validity.{Validity}
-use Rattle.program.specs.declared.Validity.TheVariants.{Fit, Refused}
 use Rattle.program.specs.Meaning.{meaning}
 use Rattle.semantics.specs.Step.{leaves}
 use Rattle.analysis.specs.Records.{initial_width, record_width, records_of, record_for, node_of, memory_of, listed, initial_whole, initial_formed, wrong_byte, wrong_byte_numbers}
@@ -68,15 +66,15 @@ finished_or true = Full
 finished_or false = Finished
 
 unfoldable pub solved_with : Validity → Validity → Found → Solved
-solved_with Fit Fit f = record { solving = finished_or f.full; count = length f.records }
-solved_with Fit (Refused x) f = record { solving = Malformed (wrong_byte Initial x); count = 0 }
-solved_with (Refused x) formed f = record { solving = Refuses x; count = 0 }
+solved_with (Ok _) (Ok _) f = record { solving = finished_or f.full; count = length f.records }
+solved_with (Ok _) (Err x) f = record { solving = Malformed (wrong_byte Initial x); count = 0 }
+solved_with (Err x) formed f = record { solving = Refuses x; count = 0 }
 
 -- the buffer afterwards: "After 18 the buffer holds the leading records that found room"
 unfoldable pub buffer_with : Validity → Validity → Found → List ℕ → List ℕ
-buffer_with Fit Fit f buffer = over (flatten f.records) buffer
-buffer_with Fit (Refused x) f buffer = buffer
-buffer_with (Refused x) formed f buffer = buffer
+buffer_with (Ok _) (Ok _) f buffer = over (flatten f.records) buffer
+buffer_with (Ok _) (Err x) f buffer = buffer
+buffer_with (Err x) formed f buffer = buffer
 
 -- of a program file and a construction of its graph: the file's questions and 16, 17 of the start list, and the list for a buffer
 unfoldable pub initial_validity : List ℕ → List ℕ → Validity

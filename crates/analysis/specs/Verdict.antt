@@ -1,17 +1,13 @@
 -- The verdict on a candidate solution, for a graph g whose names have the sizes ns (document 01, "Signs": "Verdict"; book, Definition 4.29).
-use Rattle.std.specs.Prelude.{ℕ, Bool, true, false, not, ◌&&◌, List, [], ◌∷◌, length}
+use Rattle.std.specs.Prelude.{ℕ, Bool, true, false, not, ◌&&◌, List, [], ◌∷◌, length, Err, Ok, None, Option, Some}
 use Rattle.signs.specs.Lists.{any_of}
-use Rattle.program.specs.Asking.{ask_plain, then_ask}
+use Rattle.program.specs.Asking.{ask_plain, then_ask, Validity}
 use Rattle.program.specs.File.{sizes}
 use Rattle.program.specs.FirstSuch.{first_of, first_such}
 use Rattle.program.specs.Graph.{Graph, graph, edge_at}
 use Rattle.program.specs.Questions.{validity}
 use Rattle.program.specs.declared.Construction.{Construction}
 use Rattle.program.specs.declared.Construction.TheVariants.{Nondeterministic}
-use Rattle.program.specs.declared.First.{First}
-use Rattle.program.specs.declared.First.TheVariants.{At, Nothing}
-use Rattle.program.specs.declared.Validity.{Validity}
-use Rattle.program.specs.declared.Validity.TheVariants.{Fit, Refused}
 use Rattle.program.specs.Meaning.{meaning}
 use Rattle.semantics.specs.Step.{leaves}
 use Rattle.analysis.specs.Index.{may_be_negative}
@@ -29,7 +25,7 @@ use Rattle.analysis.specs.declared.Verdict.{Verdict}
 use Rattle.analysis.specs.declared.Verdict.TheVariants.{Refused as Refuses, Malformed, InitialMissing, ResultMissing, Accepted}
 
 -- "41, a start record missing at node 0 (first such)"
-unfoldable pub missing_initial : List ℕ → List ℕ → List ℕ → First
+unfoldable pub missing_initial : List ℕ → List ℕ → List ℕ → Option ℕ
 missing_initial ns initial solution =
     first_such (record_count (initial_width ns) initial)
     (λ k. not (has_at ns solution 0 (record_at (initial_width ns) initial k)))
@@ -39,9 +35,9 @@ unfoldable pub is_here : Spot → Bool
 is_here (Here k e) = true
 is_here Nowhere = false
 
-unfoldable pub spot_at : ℕ → First → Spot
-spot_at k (At e) = Here k e
-spot_at k Nothing = Nowhere
+unfoldable pub spot_at : ℕ → Option ℕ → Spot
+spot_at k (Some e) = Here k e
+spot_at k None = Nowhere
 
 -- "lowest record, then lowest arrow": the first record, and the first edge leaving its node, that a test of the abstract memory and the edge picks
 unfoldable pub first_spot : List ℕ → Graph → List ℕ → (List ℕ → ℕ → Bool) → Spot
@@ -67,19 +63,19 @@ unfoldable pub index_mark : List ℕ → Graph → List ℕ → Mark
 index_mark ns g solution = mark_of (first_spot ns g solution (λ ρ e. may_be_negative ρ (meaning (edge_at g e).action)))
 
 -- the verdict by what is missing: 41, else 42, "else accepted"
-unfoldable pub verdict_by : First → Spot → Mark → Verdict
-verdict_by (At k) spot mark = InitialMissing k
-verdict_by Nothing (Here k e) mark = ResultMissing k e
-verdict_by Nothing Nowhere mark = Accepted mark
+unfoldable pub verdict_by : Option ℕ → Spot → Mark → Verdict
+verdict_by (Some k) spot mark = InitialMissing k
+verdict_by None (Here k e) mark = ResultMissing k e
+verdict_by None Nowhere mark = Accepted mark
 
 -- a verdict where no question is refused, and where no record of a list is malformed
 unfoldable pub verdict_unless_refused : Validity → Verdict → Verdict
-verdict_unless_refused Fit v = v
-verdict_unless_refused (Refused x) v = Refuses x
+verdict_unless_refused (Ok _) v = v
+verdict_unless_refused (Err x) v = Refuses x
 
 unfoldable pub unless_malformed : RecordList → Validity → Verdict → Verdict
-unless_malformed list Fit v = v
-unless_malformed list (Refused x) v = Malformed (wrong_byte list x)
+unless_malformed list (Ok _) v = v
+unless_malformed list (Err x) v = Malformed (wrong_byte list x)
 
 -- 16, 17 of the start list and then of the solution, 41, 42
 unfoldable pub verdict_over : List ℕ → Graph → List ℕ → List ℕ → Verdict
@@ -98,9 +94,9 @@ unfoldable pub solution_validity : List ℕ → List ℕ → Validity
 solution_validity s solution = then_ask (validity s) (ask_plain (whole_records (record_width (sizes s)) solution) 16)
 
 unfoldable pub marking_by : Validity → Validity → Mark → Marking
-marking_by Fit Fit mark = Marked mark
-marking_by Fit (Refused x) mark = Misshapen (wrong_byte Solution x)
-marking_by (Refused x) formed mark = Declined x
+marking_by (Ok _) (Ok _) mark = Marked mark
+marking_by (Ok _) (Err x) mark = Misshapen (wrong_byte Solution x)
+marking_by (Err x) formed mark = Declined x
 
 -- over document 01's graph: the mark is the same for every construction (law `mark_same`), and so it takes none
 unfoldable pub marking : List ℕ → List ℕ → Marking

@@ -18,7 +18,7 @@ use crate::{
     Change, Mark, Marking, RecordList, Spot, Verdict, WrongByte, lists, membership, set_table,
 };
 use program::prepared::{CODE, GRAPH, NAMES_MOST};
-use program::{Construction, First, Refusal, Validity, drawing, file, prepared, validation};
+use program::{Construction, Refusal, drawing, file, prepared, validation};
 
 // What is looked for, in the records of a solution and the edges out of their nodes: 42, or the index mark. The index is read for 42 alone.
 #[derive(Clone, Copy)]
@@ -157,7 +157,7 @@ fn first_missing(
     rho: &[u8; 32],
     weight: u32,
     first: u16,
-) -> First
+) -> Option<u16>
     requires { parts.Ordered (parts.names_in code.now) solution.now index.now rho.now weight × Prepared.Linked graph.now × Tabled.Tabled code.now }
     ensures { (ns : List ℕ) (g : Graph.Graph) (ρ : List ℕ) (node : ℕ)
         → parts.Searched ns g code.now graph.now Query.MissingResult solution.now index.now
@@ -169,14 +169,14 @@ fn first_missing(
     while e < count {
         let t = condition::own_truths(code, graph, rho, e);
         if guard_missing(code, graph, index, solution, rho, weight, e, t.holds) {
-            return First::At(e);
+            return Some(e);
         }
         if !t.fails {
-            return First::Nothing;
+            return None;
         }
         e = prepared::next_edge(graph, e);
     }
-    First::Nothing
+    None
 }
 
 // The first edge out of a node that a query picks.
@@ -189,7 +189,7 @@ fn first_picked(
     rho: &[u8; 32],
     weight: u32,
     node: u16,
-) -> First
+) -> Option<u16>
     requires { parts.Ordered (parts.names_in code.now) solution.now index.now rho.now weight × Prepared.Linked graph.now × Tabled.Tabled code.now }
     ensures { (ns : List ℕ) (g : Graph.Graph) (ρ : List ℕ)
         → parts.Searched ns g code.now graph.now query solution.now index.now
@@ -202,11 +202,11 @@ fn first_picked(
             return first_missing(code, graph, index, solution, rho, weight, e);
         }
         if picked(query, code, graph, index, solution, rho, weight, e) {
-            return First::At(e);
+            return Some(e);
         }
         e = prepared::next_edge(graph, e);
     }
-    First::Nothing
+    None
 }
 
 // What a query finds at record k.
@@ -231,8 +231,8 @@ fn spot_at(
     let weight = membership::weight(index, solution, at + 2, names);
     let found = first_picked(query, code, graph, index, solution, &rho, weight, node);
     match found {
-        First::At(e) => Spot::At { record: k, edge: e },
-        First::Nothing => Spot::Nowhere,
+        Some(e) => Spot::At { record: k, edge: e },
+        None => Spot::Nowhere,
     }
 }
 
@@ -304,7 +304,7 @@ fn initial_listed(
 }
 
 // 41: the first start record that is missing at node 0.
-fn first_initial(index: &[u16; INDEX], initial: &[u8], solution: &[u8], names: usize) -> First
+fn first_initial(index: &[u16; INDEX], initial: &[u8], solution: &[u8], names: usize) -> Option<u16>
     requires { parts.Filled names solution.now index.now × (0 < names) × (names ≤ 32) × (Records.whole_records names initial.now ≡ true) }
     ensures { (ns : List ℕ) → length ns ≡ names → result ≡ spec.missing_initial ns initial.now solution.now }
 {
@@ -312,11 +312,11 @@ fn first_initial(index: &[u16; INDEX], initial: &[u8], solution: &[u8], names: u
     let mut k: u16 = 0;
     while k < count {
         if !initial_listed(index, initial, solution, names, k) {
-            return First::At(k);
+            return Some(k);
         }
         k += 1;
     }
-    First::Nothing
+    None
 }
 
 // Whether an index of an edge may be negative in the widest abstract memory; if none may, none may in any.
@@ -371,7 +371,7 @@ fn judge_results(
     requires { parts.Searchable code.now graph.now solution.now index.now }
     ensures { (ns : List ℕ) (g : Graph.Graph)
         → parts.Searched ns g code.now graph.now Query.MissingResult solution.now index.now
-        → result ≡ spec.verdict_by First.Nothing (spec.missing_result ns g solution.now) (spec.index_mark ns g solution.now) }
+        → result ≡ spec.verdict_by None (spec.missing_result ns g solution.now) (spec.index_mark ns g solution.now) }
 {
     let spot = first_spot(Query::MissingResult, code, graph, index, solution);
     match spot {
@@ -390,7 +390,7 @@ fn judge_formed(
     requires { Tabled.Ready code.now graph.now × (Records.whole_records (parts.names_in code.now) initial.now ≡ true)
         × (Records.whole_records (2 + parts.names_in code.now) solution.now ≡ true) }
     ensures { (ns : List ℕ) (g : Graph.Graph) → Prepared.Prepared ns g code.now graph.now
-        → Records.solution_formed ns g solution.now ≡ Validity.Fit
+        → Records.solution_formed ns g solution.now ≡ Ok tt
         → result ≡ parts.formed_verdict ns g initial.now solution.now }
 {
     let names = prepared::name_count(code);
@@ -398,8 +398,8 @@ fn judge_formed(
     membership::put_index(&mut index, solution, names);
     let missing = first_initial(&index, initial, solution, names);
     match missing {
-        First::At(k) => Verdict::InitialMissing { record: k },
-        First::Nothing => judge_results(code, graph, &index, solution),
+        Some(k) => Verdict::InitialMissing { record: k },
+        None => judge_results(code, graph, &index, solution),
     }
 }
 
@@ -433,17 +433,17 @@ fn judge_prepared(
 {
     let names = prepared::name_count(code);
     let whole = validation::ask(both_whole(initial, solution, names), 16, 0);
-    if let Validity::Refused(x) = whole {
+    if let Err(x) = whole {
         return Verdict::Refused(x);
     }
     let first = lists::initial_formed(code, initial);
-    if let Validity::Refused(x) = first {
+    if let Err(x) = first {
         return Verdict::Malformed(malformed(RecordList::Initial, x));
     }
     let second = lists::solution_formed(code, prepared::node_count(graph), solution);
     match second {
-        Validity::Fit => judge_formed(code, graph, initial, solution),
-        Validity::Refused(x) => Verdict::Malformed(malformed(RecordList::Solution, x)),
+        Ok(()) => judge_formed(code, graph, initial, solution),
+        Err(x) => Verdict::Malformed(malformed(RecordList::Solution, x)),
     }
 }
 
@@ -451,7 +451,7 @@ fn judge_prepared(
 fn mark_formed(code: &[u16; CODE], graph: &[u16; GRAPH], solution: &[u8]) -> Mark
     requires { Tabled.Ready code.now graph.now × (Records.whole_records (2 + parts.names_in code.now) solution.now ≡ true) }
     ensures { (ns : List ℕ) (g : Graph.Graph) → Prepared.Prepared ns g code.now graph.now
-        → Records.solution_formed ns g solution.now ≡ Validity.Fit
+        → Records.solution_formed ns g solution.now ≡ Ok tt
         → result ≡ spec.index_mark ns g solution.now }
 {
     let mut index = [0u16; INDEX];
@@ -467,13 +467,13 @@ fn mark_prepared(code: &[u16; CODE], graph: &[u16; GRAPH], solution: &[u8]) -> M
 {
     let names = prepared::name_count(code);
     let whole = validation::ask(lists::whole(solution, 2 + names), 16, 0);
-    if let Validity::Refused(x) = whole {
+    if let Err(x) = whole {
         return Marking::Refused(x);
     }
     let formed = lists::solution_formed(code, prepared::node_count(graph), solution);
     match formed {
-        Validity::Fit => Marking::Marked(mark_formed(code, graph, solution)),
-        Validity::Refused(x) => Marking::Malformed(malformed(RecordList::Solution, x)),
+        Ok(()) => Marking::Marked(mark_formed(code, graph, solution)),
+        Err(x) => Marking::Malformed(malformed(RecordList::Solution, x)),
     }
 }
 
@@ -492,11 +492,11 @@ pub fn judge_on(
     let mut graph = [0u16; GRAPH];
     let v = prepared::prepare_linked(construction, program, &mut code, &mut graph);
     match v {
-        Validity::Fit => {
+        Ok(()) => {
             set_table::put(&mut code);
             judge_prepared(&code, &graph, initial, solution)
         }
-        Validity::Refused(x) => Verdict::Refused(x),
+        Err(x) => Verdict::Refused(x),
     }
 }
 
@@ -556,10 +556,10 @@ pub fn index_mark(program: &[u8], solution: &[u8]) -> Marking
         &mut graph,
     );
     match v {
-        Validity::Fit => {
+        Ok(()) => {
             set_table::put(&mut code);
             mark_prepared(&code, &graph, solution)
         }
-        Validity::Refused(x) => Marking::Refused(x),
+        Err(x) => Marking::Refused(x),
     }
 }

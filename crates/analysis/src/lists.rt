@@ -11,7 +11,7 @@ ghost use Rattle.analysis.specs.Records as spec;
 
 use crate::Change;
 use program::prepared::{CODE, NAMES_MOST};
-use program::{Validity, file, prepared, validation};
+use program::{Refusal, file, prepared, validation};
 
 // The most records of a list.
 pub(crate) const MOST: usize = 4096;
@@ -48,7 +48,7 @@ fn at_most(names: usize) -> usize
 // Whether question 17 of the memory at a place is answered yes: most are, and then the first wrong byte need not be looked for.
 fn all_formed(code: &[u16; CODE], names: usize, bytes: &[u8], at: usize) -> bool
     requires { (names ≤ 32) × (at + names ≤ length bytes.now) }
-    ensures { (ns : List ℕ) → parts.SizesIn ns code.now names → result ≡ true → spec.memory_formed ns bytes.now at ≡ Validity.Fit }
+    ensures { (ns : List ℕ) → parts.SizesIn ns code.now names → result ≡ true → spec.memory_formed ns bytes.now at ≡ Ok tt }
 {
     let end = at_most(names);
     let mut formed = true;
@@ -61,12 +61,12 @@ fn all_formed(code: &[u16; CODE], names: usize, bytes: &[u8], at: usize) -> bool
 }
 
 // Question 17 of the memory at a place.
-fn memory_formed(code: &[u16; CODE], names: usize, bytes: &[u8], at: usize) -> Validity
+fn memory_formed(code: &[u16; CODE], names: usize, bytes: &[u8], at: usize) -> Result<(), Refusal>
     requires { (names ≤ 32) × (at + names ≤ length bytes.now) }
     ensures { (ns : List ℕ) → parts.SizesIn ns code.now names → result ≡ spec.memory_formed ns bytes.now at }
 {
     if all_formed(code, names, bytes, at) {
-        return Validity::Fit;
+        return Ok(());
     }
     let mut i: usize = 0;
     while i < names {
@@ -80,11 +80,11 @@ fn memory_formed(code: &[u16; CODE], names: usize, bytes: &[u8], at: usize) -> V
         }
         i += 1;
     }
-    Validity::Fit
+    Ok(())
 }
 
 // Question 17 of a start list.
-pub(crate) fn initial_formed(code: &[u16; CODE], bytes: &[u8]) -> Validity
+pub(crate) fn initial_formed(code: &[u16; CODE], bytes: &[u8]) -> Result<(), Refusal>
     requires { (0 < slice_index code.now Prepared.name_count_place) × (slice_index code.now Prepared.name_count_place ≤ 32) }
     ensures { (ns : List ℕ) → Prepared.Coded ns code.now → result ≡ spec.initial_formed ns bytes.now }
 {
@@ -98,11 +98,17 @@ pub(crate) fn initial_formed(code: &[u16; CODE], bytes: &[u8]) -> Validity
         }
         k += 1;
     }
-    Validity::Fit
+    Ok(())
 }
 
 // Question 17 of the record at a place of a solution, for a graph of so many nodes.
-fn record_formed(code: &[u16; CODE], names: usize, nodes: u16, bytes: &[u8], at: usize) -> Validity
+fn record_formed(
+    code: &[u16; CODE],
+    names: usize,
+    nodes: u16,
+    bytes: &[u8],
+    at: usize,
+) -> Result<(), Refusal>
     requires { (names ≤ 32) × (at + 2 + names ≤ length bytes.now) }
     ensures { (ns : List ℕ) → parts.SizesIn ns code.now names → result ≡ parts.record_formed ns nodes bytes.now at }
 {
@@ -114,7 +120,7 @@ fn record_formed(code: &[u16; CODE], names: usize, nodes: u16, bytes: &[u8], at:
 }
 
 // Question 17 of a solution.
-pub(crate) fn solution_formed(code: &[u16; CODE], nodes: u16, bytes: &[u8]) -> Validity
+pub(crate) fn solution_formed(code: &[u16; CODE], nodes: u16, bytes: &[u8]) -> Result<(), Refusal>
     requires { slice_index code.now Prepared.name_count_place ≤ 32 }
     ensures { (ns : List ℕ) (g : Graph.Graph) → Prepared.Coded ns code.now → g.nodes ≡ nodes → result ≡ spec.solution_formed ns g bytes.now }
 {
@@ -129,7 +135,7 @@ pub(crate) fn solution_formed(code: &[u16; CODE], nodes: u16, bytes: &[u8]) -> V
         }
         k += 1;
     }
-    Validity::Fit
+    Ok(())
 }
 
 // The bytes of so many names from a place on, into an array, with zeros past them.

@@ -4,7 +4,6 @@ ghost use Rattle.std.specs.Prelude.{◌≡◌, ℕ, ◌+◌, ◌/◌, ◌%◌, �
 ghost use mathlib.Core.List.{foldl};
 ghost use Rattle.program.specs.Graph.{Graph, edge_at, unnamed};
 ghost use Rattle.program.specs.Parts.Prepared.{Prepared, Linked, action_in, is_guard_node};
-ghost use Rattle.program.specs.declared.Validity.TheVariants.{Fit};
 ghost use Rattle.semantics.specs.Parts.Selecting.{Opens};
 ghost use Rattle.analysis.specs.Parts.Changing.{digits_end, sets_of};
 ghost use Rattle.analysis.specs.Parts.Judging.{ReadInto, names_in};
@@ -18,7 +17,7 @@ use crate::evaluator::{condition, results};
 use crate::membership::INDEX;
 use crate::{Change, RecordList, Solved, Solving, WrongByte, lists, membership, set_table};
 use program::prepared::{CODE, GRAPH, NAMES_MOST};
-use program::{ActionNode, Construction, Refusal, Validity, drawing, file, prepared, validation};
+use program::{ActionNode, Construction, Refusal, drawing, file, prepared, validation};
 
 // How far the list has come: how many records were found, how many there is room for, and whether one had none.
 #[derive(Clone, Copy)]
@@ -348,7 +347,7 @@ fn solve_formed(
 ) -> Solved
     requires { Ready code.now graph.now }
     ensures { (ns : List ℕ) (g : Graph) → Prepared ns g code.now graph.now
-        → parts.Answered Fit Fit (spec.solution ns g initial.now (spec.room_of ns (length buffer.old))) buffer.old buffer.new result }
+        → parts.Answered (Ok tt) (Ok tt) (spec.solution ns g initial.now (spec.room_of ns (length buffer.old))) buffer.old buffer.new result }
 {
     let names = prepared::name_count(code);
     let mut index = [0u16; INDEX];
@@ -395,13 +394,13 @@ fn solve_prepared(
 {
     let names = prepared::name_count(code);
     let whole = validation::ask(lists::whole(initial, names), 16, 0);
-    if let Validity::Refused(x) = whole {
+    if let Err(x) = whole {
         return refused(x);
     }
     let formed = lists::initial_formed(code, initial);
     match formed {
-        Validity::Fit => solve_formed(code, graph, initial, buffer),
-        Validity::Refused(x) => malformed(x),
+        Ok(()) => solve_formed(code, graph, initial, buffer),
+        Err(x) => malformed(x),
     }
 }
 
@@ -420,11 +419,11 @@ pub fn solve_on(
     let mut graph = [0u16; GRAPH];
     let v = prepared::prepare_linked(construction, program, &mut code, &mut graph);
     match v {
-        Validity::Fit => {
+        Ok(()) => {
             set_table::put(&mut code);
             solve_prepared(&code, &graph, initial, buffer)
         }
-        Validity::Refused(x) => refused(x),
+        Err(x) => refused(x),
     }
 }
 

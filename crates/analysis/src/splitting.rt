@@ -3,10 +3,9 @@
 ghost use Rattle.std.specs.Prelude.{◌≡◌, ◌<◌};
 ghost use Rattle.analysis.specs.Parts.Doubling as doubling;
 ghost use Rattle.analysis.specs.Splitter as spec;
-ghost use Rattle.program.specs.declared.Validity.TheVariants.{Fit};
 
 use crate::Split;
-use program::{Validity, file, validation};
+use program::{file, validation};
 use std::num;
 
 // Writes a width, its double, the double of that and so on, as many as are at most the place; how many. In 64 bits no sum overflows.
@@ -37,7 +36,7 @@ fn take_off(rest: u32, width: u32) -> u32
 // The record and the column of a place by the width of a record: doubled widths are taken off, the largest first.
 fn split_by(width: u32, place: u32) -> Split
     requires { 0 < width }
-    ensures { result ≡ spec.split_by Fit width place }
+    ensures { result ≡ spec.split_by (Ok tt) width place }
 {
     let mut widths = [0u32; 32];
     let count = double(width, place, &mut widths);
@@ -51,7 +50,7 @@ fn split_by(width: u32, place: u32) -> Split
         left -= 1;
     }
     Split {
-        validity: Validity::Fit,
+        validity: Ok(()),
         record: record,
         column: rest,
     }
@@ -64,9 +63,9 @@ pub fn split(program: &[u8], place: u32) -> Split
 {
     let v = validation::validate(program);
     match v {
-        Validity::Fit => split_by(2 + file::name_count(program) as u32, place),
-        Validity::Refused(x) => Split {
-            validity: Validity::Refused(x),
+        Ok(()) => split_by(2 + file::name_count(program) as u32, place),
+        Err(x) => Split {
+            validity: Err(x),
             record: 0,
             column: 0,
         },

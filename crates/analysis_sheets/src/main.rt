@@ -20,7 +20,7 @@ use analysis::{
     Mark, Marking, RecordList, Solved, Solving, Split, Verdict, WrongByte, judging, solver,
     splitting,
 };
-use program::{Construction, Refusal, Validity, drawing, file};
+use program::{Construction, Refusal, drawing, file};
 use semantics::{Run, Stepped};
 use std::io::{BufWriter, Read, Write};
 use std::{fs, io};
@@ -118,8 +118,8 @@ fn print_refused<W: Write>(out: &mut W, x: Refusal) -> io::Result<()> {
 fn print_split<W: Write>(out: &mut W, split: Split) -> io::Result<()> {
     let validity = split.validity;
     match validity {
-        Validity::Fit => {}
-        Validity::Refused(x) => print_refused(out, x)?,
+        Ok(()) => {}
+        Err(x) => print_refused(out, x)?,
     }
     printing::text(out, b"record ")?;
     printing::long(out, split.record)?;

@@ -1,4 +1,5 @@
 -- What a call tells, by how it went: the row of an operation's numbers has the head of its answer, and its other numbers behind.
+use Rattle.std.specs.Prelude.{Err, Ok}
 use mathlib.Core.Path.{◌≡◌, refl}
 use mathlib.Core.List.{List, [], ◌∷◌, ◌++◌, map}
 use Prim.Native.Nat.{ℕ, ◌+◌}
@@ -6,12 +7,10 @@ use native.Mathlib.Omega.{arith}
 use borrow.Author.Tests.{ne_eqb}
 use lib.IntN.{pos}
 use lib.ListN.{length}
-use Rattle.program.specs.Asking.{validity_numbers}
+use Rattle.program.specs.Asking.{validity_numbers, Validity}
 use Rattle.program.specs.Drawing.{drawn_numbers}
 use Rattle.program.specs.declared.Drawn.{Drawn}
 use Rattle.program.specs.declared.Refusal.{Refusal}
-use Rattle.program.specs.declared.Validity.{Validity}
-use Rattle.program.specs.declared.Validity.TheVariants.{Fit, Refused}
 use Rattle.semantics.specs.Budget.{ending_numbers, ended_numbers}
 use Rattle.semantics.specs.Expression.{fault_number}
 use Rattle.semantics.specs.Step.{outcome_numbers, stepped_numbers}
@@ -45,23 +44,23 @@ use Rattle.desk.proofs.Places.{VerdictTold, MarkingTold}
 
 pub validation_head : (v : Validity) → validation_told (validity_numbers v) ≡ tell (validity_head v) []
 unfolding validity_numbers validation_told validity_head tell
-validation_head Fit = refl
-validation_head (Refused x) = refl
+validation_head (Ok _) = refl
+validation_head (Err x) = refl
 
 pub parts_fit_head : (program initial : List ℕ)
-    → parts_told program initial (validity_numbers Fit) ≡ tell (Answered 0) (map pos (length program ∷ (length program + 3) ∷ length initial ∷ []))
+    → parts_told program initial (validity_numbers (Ok tt)) ≡ tell (Answered 0) (map pos (length program ∷ (length program + 3) ∷ length initial ∷ []))
 unfolding validity_numbers parts_told tell
 parts_fit_head program initial = refl
 
-pub parts_head : (program initial : List ℕ) (x : Refusal) → parts_told program initial (validity_numbers (Refused x)) ≡ tell (Declined x.number x.offset) (map pos (0 ∷ 0 ∷ 0 ∷ []))
+pub parts_head : (program initial : List ℕ) (x : Refusal) → parts_told program initial (validity_numbers (Err x)) ≡ tell (Declined x.number x.offset) (map pos (0 ∷ 0 ∷ 0 ∷ []))
 unfolding validity_numbers parts_told tell
 parts_head program initial x = refl
 
 -- two numbers behind
 validity_two : (v : Validity) (a b : ℕ) → two_told (validity_numbers v ++ (a ∷ b ∷ [])) ≡ tell (validity_head v) (map pos (a ∷ b ∷ []))
 unfolding validity_numbers two_told validity_head tell
-validity_two Fit a b = refl
-validity_two (Refused x) a b = refl
+validity_two (Ok _) a b = refl
+validity_two (Err x) a b = refl
 
 pub drawn_head : (d : Drawn) → two_told (drawn_numbers d) ≡ tell (validity_head d.validity) (map pos (d.nodes ∷ d.edges ∷ []))
 unfolding drawn_numbers
@@ -140,5 +139,5 @@ figures_head f = by f.validity
   where
     by : (v : Validity) → figures_told (map pos (validity_numbers v) ++ totals_numbers f.totals ++ fraction_numbers f.mean ++ fraction_numbers f.variance)
         ≡ tell (validity_head v) (totals_numbers f.totals ++ fraction_numbers f.mean ++ fraction_numbers f.variance)
-    by Fit = refl
-    by (Refused x) = refl
+    by (Ok _) = refl
+    by (Err x) = refl

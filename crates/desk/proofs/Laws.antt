@@ -1,4 +1,5 @@
 -- What a caller may rely on beside the contracts: every row has its one length, and the parts that a row names are there.
+use Rattle.std.specs.Prelude.{Ok}
 use mathlib.Core.Path.{◌≡◌}
 use mathlib.Core.List.{List}
 use Prim.Native.Nat.{ℕ, ◌+◌, ◌≤◌}
@@ -8,7 +9,6 @@ use Rattle.program.specs.File.{sizes}
 use Rattle.program.specs.Questions.{input_validity, input_row, program_part, initial_part}
 use Rattle.program.specs.Asking.{validity_numbers}
 use Rattle.program.specs.declared.Construction.{Construction}
-use Rattle.program.specs.declared.Validity.TheVariants.{Fit}
 use Rattle.program.proofs.Laws as Program
 use Rattle.semantics.specs.Step.{Configuration}
 use Rattle.analysis.specs.Verdict.{verdict, offending}
@@ -49,7 +49,7 @@ module _ (κ : Construction) (s initial solution : List ℕ) where
   offending_inside = Offending.offending_inside κ s initial solution
 
 -- the program and the start list of a fit input are the parts of it that the row names, and they end with it
-module _ (s : List ℕ) (fit : input_validity s ≡ Fit) where
+module _ (s : List ℕ) (fit : input_validity s ≡ Ok tt) where
   pub program_part_lem : take (told_at (parts s) 3) s ≡ program_part s
   unfolding parts parts_told input_row validity_numbers answered_with
   program_part_lem = rw fit (Program.program_there s fit)

@@ -1,4 +1,6 @@
 -- The offending record lies inside its list.
+use Rattle.program.specs.Asking.{Validity}
+use Rattle.std.specs.Prelude.{Err, Ok, None, Option, Some}
 use mathlib.Core.Path.{◌≡◌, refl, sym, ◌∙◌, ap}
 use mathlib.Core.Bool.{Bool, false, false≢true}
 use mathlib.Core.List.{List, map}
@@ -9,10 +11,6 @@ use lib.ListN.{length}
 use Rattle.program.specs.File.{sizes}
 use Rattle.program.specs.Graph.{Graph, graph}
 use Rattle.program.specs.declared.Construction.{Construction}
-use Rattle.program.specs.declared.First.{First}
-use Rattle.program.specs.declared.First.TheVariants.{At, Nothing}
-use Rattle.program.specs.declared.Validity.{Validity}
-use Rattle.program.specs.declared.Validity.TheVariants.{Fit, Refused}
 use Rattle.program.specs.Questions.{validity}
 use Rattle.program.proofs.Laws.{sizes_length, first_found, such_first}
 use Rattle.analysis.specs.Records.{initial_width, record_width, record_count, record_at}
@@ -58,8 +56,8 @@ record Named (initials solutions : ℕ) (v : Verdict) : Type 0 where
 module _ (initials solutions : ℕ) where
   unless_named : (x : Validity) (v : Verdict) → Named initials solutions v → Named initials solutions (verdict_unless_refused x v)
   unfolding verdict_unless_refused
-  unless_named Fit v p = p
-  unless_named (Refused x) v p =
+  unless_named (Ok _) v p = p
+  unless_named (Err x) v p =
       record {
         first = λ k e. never (cc);
         later = λ k a e. never (cc);
@@ -67,37 +65,37 @@ module _ (initials solutions : ℕ) where
 
   formed_named : (list : RecordList) (x : Validity) (v : Verdict) → Named initials solutions v → Named initials solutions (unless_malformed list x v)
   unfolding unless_malformed
-  formed_named list Fit v p = p
-  formed_named list (Refused x) v p =
+  formed_named list (Ok _) v p = p
+  formed_named list (Err x) v p =
       record {
         first = λ k e. never (cc);
         later = λ k a e. never (cc);
       }
 
-  found_named : (f : First) (spot : Spot) (mark : Mark) → ((k : ℕ) → f ≡ At k → k < initials) → ((k e : ℕ) → spot ≡ Here k e → k < solutions)
+  found_named : (f : Option ℕ) (spot : Spot) (mark : Mark) → ((k : ℕ) → f ≡ Some k → k < initials) → ((k e : ℕ) → spot ≡ Here k e → k < solutions)
       → Named initials solutions (verdict_by f spot mark)
   unfolding verdict_by
-  found_named (At j) spot mark p q =
+  found_named (Some j) spot mark p q =
       record {
-        first = λ k e. p k (let same : j ≡ k = cc in ap At same);
+        first = λ k e. p k (let same : j ≡ k = cc in ap Some same);
         later = λ k a e. never (cc);
       }
-  found_named Nothing (Here j b) mark p q =
+  found_named None (Here j b) mark p q =
       record {
         first = λ k e. never (cc);
         later = λ k a e. let same : j ≡ k = cc in q k b (ap (λ (i : ℕ). Here i b) same);
       }
-  found_named Nothing Nowhere mark p q =
+  found_named None Nowhere mark p q =
       record {
         first = λ k e. never (cc);
         later = λ k a e. never (cc);
       }
 
 -- 41 and 42 are found among the records
-at_same : (j : ℕ) (f : First) (k e : ℕ) → spot_at j f ≡ Here k e → j ≡ k
+at_same : (j : ℕ) (f : Option ℕ) (k e : ℕ) → spot_at j f ≡ Here k e → j ≡ k
 unfolding spot_at
-at_same j (At a) k e p = cc
-at_same j Nothing k e p = never (cc)
+at_same j (Some a) k e p = cc
+at_same j None k e p = never (cc)
 
 only_nowhere : (x : Spot) → is_here x ≡ false → x ≡ Nowhere
 unfolding is_here

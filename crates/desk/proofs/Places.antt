@@ -1,4 +1,5 @@
 -- Every answer of the engine has a number, where it is a refusal, and a place that 32 bits hold.
+use Rattle.std.specs.Prelude.{Err, Ok, None, Option, Some}
 use mathlib.Core.Path.{◌≡◌, refl, sym, ◌∙◌, ap}
 use mathlib.Core.Bool.{Bool, true, false, cond}
 use mathlib.Core.List.{List}
@@ -9,7 +10,7 @@ use lib.Dec.{eqb, leb}
 use lib.IntN.{ℤ}
 use lib.ListN.{length}
 use borrow.Author.Tests.{leb-true, eqb-true}
-use Rattle.program.specs.Asking.{in_turn}
+use Rattle.program.specs.Asking.{in_turn, Validity}
 use Rattle.program.specs.Drawing.{draw_validity, drawn_by, drawn}
 use Rattle.program.specs.File.{sizes}
 use Rattle.program.specs.Graph.{Graph, graph}
@@ -17,11 +18,7 @@ use Rattle.program.specs.Questions.{validity, input_validity}
 use Rattle.program.specs.declared.Construction.{Construction}
 use Rattle.program.specs.declared.Construction.TheVariants.{Nondeterministic}
 use Rattle.program.specs.declared.Drawn.{Drawn}
-use Rattle.program.specs.declared.First.{First}
-use Rattle.program.specs.declared.First.TheVariants.{At, Nothing}
 use Rattle.program.specs.declared.Refusal.{Refusal}
-use Rattle.program.specs.declared.Validity.{Validity}
-use Rattle.program.specs.declared.Validity.TheVariants.{Fit, Refused}
 use Rattle.program.proofs.Laws.{counts, sizes_length, ask_fit, then_first, then_second, placed_fit, placed_ask, placed_then, placed_each, validity_placed, input_placed}
 use Rattle.program.proofs.Places.{Told, Placed}
 use Rattle.program.proofs.Tests.{two}
@@ -67,16 +64,16 @@ unfolding drawn draw_validity drawn_by
 drawn_placed κ s buffer = by (draw_validity κ s buffer) (placed_then _ _ (validity_placed s) (λ _. placed_ask _ 13 0 tt (omega arith)))
   where
     by : (v : Validity) → Placed 7244 v → Placed 7244 (drawn_by κ s v).validity
-    by Fit p = p
-    by (Refused x) p = p
+    by (Ok _) p = p
+    by (Err x) p = p
 
 pub split_placed : (s : List ℕ) (place : ℕ) → Placed 7244 (split s place).validity
 unfolding split split_by
 split_placed s place = by (validity s) (validity_placed s)
   where
     by : (v : Validity) → Placed 7244 v → Placed 7244 (split_by v (record_width (sizes s)) place).validity
-    by Fit p = p
-    by (Refused x) p = p
+    by (Ok _) p = p
+    by (Err x) p = p
 
 -- ---- Steps and runs
 
@@ -85,8 +82,8 @@ OutcomeTold o = (x : Refusal) → o ≡ Refuses x → Told 7244 x
 
 outcome_unless : (v : Validity) (o : Outcome) → Placed 7244 v → OutcomeTold o → OutcomeTold (outcome_unless_refused v o)
 unfolding outcome_unless_refused
-outcome_unless Fit o p q = q
-outcome_unless (Refused y) o p q = λ x e. let same : y ≡ x = cc in p x (ap Refused same)
+outcome_unless (Ok _) o p q = q
+outcome_unless (Err y) o p q = λ x e. let same : y ≡ x = cc in p x (ap Err same)
 
 effect_outcome : (x : Effect) → OutcomeTold (outcome_by x)
 unfolding outcome_by
@@ -111,10 +108,10 @@ arrived_or : (b : Bool) (c : Configuration) (r : Result) → EndingTold r.ending
 arrived_or true c r p = λ x e. never (cc)
 arrived_or false c r p = p
 
-goes_told : (further : ℕ → Result) (c : Configuration) (f : First) → ((e : ℕ) → EndingTold (further e).ending) → EndingTold (goes_on further c f).ending
+goes_told : (further : ℕ → Result) (c : Configuration) (f : Option ℕ) → ((e : ℕ) → EndingTold (further e).ending) → EndingTold (goes_on further c f).ending
 unfolding goes_on
-goes_told further c (At e) p = p e
-goes_told further c Nothing p = λ x e. never (cc)
+goes_told further c (Some e) p = p e
+goes_told further c None p = λ x e. never (cc)
 
 run_told : (budget : ℕ) (ns : List ℕ) (g : Graph) (c : Configuration) → EndingTold (run_from budget ns g c).ending
 unfolding run_from
@@ -126,8 +123,8 @@ run_told (suc budget) ns g c =
 
 ends_told : (v : Validity) (m : List ℤ) (r : Result) → Placed 7244 v → EndingTold r.ending → EndingTold (ends_unless_refused v m r).ending
 unfolding ends_unless_refused
-ends_told Fit m r p q = q
-ends_told (Refused y) m r p q = λ x e. let same : y ≡ x = cc in p x (ap Refused same)
+ends_told (Ok _) m r p q = q
+ends_told (Err y) m r p q = λ x e. let same : y ≡ x = cc in p x (ap Err same)
 
 pub budget_told : (κ : Construction) (s : List ℕ) (budget : ℕ) (m : List ℤ) → EndingTold (budget_reply κ s budget m).ending
 unfolding budget_reply program_budgeted budgeted memory_validity
@@ -168,7 +165,7 @@ whole_short width bytes e l =
     let few : length bytes / width ≤ 4096 = leb-true _ _ known.1 in
     omega (arith, div-add-mod' (length bytes) width, mul-le-mul few l)
 
-few_names : (s : List ℕ) → validity s ≡ Fit → length (sizes s) ≤ 32
+few_names : (s : List ℕ) → validity s ≡ Ok tt → length (sizes s) ≤ 32
 few_names s fit = omega (arith, sizes_length s, (counts s fit).names)
 
 -- ---- Verdicts
@@ -177,31 +174,31 @@ pub record VerdictTold (v : Verdict) : Type 0 where
   pub refused : (x : Refusal) → v ≡ Declines x → Told 7244 x
   pub wrong : (w : WrongByte) → v ≡ Malformed w → w.offset ≤ 139264
 
-verdict_unless : (v : Validity) (d : Verdict) → Placed 7244 v → (v ≡ Fit → VerdictTold d) → VerdictTold (verdict_unless_refused v d)
+verdict_unless : (v : Validity) (d : Verdict) → Placed 7244 v → (v ≡ Ok tt → VerdictTold d) → VerdictTold (verdict_unless_refused v d)
 unfolding verdict_unless_refused
-verdict_unless Fit d p q = q refl
-verdict_unless (Refused y) d p q =
+verdict_unless (Ok _) d p q = q refl
+verdict_unless (Err y) d p q =
     record {
-      refused = λ x e. let same : y ≡ x = cc in p x (ap Refused same);
+      refused = λ x e. let same : y ≡ x = cc in p x (ap Err same);
       wrong = λ w e. never (cc);
     }
 
 verdict_formed : (list : RecordList) (v : Validity) (d : Verdict) → Placed 139264 v → VerdictTold d → VerdictTold (unless_malformed list v d)
 unfolding unless_malformed wrong_byte
-verdict_formed list Fit d p q = q
-verdict_formed list (Refused y) d p q =
+verdict_formed list (Ok _) d p q = q
+verdict_formed list (Err y) d p q =
     record {
       refused = λ x e. never (cc);
       wrong = λ w e. let same : wrong_byte list y ≡ w = cc in rw (← same) (p y refl).near;
     }
 
-verdict_found : (f : First) (spot : Spot) (mark : Mark) → VerdictTold (verdict_by f spot mark)
+verdict_found : (f : Option ℕ) (spot : Spot) (mark : Mark) → VerdictTold (verdict_by f spot mark)
 unfolding verdict_by
-verdict_found (At k) spot mark = record { refused = λ x e. never (cc); wrong = λ w e. never (cc) }
-verdict_found Nothing (Here k e) mark = record { refused = λ x e. never (cc); wrong = λ w e. never (cc) }
-verdict_found Nothing Nowhere mark = record { refused = λ x e. never (cc); wrong = λ w e. never (cc) }
+verdict_found (Some k) spot mark = record { refused = λ x e. never (cc); wrong = λ w e. never (cc) }
+verdict_found None (Here k e) mark = record { refused = λ x e. never (cc); wrong = λ w e. never (cc) }
+verdict_found None Nowhere mark = record { refused = λ x e. never (cc); wrong = λ w e. never (cc) }
 
-both_short : (ns initial solution : List ℕ) → length ns ≤ 32 → both_whole ns initial solution ≡ Fit → (length initial ≤ 139264) × (length solution ≤ 139264)
+both_short : (ns initial solution : List ℕ) → length ns ≤ 32 → both_whole ns initial solution ≡ Ok tt → (length initial ≤ 139264) × (length solution ≤ 139264)
 unfolding both_whole initial_width record_width
 both_short ns initial solution l e =
     let known = two (whole_records (length ns) initial) (whole_records (2 + length ns) solution) (ask_fit _ 16 0 e) in
@@ -227,17 +224,17 @@ pub record MarkingTold (m : Marking) : Type 0 where
   pub refused : (x : Refusal) → m ≡ MarkRefused x → Told 7244 x
   pub wrong : (w : WrongByte) → m ≡ MarkMalformed w → w.offset ≤ 139264
 
-marking_by_lem : (v f : Validity) (mark : Mark) → Placed 7244 v → (v ≡ Fit → Placed 139264 f) → MarkingTold (marking_by v f mark)
+marking_by_lem : (v f : Validity) (mark : Mark) → Placed 7244 v → (v ≡ Ok tt → Placed 139264 f) → MarkingTold (marking_by v f mark)
 unfolding marking_by wrong_byte
-marking_by_lem Fit Fit mark p q = record { refused = λ x e. never (cc); wrong = λ w e. never (cc) }
-marking_by_lem Fit (Refused y) mark p q =
+marking_by_lem (Ok _) (Ok _) mark p q = record { refused = λ x e. never (cc); wrong = λ w e. never (cc) }
+marking_by_lem (Ok _) (Err y) mark p q =
     record {
       refused = λ x e. never (cc);
       wrong = λ w e. let same : wrong_byte Solution y ≡ w = cc in rw (← same) (q refl y refl).near;
     }
-marking_by_lem (Refused y) f mark p q =
+marking_by_lem (Err y) f mark p q =
     record {
-      refused = λ x e. let same : y ≡ x = cc in p x (ap Refused same);
+      refused = λ x e. let same : y ≡ x = cc in p x (ap Err same);
       wrong = λ w e. never (cc);
     }
 
@@ -260,17 +257,17 @@ unfolding finished_or
 finished_told true = record { refused = λ x e. never (cc); wrong = λ w e. never (cc) }
 finished_told false = record { refused = λ x e. never (cc); wrong = λ w e. never (cc) }
 
-solved_with_lem : (v f : Validity) (found : Found) → Placed 7244 v → (v ≡ Fit → Placed 139264 f) → SolvingTold (solved_with v f found).solving
+solved_with_lem : (v f : Validity) (found : Found) → Placed 7244 v → (v ≡ Ok tt → Placed 139264 f) → SolvingTold (solved_with v f found).solving
 unfolding solved_with wrong_byte
-solved_with_lem Fit Fit found p q = finished_told found.full
-solved_with_lem Fit (Refused y) found p q =
+solved_with_lem (Ok _) (Ok _) found p q = finished_told found.full
+solved_with_lem (Ok _) (Err y) found p q =
     record {
       refused = λ x e. never (cc);
       wrong = λ w e. let same : wrong_byte Initial y ≡ w = cc in rw (← same) (q refl y refl).near;
     }
-solved_with_lem (Refused y) f found p q =
+solved_with_lem (Err y) f found p q =
     record {
-      refused = λ x e. let same : y ≡ x = cc in p x (ap Refused same);
+      refused = λ x e. let same : y ≡ x = cc in p x (ap Err same);
       wrong = λ w e. never (cc);
     }
 
@@ -284,19 +281,19 @@ solved_told κ s initial buffer =
 
 -- ---- So every place fits in a reply
 
-validity_narrow : {most : ℕ} {v w : Validity} → most < 4294967296 → Placed most w → v ≡ w → (x : Refusal) → v ≡ Refused x → Narrow x.offset
+validity_narrow : {most : ℕ} {v w : Validity} → most < 4294967296 → Placed most w → v ≡ w → (x : Refusal) → v ≡ Err x → Narrow x.offset
 validity_narrow l p same x e = omega (arith, (p x (sym same ∙ e)).near)
 
-pub program_narrow : (s : List ℕ) {v : Validity} → v ≡ validity s → (x : Refusal) → v ≡ Refused x → Narrow x.offset
+pub program_narrow : (s : List ℕ) {v : Validity} → v ≡ validity s → (x : Refusal) → v ≡ Err x → Narrow x.offset
 program_narrow s = validity_narrow (omega arith) (validity_placed s)
 
-pub input_narrow : (s : List ℕ) {v : Validity} → v ≡ input_validity s → (x : Refusal) → v ≡ Refused x → Narrow x.offset
+pub input_narrow : (s : List ℕ) {v : Validity} → v ≡ input_validity s → (x : Refusal) → v ≡ Err x → Narrow x.offset
 input_narrow s = validity_narrow (omega arith) (input_placed s)
 
-pub drawn_narrow : (κ : Construction) (s buffer : List ℕ) {d : Drawn} → d ≡ drawn κ s buffer → (x : Refusal) → d.validity ≡ Refused x → Narrow x.offset
+pub drawn_narrow : (κ : Construction) (s buffer : List ℕ) {d : Drawn} → d ≡ drawn κ s buffer → (x : Refusal) → d.validity ≡ Err x → Narrow x.offset
 drawn_narrow κ s buffer same = validity_narrow (omega arith) (drawn_placed κ s buffer) (ap (λ (d : Drawn). d.validity) same)
 
-pub split_narrow : (s : List ℕ) (place : ℕ) {r : Split} → r ≡ split s place → (x : Refusal) → r.validity ≡ Refused x → Narrow x.offset
+pub split_narrow : (s : List ℕ) (place : ℕ) {r : Split} → r ≡ split s place → (x : Refusal) → r.validity ≡ Err x → Narrow x.offset
 split_narrow s place same = validity_narrow (omega arith) (split_placed s place) (ap (λ (r : Split). r.validity) same)
 
 pub stepped_narrow : (κ : Construction) (s : List ℕ) (c : Configuration) (e : ℕ) {r : Stepped} → r ≡ step_reply κ s c e → (x : Refusal) → r.outcome ≡ Refuses x → Narrow x.offset
@@ -324,8 +321,8 @@ solved_narrow κ s initial buffer same =
     let solving = ap (λ (r : Solved). r.solving) (sym same) in
     record { refused = λ x e. omega (arith, (told.refused x (solving ∙ e)).near); malformed = λ w e. omega (arith, told.wrong w (solving ∙ e)) }
 
-pub list_narrow : (marks : List ℤ) {f : Figures} → f ≡ list_figures marks → (x : Refusal) → f.validity ≡ Refused x → Narrow x.offset
+pub list_narrow : (marks : List ℤ) {f : Figures} → f ≡ list_figures marks → (x : Refusal) → f.validity ≡ Err x → Narrow x.offset
 list_narrow marks same = validity_narrow (omega arith) (list_placed marks) (ap (λ (f : Figures). f.validity) same)
 
-pub join_narrow : (a b : Totals) {f : Figures} → f ≡ join_figures a b → (x : Refusal) → f.validity ≡ Refused x → Narrow x.offset
+pub join_narrow : (a b : Totals) {f : Figures} → f ≡ join_figures a b → (x : Refusal) → f.validity ≡ Err x → Narrow x.offset
 join_narrow a b same = validity_narrow (omega arith) (join_placed a b) (ap (λ (f : Figures). f.validity) same)

@@ -9,7 +9,7 @@ ghost use Rattle.desk.specs.Rows as row;
 
 use crate::{files, reply};
 use figures::{Figures, Fraction, Totals, class};
-use program::Validity;
+use program::Refusal;
 
 // The numbers of the row.
 const FIGURES: usize = 10;
@@ -46,7 +46,7 @@ fn put_from(totals: Totals, mean: Fraction, variance: Fraction, at: usize, reply
 
 // The row of figures at the front of a reply that has room; returns what the call returns.
 fn put(f: Figures, reply: &mut [i64]) -> i32
-    requires narrow { (x : Refusal) → f.validity ≡ Validity.Refused x → spec.Narrow x.offset }
+    requires narrow { (x : Refusal) → f.validity ≡ Err x → spec.Narrow x.offset }
     requires room { row.figures_room ≤ length reply.old }
     ensures { spec.Tells row.figures_room (row.figures_told (Class.figures_numbers f)) reply.old result reply.new }
 {

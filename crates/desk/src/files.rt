@@ -9,7 +9,7 @@ ghost use Rattle.desk.specs.Reply as spec;
 ghost use Rattle.desk.specs.Rows as row;
 
 use crate::{Head, reply};
-use program::{Validity, drawing, validation};
+use program::{Refusal, drawing, validation};
 
 // The numbers of each row.
 const VALIDATION: usize = 3;
@@ -19,13 +19,13 @@ const PARTS: usize = 6;
 const DRAWING: usize = 5;
 
 // What the questions answered.
-pub(crate) fn of_validity(v: Validity) -> Head
-    requires { (x : Refusal) → v ≡ Validity.Refused x → spec.Narrow x.offset }
+pub(crate) fn of_validity(v: Result<(), Refusal>) -> Head
+    requires { (x : Refusal) → v ≡ Err x → spec.Narrow x.offset }
     ensures { result ≡ heads.validity_head v }
 {
     match v {
-        Validity::Fit => Head::Answered(0),
-        Validity::Refused(x) => Head::Refused(x.number, x.offset as u32),
+        Ok(()) => Head::Answered(0),
+        Err(x) => Head::Refused(x.number, x.offset as u32),
     }
 }
 
@@ -63,16 +63,12 @@ pub extern "C" fn pizwoter_input_parts(input: &[u8], reply: &mut [i64]) -> i32
     }
     let v = validation::validate_input(input);
     match v {
-        Validity::Fit => {
+        Ok(()) => {
             let program = validation::program_part(input).len() as u32;
             let initial = validation::initial_part(input).len() as u32;
             reply::put(Head::Answered(0), &[program, program + 3, initial], reply)
         }
-        Validity::Refused(x) => reply::put(
-            Head::Refused(x.number, x.offset as u32),
-            &[0, 0, 0],
-            reply,
-        ),
+        Err(x) => reply::put(Head::Refused(x.number, x.offset as u32), &[0, 0, 0], reply),
     }
 }
 

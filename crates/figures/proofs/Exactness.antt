@@ -1,4 +1,5 @@
 -- What a reply that is not refused says: fractions in lowest terms, no variance below zero, totals that can be joined again.
+use Rattle.std.specs.Prelude.{Ok}
 use Prim.Native.Nat.{ℕ, ◌+◌, ◌*◌, ◌/◌, ◌≤◌}
 use mathlib.Core.Path.{◌≡◌, sym, subst, ◌∙◌}
 use mathlib.Core.Bool.{true, false≢true}
@@ -9,7 +10,6 @@ use lib.IntN.{ℤ, pos, negsuc}
 use lib.Signed.{le_z, quot_z}
 use Rattle.program.proofs.Laws.{ask_fit}
 use Rattle.program.proofs.Tests.{three}
-use Rattle.program.specs.declared.Validity.TheVariants.{Fit}
 use Rattle.figures.specs.Figures.{mean, variance, join_validity, figures_by, list_figures, join_figures, Exact}
 use Rattle.figures.specs.Fraction.{lowest}
 use Rattle.figures.specs.Totals.{totals, joined, spread, countable, possible}
@@ -33,7 +33,7 @@ pub list_variance : (marks : List ℤ) → le_z (pos 0) (variance (totals marks)
 list_variance marks = variance_natural (totals marks) (list_spread marks)
 
 -- of totals that a class can have
-figures_exact : (t : Totals) → 1 ≤ t.count → Possible t → Exact (figures_by Fit t)
+figures_exact : (t : Totals) → 1 ≤ t.count → Possible t → Exact (figures_by (Ok tt) t)
 unfolding figures_by mean variance
 figures_exact t some can =
     record {
@@ -43,13 +43,13 @@ figures_exact t some can =
       again = possible_is t can;
     }
 
-pub list_exact : (marks : List ℤ) → (list_figures marks).validity ≡ Fit → Exact (list_figures marks)
+pub list_exact : (marks : List ℤ) → (list_figures marks).validity ≡ Ok tt → Exact (list_figures marks)
 unfolding totals
 list_exact marks e =
     let fit = sym (list_answer marks) ∙ e in
     subst Exact (sym (list_fit marks fit)) (figures_exact (totals marks) (fit_count marks fit).some (list_possible marks (fit_in_range marks fit)))
 
-pub join_exact : (a b : Totals) → (join_figures a b).validity ≡ Fit → Exact (join_figures a b)
+pub join_exact : (a b : Totals) → (join_figures a b).validity ≡ Ok tt → Exact (join_figures a b)
 unfolding join_validity joined
 join_exact a b e =
     let yes = ask_fit _ 23 0 (sym (join_answer a b) ∙ e) in

@@ -1,4 +1,5 @@
 -- Two lists together: joined, their totals give the reply of the one list.
+use Rattle.std.specs.Prelude.{Ok}
 use Prim.Native.Nat.{ℕ, zero, suc, ◌+◌, ◌≤◌}
 use mathlib.Core.Path.{◌≡◌, refl, sym, ap, ◌∙◌}
 use mathlib.Core.Bool.{Bool, true, false, ◌&&◌}
@@ -13,7 +14,6 @@ use Rattle.program.proofs.Asking.{then_fit}
 use Rattle.program.proofs.Laws.{each_goes_on}
 use Rattle.program.specs.Asking.{ask, ask_plain, then_ask, ask_each, is_refused}
 use Rattle.program.specs.FirstSuch.{first_of}
-use Rattle.program.specs.declared.Validity.TheVariants.{Fit}
 use Rattle.figures.specs.Figures.{in_range, InRange, mark_validity, list_validity, join_validity, figures_by, list_figures, join_figures}
 use Rattle.figures.specs.Totals.{square, totals, joined, countable}
 use Rattle.figures.specs.declared.Figures.{Figures}
@@ -34,15 +34,15 @@ in_range_append xs ys hx hy k h = elim (dec_le (suc k) (length xs)) [ yes l ↦ 
     second (j, e) = rw (← e, get_or-append-add xs ys j (pos 0)) (hy j (omega (arith, length-append xs ys)))
 
 -- the questions: a list of marks in the range is asked about its length alone
-in_range_fit : (marks : List ℤ) (k : ℕ) → in_range (get_or marks k (pos 0)) ≡ true → Fit ≡ mark_validity marks k
+in_range_fit : (marks : List ℤ) (k : ℕ) → in_range (get_or marks k (pos 0)) ≡ true → (Ok tt) ≡ mark_validity marks k
 unfolding mark_validity ask
 in_range_fit marks k e = rw e
 
-pub each_in_range : (marks : List ℤ) → InRange marks → (n : ℕ) → n ≤ length marks → ask_each n (mark_validity marks) ≡ Fit
+pub each_in_range : (marks : List ℤ) → InRange marks → (n : ℕ) → n ≤ length marks → ask_each n (mark_validity marks) ≡ Ok tt
 unfolding ask_each first_of is_refused
 each_in_range marks within zero h = refl
 each_in_range marks within (suc n) h =
-    each_goes_on (mark_validity marks) n Fit false (each_in_range marks within n (omega arith)) (in_range_fit marks n (within n h)) refl refl
+    each_goes_on (mark_validity marks) n (Ok tt) false (each_in_range marks within n (omega arith)) (in_range_fit marks n (within n h)) refl refl
 
 list_asked : (marks : List ℤ) → InRange marks → list_validity marks ≡ ask_plain (countable (length marks)) 23
 unfolding list_validity
@@ -69,7 +69,7 @@ unfolding join_figures list_figures
 joint xs ys hx hy =
     ap (λ v. figures_by v (joined (totals xs) (totals ys))) (join_asked xs ys hx hy) ∙ ap (figures_by (list_validity (xs ++ ys))) (totals_append xs ys)
 
-pub joint_replies : (xs ys : List ℤ) → (list_figures xs).validity ≡ Fit → (list_figures ys).validity ≡ Fit
+pub joint_replies : (xs ys : List ℤ) → (list_figures xs).validity ≡ Ok tt → (list_figures ys).validity ≡ Ok tt
     → join_figures (list_figures xs).totals (list_figures ys).totals ≡ list_figures (xs ++ ys)
 joint_replies xs ys ex ey =
     let fx = sym (list_answer xs) ∙ ex in
@@ -77,10 +77,10 @@ joint_replies xs ys ex ey =
     rw (list_totals xs fx, list_totals ys fy) (joint xs ys (fit_in_range xs fx) (fit_in_range ys fy))
 
 -- and the totals that a join gives, joined again
-pub joint_again : (xs ys zs : List ℤ) → InRange xs → InRange ys → InRange zs → (join_figures (totals xs) (totals ys)).validity ≡ Fit
+pub joint_again : (xs ys zs : List ℤ) → InRange xs → InRange ys → InRange zs → (join_figures (totals xs) (totals ys)).validity ≡ Ok tt
     → join_figures (join_figures (totals xs) (totals ys)).totals (totals zs) ≡ list_figures (xs ++ ys ++ zs)
 joint_again xs ys zs hx hy hz e =
     let both = joint xs ys hx hy in
-    let fit : list_validity (xs ++ ys) ≡ Fit = sym (list_answer (xs ++ ys)) ∙ ap (λ (f : Figures). f.validity) (sym both) ∙ e in
+    let fit : list_validity (xs ++ ys) ≡ (Ok tt) = sym (list_answer (xs ++ ys)) ∙ ap (λ (f : Figures). f.validity) (sym both) ∙ e in
     ap (λ t. join_figures t (totals zs)) (ap (λ (f : Figures). f.totals) both ∙ list_totals (xs ++ ys) fit)
     ∙ joint (xs ++ ys) zs (in_range_append xs ys hx hy) hz

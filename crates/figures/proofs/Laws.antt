@@ -1,4 +1,5 @@
 -- The theorems on class figures, on one page. Their proofs are in the modules that they cite.
+use Rattle.std.specs.Prelude.{Ok}
 use mathlib.Core.Path.{◌≡◌}
 use mathlib.Core.Bool.{true}
 use mathlib.Core.List.{List, ◌++◌}
@@ -6,7 +7,6 @@ use Prim.Native.Nat.{ℕ, ◌<◌, ◌∣◌}
 use lib.IntN.{ℤ, pos}
 use lib.Signed.{le_z}
 use Rattle.program.proofs.Places.{Placed}
-use Rattle.program.specs.declared.Validity.TheVariants.{Fit}
 use Rattle.figures.specs.Figures.{InRange, variance, list_figures, join_figures, figures_numbers, Exact}
 use Rattle.figures.specs.Fraction.{gcd, lowest, nought, LowestTerms}
 use Rattle.figures.specs.Totals.{longest, totals}
@@ -47,10 +47,10 @@ lowest_zero = Lowest.lowest_zero
 
 -- a reply of a list and of a join, where it is not refused: the fractions are in lowest terms and equal as ratios to what the order says, the
 -- variance is not below zero, and the totals can be joined again
-pub list_exact : (marks : List ℤ) → (list_figures marks).validity ≡ Fit → Exact (list_figures marks)
+pub list_exact : (marks : List ℤ) → (list_figures marks).validity ≡ Ok tt → Exact (list_figures marks)
 list_exact = Exactness.list_exact
 
-pub join_exact : (a b : Totals) → (join_figures a b).validity ≡ Fit → Exact (join_figures a b)
+pub join_exact : (a b : Totals) → (join_figures a b).validity ≡ Ok tt → Exact (join_figures a b)
 join_exact = Exactness.join_exact
 
 -- a refusal has a number, and its place is small
@@ -69,11 +69,11 @@ list_variance = Exactness.list_variance
 pub joint : (xs ys : List ℤ) → InRange xs → InRange ys → join_figures (totals xs) (totals ys) ≡ list_figures (xs ++ ys)
 joint = Joint.joint
 
-pub joint_replies : (xs ys : List ℤ) → (list_figures xs).validity ≡ Fit → (list_figures ys).validity ≡ Fit
+pub joint_replies : (xs ys : List ℤ) → (list_figures xs).validity ≡ Ok tt → (list_figures ys).validity ≡ Ok tt
     → join_figures (list_figures xs).totals (list_figures ys).totals ≡ list_figures (xs ++ ys)
 joint_replies = Joint.joint_replies
 
-pub joint_again : (xs ys zs : List ℤ) → InRange xs → InRange ys → InRange zs → (join_figures (totals xs) (totals ys)).validity ≡ Fit
+pub joint_again : (xs ys zs : List ℤ) → InRange xs → InRange ys → InRange zs → (join_figures (totals xs) (totals ys)).validity ≡ Ok tt
     → join_figures (join_figures (totals xs) (totals ys)).totals (totals zs) ≡ list_figures (xs ++ ys ++ zs)
 joint_again = Joint.joint_again
 

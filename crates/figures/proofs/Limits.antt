@@ -1,4 +1,5 @@
 -- What the answers to the questions say in numbers: a fit list is short and its marks small, and small totals keep products in 64 bits.
+use Rattle.std.specs.Prelude.{Ok}
 use Prim.Native.Nat.{ℕ, ◌+◌, ◌≤◌, ◌<◌}
 use mathlib.Core.Path.{◌≡◌}
 use mathlib.Core.Bool.{Bool, true, ◌&&◌}
@@ -16,7 +17,6 @@ use mir.ValLaws.{to_z-of_z}
 use Rattle.signs.proofs.Signed as Signed
 use Rattle.program.proofs.Laws.{ask_fit, then_first, then_second, each_fit}
 use Rattle.program.proofs.Tests.{two, three}
-use Rattle.program.specs.declared.Validity.TheVariants.{Fit}
 use Rattle.figures.specs.Parts.Bounds.{Limited, Bounded}
 use Rattle.figures.specs.Figures.{in_range, InRange, mark_validity, list_validity}
 use Rattle.figures.specs.Totals.{longest, highest, highest_square, square, totals, joined, spread, countable, possible}
@@ -39,7 +39,7 @@ unfolding countable
 counted n e = let ends = two _ _ e in record { some = leb-true 1 n ends.0; few = leb-true n longest ends.1 }
 
 -- a fit list: its length, and its marks
-module _ (marks : List ℤ) (fit : list_validity marks ≡ Fit) where
+module _ (marks : List ℤ) (fit : list_validity marks ≡ Ok tt) where
   pub fit_count : Counted (length marks)
   unfolding list_validity
   fit_count = counted (length marks) (ask_fit _ 23 0 (then_first _ _ fit))
@@ -156,7 +156,7 @@ module _ (t : Totals) (b : Bounded t) where
   small_handed = handed_is t sum_fits squares_fits
 
 -- which totals are small: those of a fit list, those that a class can have, and two such joined
-pub fit_bounded : (marks : List ℤ) → list_validity marks ≡ Fit → Bounded (totals marks)
+pub fit_bounded : (marks : List ℤ) → list_validity marks ≡ Ok tt → Bounded (totals marks)
 unfolding totals
 fit_bounded marks fit = record { few = (fit_count marks fit).few; limits = (list_possible marks (fit_in_range marks fit)).limits }
 

@@ -1,4 +1,5 @@
 -- Rows of figures read back: two replies with the same row are the same.
+use Rattle.std.specs.Prelude.{Err, Ok}
 use mathlib.Core.Path.{◌≡◌, refl}
 use mathlib.Core.Bool.{cond}
 use mathlib.Core.List.{List}
@@ -7,9 +8,7 @@ use lib.Dec.{eqb}
 use lib.IntN.{ℤ, pos}
 use lib.ListN.{length, get_or}
 use Rattle.signs.proofs.Readback.{natural}
-use Rattle.program.specs.Asking.{validity_numbers}
-use Rattle.program.specs.declared.Validity.{Validity}
-use Rattle.program.specs.declared.Validity.TheVariants.{Fit, Refused}
+use Rattle.program.specs.Asking.{validity_numbers, Validity}
 use Rattle.program.proofs.Laws.{same_row}
 use Rattle.figures.specs.Figures.{fraction_numbers, totals_numbers, figures_numbers}
 use Rattle.figures.specs.declared.Figures.{Figures}
@@ -29,13 +28,13 @@ read_from v l i =
 abbrev figures_read : List ℤ → Figures
 figures_read l =
     cond (eqb (length l) 8)
-    (read_from Fit l 1)
-    (read_from (Refused (record { number = natural (get_or l 0 (pos 0)); offset = natural (get_or l 1 (pos 0)) })) l 2)
+    (read_from (Ok tt) l 1)
+    (read_from (Err (record { number = natural (get_or l 0 (pos 0)); offset = natural (get_or l 1 (pos 0)) })) l 2)
 
 figures_back : (v : Validity) (t : Totals) (m w : Fraction) → let f : Figures = record { validity = v; totals = t; mean = m; variance = w } in figures_read (figures_numbers f) ≡ f
 unfolding figures_numbers fraction_numbers totals_numbers validity_numbers natural
-figures_back Fit t m w = refl
-figures_back (Refused x) t m w = refl
+figures_back (Ok _) t m w = refl
+figures_back (Err x) t m w = refl
 
 pub figures_row_lem : (f g : Figures) → figures_numbers f ≡ figures_numbers g → f ≡ g
 figures_row_lem f g =

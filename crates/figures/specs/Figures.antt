@@ -1,9 +1,7 @@
 -- The figures of a list of marks, and of two classes joined (document 02, order 13).
-use Rattle.std.specs.Prelude.{ℕ, ◌+◌, ◌*◌, ◌<◌, ◌≡◌, Bool, true, ◌&&◌, List, [], ◌∷◌, ◌++◌, map, ℤ, pos, neg_ℤ, length, get_or}
+use Rattle.std.specs.Prelude.{ℕ, ◌+◌, ◌*◌, ◌<◌, ◌≡◌, Bool, true, ◌&&◌, List, [], ◌∷◌, ◌++◌, map, ℤ, pos, neg_ℤ, length, get_or, Err, Ok}
 use Rattle.std.specs.Int.Signed.{le_z}
-use Rattle.program.specs.Asking.{ask, ask_plain, then_ask, ask_each, validity_numbers}
-use Rattle.program.specs.declared.Validity.{Validity}
-use Rattle.program.specs.declared.Validity.TheVariants.{Fit, Refused}
+use Rattle.program.specs.Asking.{ask, ask_plain, then_ask, ask_each, validity_numbers, Validity}
 use Rattle.figures.specs.Fraction.{lowest, nought, LowestTerms}
 use Rattle.figures.specs.Totals.{highest, totals, none, joined, spread, countable, possible}
 use Rattle.figures.specs.declared.Figures.{Figures}
@@ -40,8 +38,8 @@ join_validity a b = ask_plain (countable (a.count + b.count) && possible a && po
 
 -- the figures of totals, by the answer to the questions: refused, the totals are zero and both fractions 0 over 1
 unfoldable pub figures_by : Validity → Totals → Figures
-figures_by Fit t = record { validity = Fit; totals = t; mean = mean t; variance = variance t }
-figures_by (Refused x) t = record { validity = Refused x; totals = none; mean = nought; variance = nought }
+figures_by (Ok _) t = record { validity = Ok tt; totals = t; mean = mean t; variance = variance t }
+figures_by (Err x) t = record { validity = Err x; totals = none; mean = nought; variance = nought }
 
 -- the figures of a list of marks
 unfoldable pub list_figures : List ℤ → Figures

@@ -4,13 +4,12 @@ ghost use Rattle.std.specs.Prelude.{◌≤◌, ◌≡◌};
 ghost use Rattle.figures.specs.Parts.Bounds.{Bounded};
 ghost use Rattle.figures.specs.Figures;
 ghost use Rattle.figures.specs.Totals as spec;
-ghost use Rattle.program.specs.declared.Validity.TheVariants.{Fit};
 
 use crate::Totals;
 
 // The totals of a list that answers 23 and 24 well.
 pub(crate) fn of_marks(marks: &[i32]) -> Totals
-    requires { Figures.list_validity marks.now ≡ Fit }
+    requires { Figures.list_validity marks.now ≡ Ok tt }
     ensures { result ≡ spec.totals marks.now }
 {
     let mut sum: i64 = 0;

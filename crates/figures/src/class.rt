@@ -5,10 +5,9 @@ ghost use Rattle.program.specs.Asking;
 ghost use Rattle.figures.specs.Parts.Bounds.{Bounded};
 ghost use Rattle.figures.specs.Figures as spec;
 ghost use Rattle.figures.specs.Totals as sums;
-ghost use Rattle.program.specs.declared.Validity.TheVariants.{Fit};
 
 use crate::{Figures, Totals, adding, reducing};
-use program::{Refusal, Validity};
+use program::Refusal;
 
 // Whether so many marks are neither none nor too many.
 fn countable(count: u64) -> bool
@@ -44,44 +43,44 @@ fn all_in_range(marks: &[i32]) -> bool
 }
 
 // 24 of each mark in turn.
-fn ask_each(marks: &[i32]) -> Validity
+fn ask_each(marks: &[i32]) -> Result<(), Refusal>
     ensures { result ≡ Asking.ask_each (length marks.now) (spec.mark_validity marks.now) }
 {
     let mut i: usize = 0;
     while i < marks.len() {
         if !in_range(marks[i]) {
-            return Validity::Refused(Refusal {
+            return Err(Refusal {
                 number: 24,
                 offset: i,
             });
         }
         i += 1;
     }
-    Validity::Fit
+    Ok(())
 }
 
 // 23 of a list of marks, then 24.
-fn check(marks: &[i32]) -> Validity
+fn check(marks: &[i32]) -> Result<(), Refusal>
     ensures { result ≡ spec.list_validity marks.now }
 {
     if !countable(marks.len() as u64) {
-        return Validity::Refused(Refusal {
+        return Err(Refusal {
             number: 23,
             offset: 0,
         });
     }
     if all_in_range(marks) {
-        return Validity::Fit;
+        return Ok(());
     }
     ask_each(marks)
 }
 
 // The figures where a class is refused.
 fn refused(x: Refusal) -> Figures
-    ensures { result ≡ spec.figures_by (Validity.Refused x) sums.none }
+    ensures { result ≡ spec.figures_by (Err x) sums.none }
 {
     Figures {
-        validity: Validity::Refused(x),
+        validity: Err(x),
         totals: adding::none(),
         mean: reducing::nought(),
         variance: reducing::nought(),
@@ -90,7 +89,7 @@ fn refused(x: Refusal) -> Figures
 
 // 23, which has no place.
 fn unfit() -> Figures
-    ensures { result ≡ spec.figures_by (Validity.Refused (record { number = 23; offset = 0 })) sums.none }
+    ensures { result ≡ spec.figures_by (Err (record { number = 23; offset = 0 })) sums.none }
 {
     refused(Refusal {
         number: 23,
@@ -102,12 +101,12 @@ fn unfit() -> Figures
 fn of_totals(count: u32, sum: i64, squares: i64) -> Figures
     requires some { 1 ≤ count }
     requires bounded { Bounded (sums.class count sum squares) }
-    ensures { result ≡ spec.figures_by Fit (sums.class count sum squares) }
+    ensures { result ≡ spec.figures_by (Ok tt) (sums.class count sum squares) }
 {
     let number = count as u64;
     let spread = adding::spread(count, sum, squares);
     Figures {
-        validity: Validity::Fit,
+        validity: Ok(()),
         totals: Totals {
             count,
             sum,
@@ -125,11 +124,11 @@ pub fn of_list(marks: &[i32]) -> Figures
 {
     let v = check(marks);
     match v {
-        Validity::Fit => {
+        Ok(()) => {
             let t = adding::of_marks(marks);
             of_totals(t.count, t.sum, t.squares)
         }
-        Validity::Refused(x) => refused(x),
+        Err(x) => refused(x),
     }
 }
 

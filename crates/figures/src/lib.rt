@@ -5,7 +5,7 @@ pub(crate) mod adding;
 pub mod class;
 pub(crate) mod reducing;
 
-use program::Validity;
+use program::Refusal;
 
 // A class's totals: the number of its marks, their sum, and the sum of their squares.
 #[derive(Clone, Copy)]
@@ -25,7 +25,7 @@ pub struct Fraction {
 // What is replied of a class: where it is refused, the totals are zero and both fractions 0 over 1.
 #[derive(Clone, Copy)]
 pub struct Figures {
-    pub validity: Validity,
+    pub validity: Result<(), Refusal>,
     pub totals: Totals,
     pub mean: Fraction,
     pub variance: Fraction,

@@ -10,7 +10,7 @@
 #![tactic(auto)]
 
 use figures::{Figures, Fraction, Totals, class};
-use program::{Refusal, Validity, file};
+use program::{Refusal, file};
 use std::io::{BufWriter, Read, Write};
 use std::{fs, io};
 
@@ -33,10 +33,10 @@ fn print_refusal<W: Write>(out: &mut W, x: Refusal) -> io::Result<()> {
     printing::place(out, x.offset)
 }
 
-fn print_answer<W: Write>(out: &mut W, validity: Validity) -> io::Result<()> {
+fn print_answer<W: Write>(out: &mut W, validity: Result<(), Refusal>) -> io::Result<()> {
     match validity {
-        Validity::Fit => printing::text(out, b"0"),
-        Validity::Refused(x) => print_refusal(out, x),
+        Ok(()) => printing::text(out, b"0"),
+        Err(x) => print_refusal(out, x),
     }
 }
 

@@ -1,5 +1,6 @@
 -- An input that is cut at 32,768 bytes has its answer: the questions 1 to 4 of five fields look no further than 23,631 bytes, and a longer input has 5 answered
 -- no, at the first byte after them.
+use Rattle.std.specs.Prelude.{Err, Ok}
 use mathlib.Core.Path.{◌≡◌, refl, sym, ap, ◌∙◌}
 use mathlib.Core.Bool.{true}
 use mathlib.Core.List.{List, [], ◌∷◌}
@@ -11,14 +12,11 @@ use borrow.Author.Tests.{eqb-true, leb-true, le-leb, ne_eqb}
 use lib.Dec.{eqb, leb}
 use lib.ListN.{length, take, drop}
 use lib.Seq.{length-take-le, take-take, take_all}
-use Rattle.program.specs.Asking.{ask, then_ask, in_turn}
-use Rattle.program.specs.File.{byte_at, word_at, names_field, table_field, program_fields, initial_field, head_found, head_at, after_head, place_after, field_start, field_head, head_span, layout_of, name_count}
+use Rattle.program.specs.Asking.{ask, then_ask, in_turn, Validity}
+use Rattle.program.specs.File.{byte_at, word_at, names_field, table_field, program_fields, initial_field, head_found, head_at, after_head, place_after, field_start, field_head, head_span, layout_of, name_count, Head}
 use Rattle.program.specs.Questions.{whole_entries, head_validity, heads_validity, end_validity, input_validity}
 use Rattle.program.specs.declared.Field.{Field}
-use Rattle.program.specs.declared.Head.{Head}
 use Rattle.program.specs.declared.Table.TheVariants.{Arithmetic, Boolean, Commands}
-use Rattle.program.specs.declared.Validity.{Validity}
-use Rattle.program.specs.declared.Validity.TheVariants.{Fit, Refused}
 use Rattle.program.proofs.Asking.{refused_unfit, ask_fit, turn_fit}
 use Rattle.program.proofs.Fit.{counts_allowed}
 use Rattle.program.proofs.Heads.{whole, field_fit}
@@ -28,13 +26,13 @@ use Rattle.listing.specs.Text.{printed_text}
 use Rattle.listing.proofs.Printed.{input_refused}
 
 -- what is asked in turn is the same where the first is, and the later where the first passes
-then_same : (a b x y : Validity) → a ≡ b → (b ≡ Fit → x ≡ y) → then_ask a x ≡ then_ask b y
+then_same : (a b x y : Validity) → a ≡ b → (b ≡ Ok tt → x ≡ y) → then_ask a x ≡ then_ask b y
 unfolding then_ask
 then_same a b x y e f = rw e (by b f)
   where
-    by : (b : Validity) → (b ≡ Fit → x ≡ y) → then_ask b x ≡ then_ask b y
-    by Fit f = f refl
-    by (Refused z) f = refl
+    by : (b : Validity) → (b ≡ Ok tt → x ≡ y) → then_ask b x ≡ then_ask b y
+    by (Ok _) f = f refl
+    by (Err z) f = refl
 
 -- whole entries, as many as allowed, are no more bytes
 few_content : (f : Field) (len : ℕ) → whole_entries f len ≡ true → len ≤ f.most * f.width
@@ -46,7 +44,7 @@ few_content f len e =
     omega (arith, div-add-mod' len f.width, mul-le-mul_right f.width few)
 
 -- where the next field starts
-next_near : (s : List ℕ) (k : ℕ) (f : Field) → head_validity (length s) (field_head s k) f ≡ Fit → field_start s (suc k) ≤ field_start s k + (3 + f.most * f.width)
+next_near : (s : List ℕ) (k : ℕ) (f : Field) → head_validity (length s) (field_head s k) f ≡ Ok tt → field_start s (suc k) ≤ field_start s k + (3 + f.most * f.width)
 unfolding field_head place_after after_head head_found
 next_near s k f e =
     let head = whole s (field_start s k) f e in
@@ -100,7 +98,7 @@ module _ (s : List ℕ) (n : ℕ) (long : n ≤ length s) where
   same_heads k (f ∷ fs) e h =
       then_same _ _ _ _ (same_field k f e (omega arith)) (λ fit. same_heads (suc k) fs (same_next k e (omega arith)) (omega (arith, next_near s k f fit)))
 
-  module _ (enough : 23631 < n) (heads : heads_validity s 0 program_fields ≡ Fit) where
+  module _ (enough : 23631 < n) (heads : heads_validity s 0 program_fields ≡ Ok tt) where
     first_near : field_start s 1 ≤ 67
     unfolding program_fields names_field place_after
     first_near = next_near s 0 names_field (field_fit s heads 0 (omega arith))
@@ -137,17 +135,17 @@ module _ (s : List ℕ) (n : ℕ) (long : n ≤ length s) where
         rw same_names
         (same_field 4 (initial_field (name_count s)) same_fourth (omega (arith, fourth_near, mul-le-mul_left 512 (counts_allowed s heads).names)))
 
-    module _ (fifth : head_validity (length s) (field_head s 4) (initial_field (name_count s)) ≡ Fit) where
+    module _ (fifth : head_validity (length s) (field_head s 4) (initial_field (name_count s)) ≡ Ok tt) where
       fifth_near : field_start s 5 ≤ 23631
       unfolding initial_field
       fifth_near = omega (arith, fourth_near, next_near s 4 (initial_field (name_count s)) fifth, mul-le-mul_left 512 (counts_allowed s heads).names)
 
       -- 5 is no, of both
-      ends_no : end_validity s 5 ≡ Refused (record { number = 5; offset = field_start s 5 })
+      ends_no : end_validity s 5 ≡ Err (record { number = 5; offset = field_start s 5 })
       unfolding end_validity ask
       ends_no = rw (ne_eqb (field_start s 5) (length s) (λ e. omega (arith, fifth_near)))
 
-      cut_ends_no : end_validity cut 5 ≡ Refused (record { number = 5; offset = field_start s 5 })
+      cut_ends_no : end_validity cut 5 ≡ Err (record { number = 5; offset = field_start s 5 })
       unfolding end_validity ask
       cut_ends_no =
           rw (same_next 4 same_fourth (omega (arith, fourth_near)), cut_length, ne_eqb (field_start s 5) n (λ e. omega (arith, fifth_near)))
@@ -161,7 +159,7 @@ module _ (s : List ℕ) (n : ℕ) (long : n ≤ length s) where
         (λ heads. then_same _ _ _ _ (same_fifth enough heads)
         (λ fifth. then_same _ _ _ _ (cut_ends_no enough heads fifth ∙ sym (ends_no enough heads fifth)) (λ e. refused_unfit _ (sym (ends_no enough heads fifth) ∙ e))))
 
-    never_fit : input_validity s ≡ Fit → {A : Type 0} → A
+    never_fit : input_validity s ≡ Ok tt → {A : Type 0} → A
     unfolding input_validity
     never_fit fit = refused_unfit _ (sym (ends_no enough (turn_fit _ 0 fit) (turn_fit _ 1 fit)) ∙ turn_fit _ 2 fit)
 
@@ -174,5 +172,5 @@ cut_printed s =
     ]
   where
     by : 32768 ≤ length s → (v : Validity) → input_validity s ≡ v → printed_text (take 32768 s) ≡ printed_text s
-    by long Fit e = never_fit s 32768 long (omega arith) e
-    by long (Refused x) e = input_refused (take 32768 s) x (same_input s 32768 long (omega arith) ∙ e) ∙ sym (input_refused s x e)
+    by long (Ok _) e = never_fit s 32768 long (omega arith) e
+    by long (Err x) e = input_refused (take 32768 s) x (same_input s 32768 long (omega arith) ∙ e) ∙ sym (input_refused s x e)

@@ -1,4 +1,5 @@
 -- The text for an input, by the answers to the questions: what the solver, the drawing and the index mark reply gives the lines.
+use Rattle.std.specs.Prelude.{Err, Ok}
 use mathlib.Core.Path.{◌≡◌, refl, sym, ap, ◌∙◌}
 use mathlib.Core.Bool.{Bool, true, false, not}
 use mathlib.Core.List.{List, append-nil, flat_map, flatten}
@@ -6,7 +7,7 @@ use Prim.Native.Nat.{ℕ, ◌*◌, ◌/◌, ◌%◌, ◌+◌, ◌≤◌}
 use native.Mathlib.Omega.{arith}
 use borrow.Author.Tests.{le-leb, eq-eqb}
 use lib.ListN.{length, take}
-use Rattle.program.specs.Asking.{ask, ask_plain, then_ask, in_turn, ask_each, is_refused}
+use Rattle.program.specs.Asking.{ask, ask_plain, then_ask, in_turn, ask_each, is_refused, Validity}
 use Rattle.program.specs.Drawing.{over, drawn, drawn_by, draw_validity}
 use Rattle.program.specs.File.{name_count, sizes}
 use Rattle.program.specs.Graph.{graph, edges, edge_count, node_count}
@@ -14,8 +15,6 @@ use Rattle.program.specs.Questions.{validity, input_validity, program_part, init
 use Rattle.program.specs.declared.Construction.TheVariants.{Nondeterministic}
 use Rattle.program.specs.declared.Drawn.{Drawn}
 use Rattle.program.specs.declared.Refusal.{Refusal}
-use Rattle.program.specs.declared.Validity.{Validity}
-use Rattle.program.specs.declared.Validity.TheVariants.{Fit, Refused}
 use Rattle.program.proofs.Asking.{refused_unfit}
 use Rattle.program.proofs.Laws.{sizes_length, first_found, not_refused, turn_fit, counts, few_nodes, few_edges, program_fit, initial_whole_lem, initial_few}
 use Rattle.program.proofs.Never.{never}
@@ -41,7 +40,7 @@ use Rattle.listing.proofs.Listings.{front_is, listing_read}
 -- ---- Counts and index line
 
 -- the counts as the drawing replies them
-pub drawn_counts : (s buffer : List ℕ) (count : ℕ) → validity s ≡ Fit → length buffer ≡ 1785 → {d : Drawn} → d ≡ drawn Nondeterministic s buffer → counts_line d.nodes d.edges count ≡ counts_of s count
+pub drawn_counts : (s buffer : List ℕ) (count : ℕ) → validity s ≡ Ok tt → length buffer ≡ 1785 → {d : Drawn} → d ≡ drawn Nondeterministic s buffer → counts_line d.nodes d.edges count ≡ counts_of s count
 unfolding drawn drawn_by draw_validity then_ask ask counts_of node_count edge_count edges
 drawn_counts s buffer count fit long e = rw (e, fit, le-leb (7 * length (graph Nondeterministic s).edges) (length buffer) (omega (arith, few_edges s fit Nondeterministic)))
 
@@ -58,83 +57,83 @@ never_misshapen s bytes well e told = never (cc)
 -- ---- Which lines there are
 
 module _ (input : List ℕ) where
-  pub refused_printed : (x : Refusal) → print_validity input (sheet_of input) ≡ Refused x → printed_text input ≡ line_text (refusal_line x)
+  pub refused_printed : (x : Refusal) → print_validity input (sheet_of input) ≡ Err x → printed_text input ≡ line_text (refusal_line x)
   unfolding printed_text printed_lines lines_by flat_map
   refused_printed x e = rw e (append-nil (line_text (refusal_line x)))
 
-  pub listing_printed : print_validity input (sheet_of input) ≡ Fit → printed_text input ≡ flat_map line_text (listing (program_part input) (sheet_of input).records)
+  pub listing_printed : print_validity input (sheet_of input) ≡ Ok tt → printed_text input ≡ flat_map line_text (listing (program_part input) (sheet_of input).records)
   unfolding printed_text printed_lines lines_by
   listing_printed e = rw e
 
   -- a refusal by the file's questions
-  first_refused : (x : Refusal) → input_validity input ≡ Refused x → print_validity input (sheet_of input) ≡ Refused x
+  first_refused : (x : Refusal) → input_validity input ≡ Err x → print_validity input (sheet_of input) ≡ Err x
   unfolding print_validity in_turn then_ask
   first_refused x e = rw e
 
-  pub input_refused : (x : Refusal) → input_validity input ≡ Refused x → printed_text input ≡ line_text (refusal_line x)
+  pub input_refused : (x : Refusal) → input_validity input ≡ Err x → printed_text input ≡ line_text (refusal_line x)
   input_refused x e = refused_printed x (first_refused x e)
 
   -- after those: 17 and 18
-  later : input_validity input ≡ Fit → {formed : Validity} {full : Bool} → initial_formed (sizes (program_part input)) (initial_part input) ≡ formed → (sheet_of input).full ≡ full
-      → print_validity input (sheet_of input) ≡ then_ask formed (then_ask (ask_plain (not full) 18) Fit)
+  later : input_validity input ≡ Ok tt → {formed : Validity} {full : Bool} → initial_formed (sizes (program_part input)) (initial_part input) ≡ formed → (sheet_of input).full ≡ full
+      → print_validity input (sheet_of input) ≡ then_ask formed (then_ask (ask_plain (not full) 18) (Ok tt))
   unfolding print_validity in_turn then_ask
   later fit e f = rw (fit, e, f)
 
 -- ---- The solver's reply
 
 -- where the file's questions and 16 were answered yes, it has come to its end, or to 18, or to 17
-finished : (formed : Validity) (f : Found) → (solved_with Fit formed f).solving ≡ Finished → (formed ≡ Fit) × (f.full ≡ false)
+finished : (formed : Validity) (f : Found) → (solved_with (Ok tt) formed f).solving ≡ Finished → (formed ≡ Ok tt) × (f.full ≡ false)
 unfolding solved_with finished_or
-finished Fit f e = (refl, by f.full e)
+finished (Ok _) f e = (refl, by f.full e)
   where
     by : (b : Bool) → finished_or b ≡ Finished → b ≡ false
     by true e = never (cc)
     by false e = refl
-finished (Refused x) f e = never (cc)
+finished (Err x) f e = never (cc)
 
-full_up : (formed : Validity) (f : Found) → (solved_with Fit formed f).solving ≡ Full → (formed ≡ Fit) × (f.full ≡ true)
+full_up : (formed : Validity) (f : Found) → (solved_with (Ok tt) formed f).solving ≡ Full → (formed ≡ Ok tt) × (f.full ≡ true)
 unfolding solved_with finished_or
-full_up Fit f e = (refl, by f.full e)
+full_up (Ok _) f e = (refl, by f.full e)
   where
     by : (b : Bool) → finished_or b ≡ Full → b ≡ true
     by true e = refl
     by false e = never (cc)
-full_up (Refused x) f e = never (cc)
+full_up (Err x) f e = never (cc)
 
-malformed : (formed : Validity) (f : Found) (w : WrongByte) → (solved_with Fit formed f).solving ≡ Malformed w → (x : Refusal) × (formed ≡ Refused x) × (x.offset ≡ w.offset)
+malformed : (formed : Validity) (f : Found) (w : WrongByte) → (solved_with (Ok tt) formed f).solving ≡ Malformed w → (x : Refusal) × (formed ≡ Err x) × (x.offset ≡ w.offset)
 unfolding solved_with finished_or wrong_byte
-malformed Fit f w e = by f.full e
+malformed (Ok tt) f w e = by f.full e
   where
-    by : (b : Bool) → finished_or b ≡ Malformed w → (x : Refusal) × (Fit ≡ Refused x) × (x.offset ≡ w.offset)
+    by : (b : Bool) → finished_or b ≡ Malformed w → (x : Refusal) × ((Ok tt) ≡ Err x) × (x.offset ≡ w.offset)
     by true e = never (cc)
     by false e = never (cc)
-malformed (Refused x) f w e = (x, refl, offsets)
+malformed (Err x) f w e = (x, refl, offsets)
   where
     offsets : x.offset ≡ w.offset
     offsets = let same : record { list = Initial; offset = x.offset } ≡ w = cc in ap (λ (y : WrongByte). y.offset) same
 
-unrefused : {A : Type 0} (formed : Validity) (f : Found) (x : Refusal) → (solved_with Fit formed f).solving ≡ Refuses x → A
+unrefused : {A : Type 0} (formed : Validity) (f : Found) (x : Refusal) → (solved_with (Ok tt) formed f).solving ≡ Refuses x → A
 unfolding solved_with finished_or
-unrefused {A} Fit f x e = by f.full e
+unrefused {A} (Ok tt) f x e = by f.full e
   where
     by : (b : Bool) → finished_or b ≡ Refuses x → A
     by true e = never (cc)
     by false e = never (cc)
-unrefused (Refused y) f x e = never (cc)
+unrefused (Err y) f x e = never (cc)
 
 -- the number of a refusal: of one question, of each of a loop, and so of 17
-numbered_ask : (yes? : Bool) (n at : ℕ) (x : Refusal) → ask yes? n at ≡ Refused x → x.number ≡ n
+numbered_ask : (yes? : Bool) (n at : ℕ) (x : Refusal) → ask yes? n at ≡ Err x → x.number ≡ n
 unfolding ask
 numbered_ask true n at x e = refused_unfit x (sym e)
 numbered_ask false n at x e = let same : record { number = n; offset = at } ≡ x = cc in ap (λ (y : Refusal). y.number) (sym same)
 
-numbered_each : (number n : ℕ) (q : ℕ → Validity) → ((k : ℕ) (x : Refusal) → q k ≡ Refused x → x.number ≡ number) → (x : Refusal) → ask_each n q ≡ Refused x → x.number ≡ number
+numbered_each : (number n : ℕ) (q : ℕ → Validity) → ((k : ℕ) (x : Refusal) → q k ≡ Err x → x.number ≡ number) → (x : Refusal) → ask_each n q ≡ Err x → x.number ≡ number
 unfolding is_refused ask_each
 numbered_each number n q p x e =
-    let found = first_found is_refused Fit refl (λ v i. not_refused v (is_refused v) refl i) n q (ap is_refused e) in
+    let found = first_found is_refused (Ok tt) refl (λ v i. not_refused v (is_refused v) refl i) n q (ap is_refused e) in
     p found.at x (sym found.answer ∙ e)
 
-seventeen : (ns bytes : List ℕ) (x : Refusal) → initial_formed ns bytes ≡ Refused x → x.number ≡ 17
+seventeen : (ns bytes : List ℕ) (x : Refusal) → initial_formed ns bytes ≡ Err x → x.number ≡ 17
 unfolding initial_formed memory_formed
 seventeen ns bytes = numbered_each 17 _ _ (λ k. numbered_each 17 _ _ (λ i. numbered_ask _ 17 _))
 
@@ -143,14 +142,14 @@ few : (input : List ℕ) → room_of (sizes (program_part input)) 65536 ≤ 4096
 unfolding room_of
 few input = omega arith
 
-sheet_list : (input : List ℕ) → input_validity input ≡ Fit → initial_formed (sizes (program_part input)) (initial_part input) ≡ Fit
+sheet_list : (input : List ℕ) → input_validity input ≡ Ok tt → initial_formed (sizes (program_part input)) (initial_part input) ≡ Ok tt
     → FormedList (sizes (program_part input)) (graph Nondeterministic (program_part input)).nodes (room_of (sizes (program_part input)) 65536) (sheet_of input).records
 unfolding sheet_of
 sheet_list input fit formed = solution_list Nondeterministic (program_part input) (initial_part input) (program_fit input fit) formed _
 
 -- the reply to an input that passes its own questions, over a buffer of 65,536 bytes
-module _ (input : List ℕ) (fit : input_validity input ≡ Fit) where
-  start_whole : initial_validity (program_part input) (initial_part input) ≡ Fit
+module _ (input : List ℕ) (fit : input_validity input ≡ Ok tt) where
+  start_whole : initial_validity (program_part input) (initial_part input) ≡ Ok tt
   unfolding initial_validity then_ask initial_whole whole_records initial_width record_count ask
   start_whole =
       rw (
@@ -163,11 +162,11 @@ module _ (input : List ℕ) (fit : input_validity input ≡ Fit) where
   -- the parts as they are handed to the solver
   module _ {program initial : List ℕ} (p : program ≡ program_part input) (q : initial ≡ initial_part input) (buffer : List ℕ) (long : length buffer ≡ 65536) {r : Solved}
       (e : r ≡ solved Nondeterministic program initial buffer) where
-    reply_is : r ≡ solved_with Fit (initial_formed (sizes (program_part input)) (initial_part input)) (sheet_of input)
+    reply_is : r ≡ solved_with (Ok tt) (initial_formed (sizes (program_part input)) (initial_part input)) (sheet_of input)
     unfolding solved solution_in sheet_of
     reply_is = e ∙ rw (p, q, long, start_whole)
 
-    solving_is : {v : Solving} → r.solving ≡ v → (solved_with Fit (initial_formed (sizes (program_part input)) (initial_part input)) (sheet_of input)).solving ≡ v
+    solving_is : {v : Solving} → r.solving ≡ v → (solved_with (Ok tt) (initial_formed (sizes (program_part input)) (initial_part input)) (sheet_of input)).solving ≡ v
     solving_is told = ap (λ (x : Solved). x.solving) (sym reply_is) ∙ told
 
     pub full_told : r.solving ≡ Full → printed_text input ≡ line_text (refusal_line (record { number = 18; offset = 0 }))
@@ -186,7 +185,7 @@ module _ (input : List ℕ) (fit : input_validity input ≡ Fit) where
 
     -- the listing that is to be put
     module _ (told : r.solving ≡ Finished) where
-      answers : (initial_formed (sizes (program_part input)) (initial_part input) ≡ Fit) × ((sheet_of input).full ≡ false)
+      answers : (initial_formed (sizes (program_part input)) (initial_part input) ≡ Ok tt) × ((sheet_of input).full ≡ false)
       answers = finished _ _ (solving_is told)
 
       count_is : r.count ≡ length (sheet_of input).records
@@ -197,7 +196,7 @@ module _ (input : List ℕ) (fit : input_validity input ≡ Fit) where
       unfolding solved_buffer solution_in sheet_of buffer_with
       after_is = rw (p, q, long, start_whole, answers.0)
 
-      printed : print_validity input (sheet_of input) ≡ Fit
+      printed : print_validity input (sheet_of input) ≡ Ok tt
       unfolding then_ask ask
       printed = later input fit answers.0 answers.1
 
@@ -214,12 +213,12 @@ module _ (input : List ℕ) (fit : input_validity input ≡ Fit) where
 
 -- ---- The room that any text needs
 
-module _ (input : List ℕ) (e : print_validity input (sheet_of input) ≡ Fit) where
-  passed_input : input_validity input ≡ Fit
+module _ (input : List ℕ) (e : print_validity input (sheet_of input) ≡ Ok tt) where
+  passed_input : input_validity input ≡ Ok tt
   unfolding print_validity
   passed_input = turn_fit _ 0 e
 
-  passed_start : initial_formed (sizes (program_part input)) (initial_part input) ≡ Fit
+  passed_start : initial_formed (sizes (program_part input)) (initial_part input) ≡ Ok tt
   unfolding print_validity
   passed_start = turn_fit _ 1 e
 
@@ -235,5 +234,5 @@ pub text_short : (input : List ℕ) → length (printed_text input) ≤ 300000
 text_short input = by (print_validity input (sheet_of input)) refl
   where
     by : (v : Validity) → print_validity input (sheet_of input) ≡ v → length (printed_text input) ≤ 300000
-    by Fit e = rw (listing_printed input e) (sheet_short input e)
-    by (Refused x) e = rw (refused_printed input x e) (refusal_short x)
+    by (Ok _) e = rw (listing_printed input e) (sheet_short input e)
+    by (Err x) e = rw (refused_printed input x e) (refusal_short x)

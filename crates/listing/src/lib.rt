@@ -14,7 +14,7 @@ ghost use Rattle.listing.specs.Parts.Writing as parts;
 ghost use Rattle.listing.specs.Text as spec;
 
 use analysis::{Marking, Solving, judging, solver};
-use program::{Construction, Validity, drawing, file, validation};
+use program::{Construction, drawing, file, validation};
 use std::io;
 use std::io::{Read, Write};
 
@@ -24,7 +24,7 @@ pub const TEXT: usize = 300000;
 
 // The line of counts for a list of so many records.
 fn put_counts_of(program: &[u8], count: u16, out: &mut [u8]) -> usize
-    requires { (Questions.validity program.now ≡ Validity.Fit) × parts.Room 0 (spec.line_text (parts.counts_of program.now count)) out.old }
+    requires { (Questions.validity program.now ≡ Ok tt) × parts.Room 0 (spec.line_text (parts.counts_of program.now count)) out.old }
     ensures { parts.Put 0 (spec.line_text (parts.counts_of program.now count)) out.old out.new result }
 {
     let mut edges = [0u8; drawing::BYTES];
@@ -60,7 +60,7 @@ fn put_listing(program: &[u8], buffer: &[u8], count: u16, out: &mut [u8]) -> usi
 // 17 and 18 are the only refusals of the solver that come up: the file's questions are asked before, and by question 3 of the fifth field the start list is whole
 // records, at most 512, so 16 is never refused. 18 has no place.
 fn render_fit(input: &[u8], out: &mut [u8]) -> usize
-    requires { (Questions.input_validity input.now ≡ Validity.Fit) × parts.Room 0 (spec.printed_text input.now) out.old }
+    requires { (Questions.input_validity input.now ≡ Ok tt) × parts.Room 0 (spec.printed_text input.now) out.old }
     ensures { parts.Put 0 (spec.printed_text input.now) out.old out.new result }
 {
     let program = validation::program_part(input);
@@ -86,8 +86,8 @@ pub fn render(input: &[u8], out: &mut [u8; TEXT]) -> usize
 {
     let v = validation::validate_input(input);
     match v {
-        Validity::Fit => render_fit(input, out),
-        Validity::Refused(x) => lines::put_refusal(x.number, x.offset, 0, out),
+        Ok(()) => render_fit(input, out),
+        Err(x) => lines::put_refusal(x.number, x.offset, 0, out),
     }
 }
 

@@ -1,4 +1,5 @@
 -- The actions of a well-formed program's graph: each is the one at its kind and entry, that entry exists, and it is well sorted.
+use Rattle.std.specs.Prelude.{Ok}
 use mathlib.Core.Path.{◌≡◌, refl, ap}
 use mathlib.Core.Bool.{Bool, true}
 use mathlib.Core.List.{List, [], ◌∷◌, ◌++◌}
@@ -16,7 +17,6 @@ use Rattle.program.specs.Tree.{boolean_at}
 use Rattle.program.specs.declared.Construction.{Construction}
 use Rattle.program.specs.declared.Construction.TheVariants.{Nondeterministic, Deterministic}
 use Rattle.program.specs.declared.Table.TheVariants.{Boolean as Booleans}
-use Rattle.program.specs.declared.Validity.TheVariants.{Fit}
 use Rattle.program.proofs.Expressions.{BooleanSorted, boolean_sorted}
 use Rattle.program.proofs.Lists.{Each, none, more, each_append, each_at}
 use Rattle.program.proofs.Made.{AtEntry, Made, make_skip, make_assign, make_store, make_sequence, make_conditional, make_iteration, make_guarded, make_choice, make_jump}
@@ -42,7 +42,7 @@ unfolding all_of
 all_point ns [] h = refl
 all_point ns (g ∷ earlier) (more x h) = both x.points (all_point ns earlier h)
 
-module _ (s : List ℕ) (fit : validity s ≡ Fit) where
+module _ (s : List ℕ) (fit : validity s ≡ Ok tt) where
   -- of a command, a guard and an exit
   performed : {a b n : ℕ} {c : Command} {g : Bool} → Made s g n c → Faithful s (edge a (perform c) b)
   unfolding action_kind action_entry action_table action_of action_named action_points plain

@@ -3,7 +3,7 @@ use mathlib.Core.Path.{◌≡◌, refl, sym, ◌∙◌, ap}
 use mathlib.Core.Bool.{Bool, true, false, false≢true, not, ◌&&◌, ◌||◌}
 use mathlib.Core.List.{List, [], ◌∷◌}
 use Prim.Native.Nat.{ℕ}
-use Rattle.program.specs.Asking.{ask, in_turn}
+use Rattle.program.specs.Asking.{ask, in_turn, Validity}
 use Rattle.program.specs.Parts.Checking.{OperandChecked, any_answer, Standing, EntryChecked}
 use Rattle.program.specs.Parts.Counting.{Counted}
 use Rattle.program.specs.Parts.Layouts.{LaidOut}
@@ -14,7 +14,6 @@ use Rattle.program.specs.declared.Entry.{Entry}
 use Rattle.program.specs.declared.Layout.{Layout}
 use Rattle.program.specs.declared.Table.{Table}
 use Rattle.program.specs.declared.Table.TheVariants.{Arithmetic, Boolean, Commands}
-use Rattle.program.specs.declared.Validity.{Validity}
 use Rattle.program.proofs.Asking.{ask_fit, turn_fit}
 use Rattle.program.proofs.Counting.{counted_none, counted_then}
 use Rattle.program.proofs.Reading.{laid_limit}

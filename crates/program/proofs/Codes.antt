@@ -1,4 +1,5 @@
 -- Laws of the code of a prepared program: what each part puts into the array, and that the parts make the code of a file.
+use Rattle.std.specs.Prelude.{Ok}
 use mathlib.Core.Path.{◌≡◌, refl, sym, ◌∙◌, ap}
 use mathlib.Core.List.{List}
 use Prim.Native.Nat.{ℕ, ◌+◌, ◌*◌, ◌%◌, ◌≤◌, ◌<◌}
@@ -19,7 +20,6 @@ use Rattle.program.specs.declared.ArithNode.TheVariants.{Number, Variable, Eleme
 use Rattle.program.specs.declared.Entry.{Entry}
 use Rattle.program.specs.declared.Layout.{Layout}
 use Rattle.program.specs.declared.Table.TheVariants.{Arithmetic, Boolean}
-use Rattle.program.specs.declared.Validity.TheVariants.{Fit}
 use Rattle.program.proofs.Cells.{cells_inside, sizes_length, size_at_lem}
 use Rattle.program.proofs.Copying.{numbers_same}
 use Rattle.program.proofs.Expressions.{There, node_there, node_lower}
@@ -27,7 +27,7 @@ use Rattle.program.proofs.Fit.{counts, few_cells}
 use Rattle.program.proofs.Lists.{get_or_same}
 
 -- a name's cells, and those of the names before it
-pub name_room : (s : List ℕ) → validity s ≡ Fit → (i : ℕ) → i < name_count s → first_cell (sizes s) i + cells_of (size_at s i) ≤ 512
+pub name_room : (s : List ℕ) → validity s ≡ Ok tt → (i : ℕ) → i < name_count s → first_cell (sizes s) i + cells_of (size_at s i) ≤ 512
 name_room s fit i h = omega (arith, few_cells s fit, cells_inside (sizes s) i (omega (arith, sizes_length s)), ap cells_of (size_at_lem s i h))
 
 -- the names: none yet, one more, and all with the counts
@@ -125,7 +125,7 @@ module _ (old : List ℕ) where
       }
 
 -- the parts one after the other, into an array of zeros
-module _ (s : List ℕ) (fit : validity s ≡ Fit) (one two three four : List ℕ) (a : Copied s (table_start s Arithmetic) 0 (entry_count s Arithmetic) (replicate code_length 0) one)
+module _ (s : List ℕ) (fit : validity s ≡ Ok tt) (one two three four : List ℕ) (a : Copied s (table_start s Arithmetic) 0 (entry_count s Arithmetic) (replicate code_length 0) one)
     (b : Copied s (table_start s Boolean) boolean_place (entry_count s Boolean) one two) (n : NamesDone s two three) (v : CellsPut (entry_count s Arithmetic) three four) where
   abbrev last : List ℕ
   last = set four arithmetic_count_place (entry_count s Arithmetic)
@@ -212,7 +212,7 @@ module _ (s : List ℕ) (fit : validity s ≡ Fit) (one two three four : List �
       }
 
 -- the same by the file's layout
-pub code_laid : (s : List ℕ) → validity s ≡ Fit → (l : Layout) → l ≡ layout_of s → (one two three four : List ℕ)
+pub code_laid : (s : List ℕ) → validity s ≡ Ok tt → (l : Layout) → l ≡ layout_of s → (one two three four : List ℕ)
     → Copied s l.arithmetic.start 0 l.arithmetic.count (replicate code_length 0) one → Copied s l.boolean.start boolean_place l.boolean.count one two
     → NamesDone s two three → CellsPut l.arithmetic.count three four → CodeIn s (set four arithmetic_count_place l.arithmetic.count)
 unfolding table_start entry_count span_of

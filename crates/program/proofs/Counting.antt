@@ -10,13 +10,12 @@ use borrow.Author.Tests.{eq-eqb, ne_eqb}
 use lib.Dec.{eqb}
 use lib.ListN.{length, get_or, set, length-set, replicate}
 use lib.Seq.{get_or-set_same, get_or-set_other}
-use Rattle.program.specs.Asking.{ask}
+use Rattle.program.specs.Asking.{ask, Validity}
 use Rattle.program.specs.Parts.Counting.{capacity, slot, Counted, UsesIn}
 use Rattle.program.specs.File.{table_field, entry_offset, entry_count}
 use Rattle.program.specs.Questions.{same_table, to_be_used, uses, table_uses, use_validity}
 use Rattle.program.specs.declared.Table.{Table}
 use Rattle.program.specs.declared.Table.TheVariants.{Arithmetic, Boolean, Commands}
-use Rattle.program.specs.declared.Validity.{Validity}
 use Rattle.program.proofs.Lists.{get_or_same}
 
 -- nothing counted

@@ -1,4 +1,5 @@
 -- A well-formed program has at most 129 nodes and 255 edges: its tree has as many commands as its table, since each entry but the last is used once.
+use Rattle.std.specs.Prelude.{Ok}
 use mathlib.Core.Path.{◌≡◌, refl, sym, ◌∙◌, ap}
 use mathlib.Core.Bool.{Bool, cond}
 use mathlib.Core.List.{List, [], ◌∷◌, ◌++◌}
@@ -18,7 +19,6 @@ use Rattle.program.specs.declared.Entry.{Entry}
 use Rattle.program.specs.declared.Sort.TheVariants.{Expression, Condition, Command as Commanding, Guarded}
 use Rattle.program.specs.declared.Table.{Table}
 use Rattle.program.specs.declared.Table.TheVariants.{Arithmetic, Boolean as Booleans, Commands}
-use Rattle.program.specs.declared.Validity.TheVariants.{Fit}
 use Rattle.program.proofs.Fit.{counts, one_last, used_once}
 use Rattle.program.proofs.Induction.{by_kind, by_command}
 use Rattle.program.proofs.Made.{Made, make_skip, make_assign, make_store, make_sequence, make_conditional, make_iteration, make_guarded, make_choice, make_jump}
@@ -129,7 +129,7 @@ module _ (s : List ℕ) where
       (λ p q r h. refl)
       (λ k p q r h. absurd h)
 
-  module _ (fit : validity s ≡ Fit) where
+  module _ (fit : validity s ≡ Ok tt) where
     -- an entry's size, by how often it refers to those before the last
     sized : (n : ℕ) → n < entry_count s Commands → size n ≡ 1 + total (λ r. entry_uses s Commands r Commands n * size r) (last_command s)
     unfolding size command_at entry_uses last_command

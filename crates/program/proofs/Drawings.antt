@@ -1,4 +1,5 @@
 -- Laws of the drawing of a well-formed program into a buffer: the bytes of a prepared graph's edges, seven for each, and question 13.
+use Rattle.std.specs.Prelude.{Err, Ok}
 use mathlib.Core.Path.{◌≡◌, refl, ◌∙◌, ap}
 use mathlib.Core.List.{List, flat_map, append-nil}
 use Prim.Native.Nat.{ℕ, zero, suc, ◌+◌, ◌*◌, ◌%◌, ◌≤◌, ◌<◌}
@@ -17,7 +18,6 @@ use Rattle.program.specs.Questions.{validity}
 use Rattle.program.specs.Syntax.{skip}
 use Rattle.program.specs.declared.Construction.{Construction}
 use Rattle.program.specs.declared.Refusal.{Refusal}
-use Rattle.program.specs.declared.Validity.TheVariants.{Fit, Refused}
 use Rattle.program.proofs.Lists.{concat_append}
 use Rattle.program.proofs.Overlaid.{over_then}
 
@@ -63,14 +63,14 @@ module _ (κ : Construction) (s g : List ℕ) (drawn : GraphIn κ s g) where
 
 -- question 13, after the others
 module _ (κ : Construction) (s buffer : List ℕ) where
-  pub unfit : {x : Refusal} → validity s ≡ Refused x → draw_validity κ s buffer ≡ Refused x
+  pub unfit : {x : Refusal} → validity s ≡ Err x → draw_validity κ s buffer ≡ Err x
   unfolding draw_validity then_ask
   unfit e = rw e
 
-  pub too_short : validity s ≡ Fit → length buffer < 7 * edge_count κ s → draw_validity κ s buffer ≡ Refused (record { number = 13; offset = 0 })
+  pub too_short : validity s ≡ Ok tt → length buffer < 7 * edge_count κ s → draw_validity κ s buffer ≡ Err (record { number = 13; offset = 0 })
   unfolding draw_validity then_ask ask
   too_short fit h = rw (fit, lt-leb _ _ h)
 
-  pub long_enough : validity s ≡ Fit → 7 * edge_count κ s ≤ length buffer → draw_validity κ s buffer ≡ Fit
+  pub long_enough : validity s ≡ Ok tt → 7 * edge_count κ s ≤ length buffer → draw_validity κ s buffer ≡ Ok tt
   unfolding draw_validity then_ask ask
   long_enough fit h = rw (fit, le-leb _ _ h)

@@ -1,4 +1,5 @@
 -- An edge read out of the graph's bytes has the numbers of the graph's edge.
+use Rattle.std.specs.Prelude.{Ok}
 use mathlib.Core.Path.{◌≡◌}
 use mathlib.Core.List.{List, [], ◌∷◌, ◌++◌, flat_map}
 use Prim.Native.Nat.{ℕ, zero, suc, ◌+◌, ◌*◌, ◌/◌, ◌%◌, ◌≤◌, ◌<◌}
@@ -15,7 +16,6 @@ use Rattle.program.specs.Questions.{validity}
 use Rattle.program.specs.declared.Construction.{Construction}
 use Rattle.program.specs.declared.Table.{Table}
 use Rattle.program.specs.declared.Table.TheVariants.{Arithmetic, Boolean, Commands}
-use Rattle.program.specs.declared.Validity.TheVariants.{Fit}
 use Rattle.program.proofs.Actions.{edge_faithful}
 use Rattle.program.proofs.Counts.{few_nodes}
 use Rattle.program.proofs.Fit.{counts}
@@ -60,7 +60,7 @@ read_at [] rest k d h small = absurd (not-suc-le-zero h)
 read_at (e ∷ es) rest zero d h small = read_first e (flat_map edge_bytes es ++ rest) small
 read_at (e ∷ es) rest (suc k) d h small = rw (read_next e (flat_map edge_bytes es ++ rest) k) (read_at es rest k d (le_of_suc-le-suc h) small)
 
-module _ (κ : Construction) (s : List ℕ) (fit : validity s ≡ Fit) where
+module _ (κ : Construction) (s : List ℕ) (fit : validity s ≡ Ok tt) where
   few_entries : (t : Table) → entry_count s t ≤ 512
   few_entries Arithmetic = (counts s fit).arithmetic
   few_entries Boolean = omega (arith, (counts s fit).boolean)

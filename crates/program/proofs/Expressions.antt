@@ -1,4 +1,5 @@
 -- The expressions of a well-formed program are well sorted: their names and references are as questions 8 and 9 ask.
+use Rattle.std.specs.Prelude.{Ok}
 use mathlib.Core.Path.{◌≡◌, refl}
 use mathlib.Core.Bool.{true, ◌&&◌}
 use mathlib.Core.List.{List}
@@ -18,7 +19,6 @@ use Rattle.program.specs.declared.ArithNode.{ArithNode}
 use Rattle.program.specs.declared.ArithNode.TheVariants.{Number, Variable, Element, Operator}
 use Rattle.program.specs.declared.Sort.TheVariants.{Expression, Condition}
 use Rattle.program.specs.declared.Table.TheVariants.{Arithmetic, Boolean as Booleans}
-use Rattle.program.specs.declared.Validity.TheVariants.{Fit}
 use Rattle.program.proofs.Cells.{sizes_length}
 use Rattle.program.proofs.Induction.{from_below, by_kind}
 use Rattle.program.proofs.Operands.{Reference, Operands, operands_fit}
@@ -60,7 +60,7 @@ module _ (s : List ℕ) (n : ℕ) (below : (m : ℕ) → m < n → ArithSorted (
       (λ p q r h. record { named = both (arith_names h.0) (arith_names h.1); points = both (arith_lower h.0) (arith_lower h.1) })
       (λ k p q r h. absurd h)
 
-pub arith_sorted : (s : List ℕ) → validity s ≡ Fit → (n : ℕ) → n < entry_count s Arithmetic → ArithSorted (sizes s) (arith_at (entry s) n)
+pub arith_sorted : (s : List ℕ) → validity s ≡ Ok tt → (n : ℕ) → n < entry_count s Arithmetic → ArithSorted (sizes s) (arith_at (entry s) n)
 unfolding arith_at
 arith_sorted s fit =
     from_below _ (λ n below h. arith_node_lem s n (λ m l. below m l (omega arith)) _ _ _ _ (operands_fit s fit Arithmetic n h))
@@ -87,7 +87,7 @@ module _ (s : List ℕ) (n : ℕ) where
       (λ p q r h. ((h.0.lower, h.1.lower), tt)) (λ p q r h. ((h.0.lower, h.1.lower), tt))
       (λ k p q r h. absurd h)
 
-module _ (s : List ℕ) (fit : validity s ≡ Fit) (n : ℕ) (h : n < entry_count s Arithmetic) where
+module _ (s : List ℕ) (fit : validity s ≡ Ok tt) (n : ℕ) (h : n < entry_count s Arithmetic) where
   pub node_lower : Lower n (arith_kind (entry s Arithmetic n))
   node_lower = (node_fit s n _ _ _ _ (operands_fit s fit Arithmetic n h)).0
 
@@ -95,7 +95,7 @@ module _ (s : List ℕ) (fit : validity s ≡ Fit) (n : ℕ) (h : n < entry_coun
   node_there = (node_fit s n _ _ _ _ (operands_fit s fit Arithmetic n h)).1
 
 -- boolean entry n, where the arithmetic entries and the boolean ones below are well sorted
-module _ (s : List ℕ) (fit : validity s ≡ Fit) (n : ℕ) (below : (m : ℕ) → m < n → BooleanSorted (sizes s) (boolean_at (entry s) m)) where
+module _ (s : List ℕ) (fit : validity s ≡ Ok tt) (n : ℕ) (below : (m : ℕ) → m < n → BooleanSorted (sizes s) (boolean_at (entry s) m)) where
   boolean_names : {x : ℕ} → Reference s Booleans n Condition x → boolean_named (sizes s) (boolean_below (boolean_trees (entry s) n) x) ≡ true
   unfolding limit same_table table_of
   boolean_names {x} h = rw (boolean_below_lem (entry s) n x h.lower) (below x h.lower).named
@@ -124,7 +124,7 @@ module _ (s : List ℕ) (fit : validity s ≡ Fit) (n : ℕ) (below : (m : ℕ) 
       (λ p q r h. absurd h)
       (λ k p q r h. absurd h)
 
-pub boolean_sorted : (s : List ℕ) → validity s ≡ Fit → (n : ℕ) → n < entry_count s Booleans → BooleanSorted (sizes s) (boolean_at (entry s) n)
+pub boolean_sorted : (s : List ℕ) → validity s ≡ Ok tt → (n : ℕ) → n < entry_count s Booleans → BooleanSorted (sizes s) (boolean_at (entry s) n)
 unfolding boolean_at
 boolean_sorted s fit =
     from_below _ (λ n below h. boolean_node_lem s fit n (λ m l. below m l (omega arith)) _ _ _ _ (operands_fit s fit Booleans n h))

@@ -1,12 +1,11 @@
 -- Laws of "first such": how a loop over 0, 1, … finds it, and what it says of the answers passed over.
+use Rattle.std.specs.Prelude.{None, Option, Some}
 use mathlib.Core.Path.{◌≡◌, refl, sym, ◌∙◌, ap}
 use mathlib.Core.Bool.{Bool, true, false, cond, false≢true}
 use Prim.Native.Nat.{ℕ, zero, suc, ◌<◌}
 use native.Mathlib.Omega.{arith}
 use native.Mathlib.Decide.{ℕ_discrete}
 use Rattle.program.specs.FirstSuch.{or_else, first_of, is_at, first_such}
-use Rattle.program.specs.declared.First.{First}
-use Rattle.program.specs.declared.First.TheVariants.{At, Nothing}
 
 -- the first depends on the answers below n alone
 pub first_same : {A : Type 0} (settles : A → Bool) (nothing : A) (n : ℕ) (f g : ℕ → A) → ((k : ℕ) → k < n → f k ≡ g k)
@@ -99,13 +98,13 @@ module _ {A : Type 0} (settles : A → Bool) (nothing : A) (unsettled : settles 
 
 -- ---- The first that passes a test
 
-no_number : (x : First) → is_at x ≡ false → x ≡ Nothing
+no_number : (x : Option ℕ) → is_at x ≡ false → x ≡ None
 unfolding is_at
-no_number (At k) e = absurd (false≢true (sym e))
-no_number Nothing e = refl
+no_number (Some k) e = absurd (false≢true (sym e))
+no_number None e = refl
 
 -- the answer at k, by its test
-tested : (b : Bool) (k : ℕ) → is_at (cond b (At k) Nothing) ≡ b
+tested : (b : Bool) (k : ℕ) → is_at (cond b (Some k) None) ≡ b
 unfolding is_at
 tested true k = refl
 tested false k = refl
@@ -118,26 +117,26 @@ pub record FirstPassing (n : ℕ) (test : ℕ → Bool) (k : ℕ) : Type 0 where
 
 module _ (n : ℕ) (test : ℕ → Bool) where
   -- nothing where none below n passes, and only there
-  pub none_such : ((k : ℕ) → k < n → test k ≡ false) → first_such n test ≡ Nothing
+  pub none_such : ((k : ℕ) → k < n → test k ≡ false) → first_such n test ≡ None
   unfolding first_such is_at
-  none_such h = all_nothing is_at Nothing refl no_number n _ (λ k l. rw (h k l))
+  none_such h = all_nothing is_at None refl no_number n _ (λ k l. rw (h k l))
 
-  pub such_none : first_such n test ≡ Nothing → (k : ℕ) → k < n → test k ≡ false
+  pub such_none : first_such n test ≡ None → (k : ℕ) → k < n → test k ≡ false
   unfolding first_such is_at
-  such_none e k l = sym (tested (test k) k) ∙ ap is_at (first_nothing is_at Nothing refl no_number n _ e k l)
+  such_none e k l = sym (tested (test k) k) ∙ ap is_at (first_nothing is_at None refl no_number n _ e k l)
 
   -- k where it is the first that passes, and only there
-  pub first_such_lem : (k : ℕ) → FirstPassing n test k → first_such n test ≡ At k
+  pub first_such_lem : (k : ℕ) → FirstPassing n test k → first_such n test ≡ Some k
   unfolding first_such is_at
   first_such_lem k h =
-      first_where is_at Nothing refl no_number n _ k h.below (λ j m. rw (h.before j m)) (tested (test k) k ∙ h.passes) ∙ rw h.passes
+      first_where is_at None refl no_number n _ k h.below (λ j m. rw (h.before j m)) (tested (test k) k ∙ h.passes) ∙ rw h.passes
 
-  pub such_first : (k : ℕ) → first_such n test ≡ At k → FirstPassing n test k
+  pub such_first : (k : ℕ) → first_such n test ≡ Some k → FirstPassing n test k
   unfolding first_such is_at
   such_first k e =
-      let found = first_found is_at Nothing refl no_number n _ (ap is_at e) in
+      let found = first_found is_at None refl no_number n _ (ap is_at e) in
       let pass = sym (tested (test found.at) found.at) ∙ found.settled in
-      let answer : At found.at ≡ At k = sym (rw pass at found.answer) ∙ e in
+      let answer : Some found.at ≡ Some k = sym (rw pass at found.answer) ∙ e in
       let same : found.at ≡ k = cc in
       record {
         below = rw same at found.below;
@@ -148,12 +147,12 @@ module _ (n : ℕ) (test : ℕ → Bool) where
   -- it depends on the tests below n alone
   pub such_same : (other : ℕ → Bool) → ((k : ℕ) → k < n → test k ≡ other k) → first_such n test ≡ first_such n other
   unfolding first_such
-  such_same other h = first_same is_at Nothing n _ _ (λ k l. rw (h k l))
+  such_same other h = first_same is_at None n _ _ (λ k l. rw (h k l))
 
 -- how code finds it in a loop: k where none passed before and k does, and on where k does not
-pub such_stops : (n : ℕ) (test : ℕ → Bool) (k : ℕ) → k < n → first_such k test ≡ Nothing → test k ≡ true → first_such n test ≡ At k
+pub such_stops : (n : ℕ) (test : ℕ → Bool) (k : ℕ) → k < n → first_such k test ≡ None → test k ≡ true → first_such n test ≡ Some k
 such_stops n test k l e t = first_such_lem n test k (record { below = l; passes = t; before = such_none k test e })
 
-pub such_goes_on : (test : ℕ → Bool) (k : ℕ) → first_such k test ≡ Nothing → test k ≡ false → first_such (suc k) test ≡ Nothing
+pub such_goes_on : (test : ℕ → Bool) (k : ℕ) → first_such k test ≡ None → test k ≡ false → first_such (suc k) test ≡ None
 unfolding first_such is_at
-such_goes_on test k e t = first_more is_at Nothing refl no_number _ k e (rw t)
+such_goes_on test k e t = first_more is_at None refl no_number _ k e (rw t)

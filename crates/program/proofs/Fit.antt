@@ -1,4 +1,5 @@
 -- What the questions say of a program that passes them all.
+use Rattle.std.specs.Prelude.{Ok}
 use mathlib.Core.Path.{◌≡◌, refl, ap}
 use mathlib.Core.Bool.{true, false}
 use mathlib.Core.List.{List}
@@ -20,7 +21,6 @@ use Rattle.program.specs.declared.Layout.{Layout}
 use Rattle.program.specs.declared.Span.{Span}
 use Rattle.program.specs.declared.Table.{Table}
 use Rattle.program.specs.declared.Table.TheVariants.{Arithmetic, Boolean, Commands}
-use Rattle.program.specs.declared.Validity.TheVariants.{Fit}
 use Rattle.program.proofs.Asking.{ask_fit, turn_fit, each_fit}
 use Rattle.program.proofs.Cells.{sizes_length, size_at_lem}
 use Rattle.program.proofs.Heads.{whole, field_fit, StartsAt}
@@ -33,7 +33,7 @@ record Allowed (end : ℕ) (f : Field) (x : Span) : Type 0 where
   enough : f.least ≤ x.count
   few : x.count ≤ f.most
 
-head_fit : (s : List ℕ) (at : ℕ) (f : Field) → head_validity (length s) (head_at s at) f ≡ Fit → Allowed (length s) f (head_span (head_at s at) f)
+head_fit : (s : List ℕ) (at : ℕ) (f : Field) → head_validity (length s) (head_at s at) f ≡ Ok tt → Allowed (length s) f (head_span (head_at s at) f)
 unfolding head_found head_span whole_entries
 head_fit s at f e =
     let len = word_at s (at + 1) in
@@ -50,7 +50,7 @@ pub record Counts (s : List ℕ) : Type 0 where
   pub some_command : 1 ≤ entry_count s Commands
   pub commands : entry_count s Commands ≤ 256
 
-module _ (s : List ℕ) (e : heads_validity s 0 program_fields ≡ Fit) where
+module _ (s : List ℕ) (e : heads_validity s 0 program_fields ≡ Ok tt) where
   names_allowed : Allowed (length s) names_field (layout_of s).names
   unfolding program_fields layout_of field_head
   names_allowed = head_fit s (field_start s 0) _ (field_fit s e 0 (omega arith))
@@ -88,8 +88,8 @@ module _ (s : List ℕ) (e : heads_validity s 0 program_fields ≡ Fit) where
         commands = (table_allowed Commands).few;
       }
 
-module _ (s : List ℕ) (fit : validity s ≡ Fit) where
-  heads_fit : heads_validity s 0 program_fields ≡ Fit
+module _ (s : List ℕ) (fit : validity s ≡ Ok tt) where
+  heads_fit : heads_validity s 0 program_fields ≡ Ok tt
   unfolding validity
   heads_fit = turn_fit _ 0 fit
 
@@ -97,11 +97,11 @@ module _ (s : List ℕ) (fit : validity s ≡ Fit) where
   unfolding place_after
   first_starts = record { fit = heads_fit; few = omega arith; same = refl }
 
-  content_fit : content_validity s ≡ Fit
+  content_fit : content_validity s ≡ Ok tt
   unfolding validity
   content_fit = turn_fit _ 2 fit
 
-  uses_fit : uses_validity s ≡ Fit
+  uses_fit : uses_validity s ≡ Ok tt
   unfolding content_validity
   uses_fit = turn_fit _ 4 content_fit
 
@@ -142,7 +142,7 @@ module _ (s : List ℕ) (fit : validity s ≡ Fit) where
       rw (take_all (suc last) (sizes s) (omega (arith, sizes_length s))) at (name_fit last (omega (arith, counts.some_name))).1
 
   -- questions 7 to 9, of each entry
-  pub entry_fit : (t : Table) (n : ℕ) → n < entry_count s t → entry_validity s t n ≡ Fit
+  pub entry_fit : (t : Table) (n : ℕ) → n < entry_count s t → entry_validity s t n ≡ Ok tt
   unfolding content_validity table_validity
   entry_fit Arithmetic n h = each_fit _ _ (turn_fit _ 1 content_fit) n h
   entry_fit Boolean n h = each_fit _ _ (turn_fit _ 2 content_fit) n h

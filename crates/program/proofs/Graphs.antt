@@ -1,4 +1,5 @@
 -- Laws of a prepared graph that is filled from a well-formed program.
+use Rattle.std.specs.Prelude.{Ok}
 use mathlib.Core.Path.{◌≡◌, refl, ◌∙◌, ap}
 use mathlib.Core.List.{List, [], ◌∷◌, flat_map}
 use Prim.Native.Nat.{ℕ, zero, suc, ◌+◌, ◌-◌, ◌*◌, ◌≤◌, ◌<◌}
@@ -18,7 +19,6 @@ use Rattle.program.specs.declared.Construction.{Construction}
 use Rattle.program.specs.declared.Layout.{Layout}
 use Rattle.program.specs.declared.Span.{Span}
 use Rattle.program.specs.declared.Table.TheVariants.{Commands}
-use Rattle.program.specs.declared.Validity.TheVariants.{Fit}
 use Rattle.program.proofs.Counts.{few_edges, few_nodes}
 use Rattle.program.proofs.Fit.{counts, table_whole}
 use Rattle.program.proofs.Reading.{laid_count, laid_start}
@@ -49,7 +49,7 @@ words_at (x ∷ es) (suc e) k d h l =
     ap (λ (i : ℕ). get_or (flat_map edge_words (x ∷ es)) i 0) there
     ∙ get_or-append-add (edge_words x) (flat_map edge_words es) (4 * e + k) 0 ∙ words_at es e k d (omega arith) l
 
-module _ (κ : Construction) (s : List ℕ) (fit : validity s ≡ Fit) (l : Layout) (laid : l ≡ layout_of s) where
+module _ (κ : Construction) (s : List ℕ) (fit : validity s ≡ Ok tt) (l : Layout) (laid : l ≡ layout_of s) where
   pub commands_within : Within s l.commands
   unfolding span_of
   commands_within =

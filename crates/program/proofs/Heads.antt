@@ -1,4 +1,5 @@
 -- What questions 1 to 4 say of the heads of a program that passes them.
+use Rattle.std.specs.Prelude.{Ok, Err}
 use mathlib.Core.Path.{◌≡◌, refl, ap}
 use mathlib.Core.Bool.{Bool, true, false, cond, false≢true}
 use mathlib.Core.List.{List}
@@ -8,13 +9,10 @@ use lib.Dec.{eqb, leb}
 use lib.ListN.{length, get_or}
 use borrow.Author.Tests.{leb-true, le-leb}
 use Rattle.program.specs.Asking.{ask, then_ask, in_turn}
-use Rattle.program.specs.File.{word_at, names_field, program_fields, head_found, head_at, after_head, place_after, field_start, field_head, head_span}
+use Rattle.program.specs.File.{word_at, names_field, program_fields, head_found, head_at, after_head, place_after, field_start, field_head, head_span, Head}
 use Rattle.program.specs.Questions.{whole_entries, head_validity, heads_validity}
 use Rattle.program.specs.declared.Field.{Field}
 use Rattle.program.specs.declared.FieldHead.{FieldHead}
-use Rattle.program.specs.declared.Head.{Head}
-use Rattle.program.specs.declared.Head.TheVariants.{Short, Found}
-use Rattle.program.specs.declared.Validity.TheVariants.{Fit}
 use Rattle.program.proofs.Asking.{ask_fit, then_first, then_second, turn_fit}
 use Rattle.program.proofs.Reading.{head_there}
 
@@ -24,7 +22,7 @@ pub record Asked (end : ℕ) (h : FieldHead) (f : Field) : Type 0 where
   pub entries : whole_entries f h.length ≡ true
   pub inside : h.next ≤ end
 
-asked : (end : ℕ) (h : FieldHead) (f : Field) → head_validity end (Found h) f ≡ Fit → Asked end h f
+asked : (end : ℕ) (h : FieldHead) (f : Field) → head_validity end (Ok h) f ≡ Ok tt → Asked end h f
 unfolding head_validity
 asked end h f e =
     record {
@@ -34,29 +32,29 @@ asked end h f e =
     }
 
 -- they are fit too where the file ends earlier, but not before the field does
-pub ends_earlier : (end earlier : ℕ) (h : Head) (f : Field) → head_validity end h f ≡ Fit → after_head h ≤ earlier → head_validity earlier h f ≡ Fit
+pub ends_earlier : (end earlier : ℕ) (h : Head) (f : Field) → head_validity end h f ≡ Ok tt → after_head h ≤ earlier → head_validity earlier h f ≡ Ok tt
 unfolding head_validity after_head in_turn then_ask ask
-ends_earlier end earlier (Short at) f e l = e
-ends_earlier end earlier (Found h) f e l =
+ends_earlier end earlier (Err at) f e l = e
+ends_earlier end earlier (Ok h) f e l =
     let known = asked end h f e in
     rw (known.tagged, known.entries, le-leb h.next earlier l)
 
 -- a field that passes questions 1 to 4, at a place
 pub record Whole (s : List ℕ) (at : ℕ) (f : Field) : Type 0 where
-  pub found : head_at s at ≡ Found (head_found s at)
+  pub found : head_at s at ≡ Ok (head_found s at)
   pub known : Asked (length s) (head_found s at) f
 
-pub whole : (s : List ℕ) (at : ℕ) (f : Field) → head_validity (length s) (head_at s at) f ≡ Fit → Whole s at f
+pub whole : (s : List ℕ) (at : ℕ) (f : Field) → head_validity (length s) (head_at s at) f ≡ Ok tt → Whole s at f
 unfolding head_at head_validity
 whole s at f e = go (leb (at + 3) (length s)) refl e
   where
-    go : (b : Bool) → leb (at + 3) (length s) ≡ b → head_validity (length s) (cond b (Found (head_found s at)) (Short at)) f ≡ Fit → Whole s at f
+    go : (b : Bool) → leb (at + 3) (length s) ≡ b → head_validity (length s) (cond b (Ok (head_found s at)) (Err at)) f ≡ Ok tt → Whole s at f
     go true t e = record { found = head_there s at (leb-true _ _ t); known = asked (length s) (head_found s at) f e }
     go false t e = absurd (false≢true (ask_fit false 1 at e))
 
 -- the four fields of a program
-module _ (s : List ℕ) (fit : heads_validity s 0 program_fields ≡ Fit) where
-  pub field_fit : (k : ℕ) → k < 4 → head_validity (length s) (field_head s k) (get_or program_fields k names_field) ≡ Fit
+module _ (s : List ℕ) (fit : heads_validity s 0 program_fields ≡ Ok tt) where
+  pub field_fit : (k : ℕ) → k < 4 → head_validity (length s) (field_head s k) (get_or program_fields k names_field) ≡ Ok tt
   unfolding heads_validity program_fields
   field_fit zero h = then_first _ _ fit
   field_fit (suc zero) h = then_first _ _ (then_second _ _ fit)
@@ -92,7 +90,7 @@ module _ (s : List ℕ) (fit : heads_validity s 0 program_fields ≡ Fit) where
 
 -- field k of a program whose heads are fit starts at a place: its length is there, and says where its content is and where the next field starts
 pub record StartsAt (s : List ℕ) (k at : ℕ) : Type 0 where
-  pub fit : heads_validity s 0 program_fields ≡ Fit
+  pub fit : heads_validity s 0 program_fields ≡ Ok tt
   pub few : k < 4
   pub same : at ≡ field_start s k
 

@@ -1,4 +1,5 @@
 -- The two parts of the sheet program's input: the program part is well formed where the input is fit, and the start list is whole records.
+use Rattle.std.specs.Prelude.{Ok}
 use mathlib.Core.Path.{◌≡◌, refl, sym, ◌∙◌, ap}
 use mathlib.Core.List.{List}
 use Prim.Native.Nat.{ℕ, zero, suc, ◌+◌, ◌*◌, ◌/◌, ◌%◌, ◌≤◌, ◌<◌}
@@ -16,7 +17,6 @@ use Rattle.program.specs.declared.Layout.{Layout}
 use Rattle.program.specs.declared.Span.{Span}
 use Rattle.program.specs.declared.Table.{Table}
 use Rattle.program.specs.declared.Table.TheVariants.{Arithmetic, Boolean, Commands}
-use Rattle.program.specs.declared.Validity.TheVariants.{Fit}
 use Rattle.program.proofs.Agreeing.{Agree, same_names, same_sizes, same_content}
 use Rattle.program.proofs.Asking.{ask_fit, turn_fit}
 use Rattle.program.proofs.Fit.{counts_allowed}
@@ -25,7 +25,7 @@ use Rattle.program.proofs.Reading.{front_byte, front_word, front_entry, head_the
 use Rattle.program.proofs.Tests.{three}
 
 -- the program part of a file with four fields that pass questions 1 to 4
-module _ (s : List ℕ) (fit : heads_validity s 0 program_fields ≡ Fit) where
+module _ (s : List ℕ) (fit : heads_validity s 0 program_fields ≡ Ok tt) where
   part_length : length (program_part s) ≡ field_start s 4
   unfolding program_part
   part_length = length-take-le (field_start s 4) s (end_inside s fit)
@@ -93,29 +93,29 @@ module _ (s : List ℕ) (fit : heads_validity s 0 program_fields ≡ Fit) where
       }
 
   -- and the heads are fit
-  part_field_fit : (k : ℕ) → k < 4 → head_validity (length (program_part s)) (field_head (program_part s) k) (get_or program_fields k names_field) ≡ Fit
+  part_field_fit : (k : ℕ) → k < 4 → head_validity (length (program_part s)) (field_head (program_part s) k) (get_or program_fields k names_field) ≡ Ok tt
   unfolding place_after field_head
   part_field_fit k h = rw (part_length, same_field k h) (ends_earlier (length s) (field_start s 4) _ _ (field_fit s fit k h) (ends_before s fit k h))
 
-  part_heads_fit : heads_validity (program_part s) 0 program_fields ≡ Fit
+  part_heads_fit : heads_validity (program_part s) 0 program_fields ≡ Ok tt
   unfolding heads_validity program_fields then_ask
   part_heads_fit = rw (part_field_fit 0 (omega arith), part_field_fit 1 (omega arith), part_field_fit 2 (omega arith), part_field_fit 3 (omega arith))
 
-  part_end_fit : end_validity (program_part s) 4 ≡ Fit
+  part_end_fit : end_validity (program_part s) 4 ≡ Ok tt
   unfolding end_validity ask
   part_end_fit = rw (same_start 4 (omega arith), part_length, eq-eqb (field_start s 4) (field_start s 4) refl)
 
-module _ (s : List ℕ) (fit : input_validity s ≡ Fit) where
-  heads : heads_validity s 0 program_fields ≡ Fit
+module _ (s : List ℕ) (fit : input_validity s ≡ Ok tt) where
+  heads : heads_validity s 0 program_fields ≡ Ok tt
   unfolding input_validity
   heads = turn_fit _ 0 fit
 
-  content : content_validity s ≡ Fit
+  content : content_validity s ≡ Ok tt
   unfolding input_validity
   content = turn_fit _ 3 fit
 
   -- the program part is well formed, and has the input's names
-  pub program_fit : validity (program_part s) ≡ Fit
+  pub program_fit : validity (program_part s) ≡ Ok tt
   unfolding validity in_turn then_ask
   program_fit =
       let same = same_content (program_part s) s (part_agrees s heads) (counts_allowed s heads).some_command in

@@ -1,4 +1,5 @@
 -- The theorems on programs and their graphs for the crates above, on one page. Their proofs are in the modules that they cite.
+use Rattle.std.specs.Prelude.{Ok, None, Some}
 use mathlib.Core.Path.{◌≡◌, refl}
 use mathlib.Core.Bool.{Bool, true, false, ◌&&◌, ◌||◌}
 use mathlib.Core.List.{List, foldl}
@@ -7,7 +8,7 @@ use lib.Dec.{T, eqb, leb}
 use lib.IntN.{pos}
 use lib.ListN.{length, get_or, take, drop}
 use Rattle.signs.specs.Lists.{all_of, any_of}
-use Rattle.program.specs.Asking.{ask, then_ask, is_refused, in_turn, ask_each, validity_numbers}
+use Rattle.program.specs.Asking.{ask, then_ask, is_refused, in_turn, ask_each, validity_numbers, Validity}
 use Rattle.program.specs.Parts.DrawingParts.{edge_numbers}
 use Rattle.program.specs.Drawing.{over, drawn_numbers, edge_read}
 use Rattle.program.specs.File.{name_count, size_at, sizes, entry_count, entry, cells_of, cell_count, first_cell}
@@ -32,11 +33,8 @@ use Rattle.program.specs.declared.CommandNode.{CommandNode}
 use Rattle.program.specs.declared.Construction.{Construction}
 use Rattle.program.specs.declared.Construction.TheVariants.{Nondeterministic, Deterministic}
 use Rattle.program.specs.declared.Drawn.{Drawn}
-use Rattle.program.specs.declared.First.TheVariants.{At, Nothing}
 use Rattle.program.specs.declared.Refusal.{Refusal}
 use Rattle.program.specs.declared.Table.TheVariants.{Arithmetic, Boolean, Commands}
-use Rattle.program.specs.declared.Validity.{Validity}
-use Rattle.program.specs.declared.Validity.TheVariants.{Fit}
 use Rattle.program.proofs.Actions
 use Rattle.program.proofs.Actions.{Faithful}
 use Rattle.program.proofs.Asking
@@ -331,42 +329,42 @@ pub such_same : (n : ℕ) (test other : ℕ → Bool) → ((k : ℕ) → k < n �
 such_same = FirstSuch.such_same
 
 -- nothing, where none below n passes, and only there
-pub none_such : (n : ℕ) (test : ℕ → Bool) → ((k : ℕ) → k < n → test k ≡ false) → first_such n test ≡ Nothing
+pub none_such : (n : ℕ) (test : ℕ → Bool) → ((k : ℕ) → k < n → test k ≡ false) → first_such n test ≡ None
 none_such = FirstSuch.none_such
 
-pub such_none : (n : ℕ) (test : ℕ → Bool) → first_such n test ≡ Nothing → (k : ℕ) → k < n → test k ≡ false
+pub such_none : (n : ℕ) (test : ℕ → Bool) → first_such n test ≡ None → (k : ℕ) → k < n → test k ≡ false
 such_none = FirstSuch.such_none
 
 -- k, where k passes and none before it does, and only there
-pub first_such_lem : (n : ℕ) (test : ℕ → Bool) (k : ℕ) → FirstPassing n test k → first_such n test ≡ At k
+pub first_such_lem : (n : ℕ) (test : ℕ → Bool) (k : ℕ) → FirstPassing n test k → first_such n test ≡ Some k
 first_such_lem = FirstSuch.first_such_lem
 
-pub such_first : (n : ℕ) (test : ℕ → Bool) (k : ℕ) → first_such n test ≡ At k → FirstPassing n test k
+pub such_first : (n : ℕ) (test : ℕ → Bool) (k : ℕ) → first_such n test ≡ Some k → FirstPassing n test k
 such_first = FirstSuch.such_first
 
 -- how code finds it in a loop
-pub such_stops : (n : ℕ) (test : ℕ → Bool) (k : ℕ) → k < n → first_such k test ≡ Nothing → test k ≡ true → first_such n test ≡ At k
+pub such_stops : (n : ℕ) (test : ℕ → Bool) (k : ℕ) → k < n → first_such k test ≡ None → test k ≡ true → first_such n test ≡ Some k
 such_stops = FirstSuch.such_stops
 
-pub such_goes_on : (test : ℕ → Bool) (k : ℕ) → first_such k test ≡ Nothing → test k ≡ false → first_such (suc k) test ≡ Nothing
+pub such_goes_on : (test : ℕ → Bool) (k : ℕ) → first_such k test ≡ None → test k ≡ false → first_such (suc k) test ≡ None
 such_goes_on = FirstSuch.such_goes_on
 
 -- ---- Asking
 
 -- asked and fit: yes, to the first questions, to the later ones, and to each of a list and of a loop
-pub ask_fit : (yes? : Bool) (n at : ℕ) → ask yes? n at ≡ Fit → yes? ≡ true
+pub ask_fit : (yes? : Bool) (n at : ℕ) → ask yes? n at ≡ Ok tt → yes? ≡ true
 ask_fit = Asking.ask_fit
 
-pub then_first : (a b : Validity) → then_ask a b ≡ Fit → a ≡ Fit
+pub then_first : (a b : Validity) → then_ask a b ≡ Ok tt → a ≡ Ok tt
 then_first = Asking.then_first
 
-pub then_second : (a b : Validity) → then_ask a b ≡ Fit → b ≡ Fit
+pub then_second : (a b : Validity) → then_ask a b ≡ Ok tt → b ≡ Ok tt
 then_second = Asking.then_second
 
-pub turn_fit : (xs : List Validity) (k : ℕ) → in_turn xs ≡ Fit → get_or xs k Fit ≡ Fit
+pub turn_fit : (xs : List Validity) (k : ℕ) → in_turn xs ≡ Ok tt → get_or xs k (Ok tt) ≡ Ok tt
 turn_fit = Asking.turn_fit
 
-pub each_fit : (n : ℕ) (q : ℕ → Validity) → ask_each n q ≡ Fit → (k : ℕ) → k < n → q k ≡ Fit
+pub each_fit : (n : ℕ) (q : ℕ → Validity) → ask_each n q ≡ Ok tt → (k : ℕ) → k < n → q k ≡ Ok tt
 each_fit = Asking.each_fit
 
 -- what is asked in a loop depends on the questions below n alone
@@ -374,7 +372,7 @@ pub each_same : (n : ℕ) (p q : ℕ → Validity) → ((k : ℕ) → k < n → 
 each_same = Asking.each_same
 
 -- how code asks: an answer v to the first questions is returned where it is a refusal, and the next asked where it is not
-pub not_refused : (v : Validity) (r : Bool) → r ≡ is_refused v → r ≡ false → v ≡ Fit
+pub not_refused : (v : Validity) (r : Bool) → r ≡ is_refused v → r ≡ false → v ≡ Ok tt
 not_refused = Asking.not_refused
 
 pub stops : (a b v : Validity) (r : Bool) → v ≡ a → r ≡ is_refused v → r ≡ true → v ≡ then_ask a b
@@ -384,21 +382,21 @@ pub goes_on_lem : (a b v w : Validity) (r : Bool) → v ≡ a → r ≡ is_refus
 goes_on_lem = Asking.goes_on_lem
 
 -- how code asks in a loop
-pub each_stops : (n : ℕ) (q : ℕ → Validity) (k : ℕ) (v : Validity) (r : Bool) → k < n → ask_each k q ≡ Fit → v ≡ q k → r ≡ is_refused v → r ≡ true → v ≡ ask_each n q
+pub each_stops : (n : ℕ) (q : ℕ → Validity) (k : ℕ) (v : Validity) (r : Bool) → k < n → ask_each k q ≡ Ok tt → v ≡ q k → r ≡ is_refused v → r ≡ true → v ≡ ask_each n q
 each_stops = Asking.each_stops
 
-pub each_goes_on : (q : ℕ → Validity) (k : ℕ) (v : Validity) (r : Bool) → ask_each k q ≡ Fit → v ≡ q k → r ≡ is_refused v → r ≡ false → ask_each (suc k) q ≡ Fit
+pub each_goes_on : (q : ℕ → Validity) (k : ℕ) (v : Validity) (r : Bool) → ask_each k q ≡ Ok tt → v ≡ q k → r ≡ is_refused v → r ≡ false → ask_each (suc k) q ≡ Ok tt
 each_goes_on = Asking.each_goes_on
 
 -- where an answer is a refusal, it has a number and its place is small
 module _ {most : ℕ} where
-  pub placed_fit : Placed most Fit
+  pub placed_fit : Placed most (Ok tt)
   placed_fit = Places.placed_fit
 
   pub placed_ask : (yes? : Bool) (n at : ℕ) → T (leb 1 n && leb n 30) → at ≤ most → Placed most (ask yes? n at)
   placed_ask = Places.placed_ask
 
-  pub placed_then : (a b : Validity) → Placed most a → (a ≡ Fit → Placed most b) → Placed most (then_ask a b)
+  pub placed_then : (a b : Validity) → Placed most a → (a ≡ Ok tt → Placed most b) → Placed most (then_ask a b)
   placed_then = Places.placed_then
 
   pub placed_each : (n : ℕ) (q : ℕ → Validity) → ((k : ℕ) → k < n → Placed most (q k)) → Placed most (ask_each n q)
@@ -429,7 +427,7 @@ plain_graph_lem = Matching.plain_graph_lem
 
 -- ---- Of a well-formed file: "A script is well formed if it passes questions 1 to 11", and order 7: "'well formed' takes in 20"
 
-module _ (s : List ℕ) (fit : validity s ≡ Fit) where
+module _ (s : List ℕ) (fit : validity s ≡ Ok tt) where
   -- the fields have as many entries as are allowed, so there is a name at least
   pub counts : Allowed s
   counts = Fitness.counts s fit
@@ -510,9 +508,9 @@ module _ (s : List ℕ) (fit : validity s ≡ Fit) where
 
 -- ---- The sheet program's input, where it passes its questions
 
-module _ (s : List ℕ) (fit : input_validity s ≡ Fit) where
+module _ (s : List ℕ) (fit : input_validity s ≡ Ok tt) where
   -- the program part is well formed, and has the input's names
-  pub program_fit : validity (program_part s) ≡ Fit
+  pub program_fit : validity (program_part s) ≡ Ok tt
   program_fit = Inputs.program_fit s fit
 
   pub program_names : name_count (program_part s) ≡ name_count s

@@ -1,5 +1,6 @@
 -- Laws of question 20: the lowest jump outside every do is the first that is asked about and answered no; where no command is a jump there is none; and it depends
 -- on the commands alone.
+use Rattle.std.specs.Prelude.{Ok}
 use mathlib.Core.Path.{◌≡◌, refl, sym, ◌∙◌, ap}
 use mathlib.Core.Bool.{Bool, true, false, false≢true, ◌||◌, or-true}
 use mathlib.Core.List.{List, [], ◌++◌}
@@ -9,7 +10,7 @@ use native.Mathlib.Nat.{le_refl}
 use native.Mathlib.Omega.{arith}
 use lib.Dec.{leb}
 use borrow.Author.Tests.{eq-eqb, ne_eqb, le-leb, lt-leb, leb-false}
-use Rattle.program.specs.Asking.{ask, is_refused}
+use Rattle.program.specs.Asking.{ask, is_refused, Validity}
 use Rattle.program.specs.File.{program_fields, layout_of, span_of, entry_count, entry_offset, entry}
 use Rattle.program.specs.Graph.{Around, past, guards, part}
 use Rattle.program.specs.Jumps.{loose}
@@ -25,8 +26,6 @@ use Rattle.program.specs.declared.CommandNode.TheVariants.{Skip, Assign, Store, 
 use Rattle.program.specs.declared.Construction.{Construction}
 use Rattle.program.specs.declared.Layout.{Layout}
 use Rattle.program.specs.declared.Table.TheVariants.{Commands}
-use Rattle.program.specs.declared.Validity.{Validity}
-use Rattle.program.specs.declared.Validity.TheVariants.{Fit}
 use Rattle.program.proofs.Asking.{each_yes, each_stops}
 use Rattle.program.proofs.Fit.{laid_out, counts_allowed, tight_fit}
 use Rattle.program.proofs.Forms.{by_parts}
@@ -97,7 +96,7 @@ last_lowest {s} at e =
     let some = at.some in
     e ∙ rw (here, command_below_lem (entry s) (entry_count s Commands) (entry_count s Commands - 1) (omega arith))
 
-pub commands_there : {s : List ℕ} {l : Layout} → heads_validity s 0 program_fields ≡ Fit → l ≡ layout_of s → CommandsAt s (span_of l Commands).start (span_of l Commands).count
+pub commands_there : {s : List ℕ} {l : Layout} → heads_validity s 0 program_fields ≡ Ok tt → l ≡ layout_of s → CommandsAt s (span_of l Commands).start (span_of l Commands).count
 commands_there {s} {l} heads laid =
     let count = laid_count s l laid Commands in
     record {
@@ -113,7 +112,7 @@ module _ (s : List ℕ) where
   count = entry_count s Commands
 
   -- nothing is loose: yes
-  none_loose : ((n : ℕ) → n < count → loose n (script s) ≡ false) → jumps_validity s ≡ Fit
+  none_loose : ((n : ℕ) → n < count → loose n (script s) ≡ false) → jumps_validity s ≡ Ok tt
   unfolding jumps_validity jump_validity ask
   none_loose h = each_yes count (jump_validity s) (λ n l. rw (h n l))
 
@@ -128,7 +127,7 @@ module _ (s : List ℕ) where
       passed_over : (n : ℕ) → n < found → loose n (script s) ≡ false
       passed_over n l = lowest_none (script s) count n (rw same at l)
 
-      fit : count ≤ found → ask (leb count found) 20 (entry_offset s Commands found) ≡ Fit
+      fit : count ≤ found → ask (leb count found) 20 (entry_offset s Commands found) ≡ Ok tt
       fit h = ap (λ (b : Bool). ask b 20 (entry_offset s Commands found)) (le-leb count found h)
 
       stop : found < count → v ≡ jumps_validity s
@@ -170,7 +169,7 @@ tree_tight es n m below (Guarded g p) h = below p
 tree_tight es n m below (Choice p q) h = rw (below p) (below q)
 tree_tight es n m below (Jump j) h = absurd h
 
-pub no_jumps : (s : List ℕ) → 1 ≤ entry_count s Commands → ((n : ℕ) → n < entry_count s Commands → may_jump s Commands n ≡ false) → jumps_validity s ≡ Fit
+pub no_jumps : (s : List ℕ) → 1 ≤ entry_count s Commands → ((n : ℕ) → n < entry_count s Commands → may_jump s Commands n ≡ false) → jumps_validity s ≡ Ok tt
 unfolding may_jump script last_command loose
 no_jumps s some none = none_loose s (λ m l. rw (← command_below_lem (entry s) (entry_count s Commands) (last_command s) (omega arith)) (tight m))
   where
@@ -217,7 +216,7 @@ past_tight (make_guarded e b l c) n h = past_tight c n h
 past_tight (make_choice e l m c d) n h = rw (past_tight c n h) (past_tight d n h)
 past_tight (make_jump e) n h = ne_eqb _ n (λ same. omega (arith, e.exists))
 
-pub no_loose : (s : List ℕ) → validity s ≡ Fit → (n : ℕ) → loose n (script s) ≡ false
+pub no_loose : (s : List ℕ) → validity s ≡ Ok tt → (n : ℕ) → loose n (script s) ≡ false
 no_loose s fit n =
     elim (dec_le (entry_count s Commands) n) [
       | yes h ↦ past_tight (script_made s fit) n h

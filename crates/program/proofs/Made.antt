@@ -1,4 +1,5 @@
 -- How the command trees of a well-formed program are made: each at its entry, of parts that are lower and of the sort that their rule needs.
+use Rattle.std.specs.Prelude.{Ok}
 use mathlib.Core.Path.{◌≡◌, refl}
 use mathlib.Core.Bool.{Bool, true, false, false≢true}
 use mathlib.Core.List.{List}
@@ -14,7 +15,6 @@ use Rattle.program.specs.Tree.{arith_at, boolean_at, command_below, command_node
 use Rattle.program.specs.declared.Jump.{Jump}
 use Rattle.program.specs.declared.Sort.TheVariants.{Expression, Command as Commanding, Guarded}
 use Rattle.program.specs.declared.Table.TheVariants.{Boolean as Booleans, Commands}
-use Rattle.program.specs.declared.Validity.TheVariants.{Fit}
 use Rattle.program.proofs.Expressions.{ArithSorted, arith_sorted}
 use Rattle.program.proofs.Induction.{from_below, by_command}
 use Rattle.program.proofs.Operands.{Reference, Operands, operands_fit}
@@ -55,7 +55,7 @@ here : {s : List ℕ} {n : ℕ} {c : Command} → n < entry_count s Commands →
 here h e = record { exists = h; tree = e }
 
 -- command entry n, where those below are made
-module _ (s : List ℕ) (fit : validity s ≡ Fit) (n : ℕ) (exists : n < entry_count s Commands) (below : (m : ℕ) → m < n → Made s (is_guarded (entry s Commands m).kind) m (command_at (entry s) m)) where
+module _ (s : List ℕ) (fit : validity s ≡ Ok tt) (n : ℕ) (exists : n < entry_count s Commands) (below : (m : ℕ) → m < n → Made s (is_guarded (entry s Commands m).kind) m (command_at (entry s) m)) where
   command_part : (x : ℕ) → Reference s Commands n Commanding x → Made s false x (command_below (command_trees (entry s) n) x)
   unfolding limit same_table table_of of_sort
   command_part x h = rw (command_below_lem (entry s) n x h.lower) (rw (not_guarded _ h.sorted) at (below x h.lower))
@@ -86,7 +86,7 @@ module _ (s : List ℕ) (fit : validity s ≡ Fit) (n : ℕ) (exists : n < entry
       (λ p q r h e. make_jump (here exists e))
       (λ k p q r h e. absurd h)
 
-pub made : (s : List ℕ) → validity s ≡ Fit → (n : ℕ) → n < entry_count s Commands → Made s (is_guarded (entry s Commands n).kind) n (command_at (entry s) n)
+pub made : (s : List ℕ) → validity s ≡ Ok tt → (n : ℕ) → n < entry_count s Commands → Made s (is_guarded (entry s Commands n).kind) n (command_at (entry s) n)
 unfolding command_at
 made s fit =
     from_below _ (λ n below h. command_node_lem s fit n h (λ m l. below m l (omega arith)) _ _ _ _ (operands_fit s fit Commands n h) refl)

@@ -1,4 +1,5 @@
 -- What questions 7 to 9 say of an entry's operands, by their roles.
+use Rattle.std.specs.Prelude.{Ok}
 use mathlib.Core.Path.{◌≡◌}
 use mathlib.Core.Bool.{true, false, false≢true}
 use mathlib.Core.List.{List}
@@ -11,7 +12,6 @@ use Rattle.program.specs.Questions.{named, points, limit, of_sort, each_operand,
 use Rattle.program.specs.declared.Entry.{Entry}
 use Rattle.program.specs.declared.Sort.{Sort}
 use Rattle.program.specs.declared.Table.{Table}
-use Rattle.program.specs.declared.Validity.TheVariants.{Fit}
 use Rattle.program.proofs.Asking.{ask_fit, turn_fit}
 use Rattle.program.proofs.Fit.{entry_fit}
 use Rattle.program.proofs.Tests.{two, three}
@@ -44,7 +44,7 @@ abbrev pub Operands : List ℕ → Table → ℕ → Shape → Entry → Type 0
 Operands s t n Unknown e = ⊥
 Operands s t n (Known x) e = Operand s t n x.p e.p × Operand s t n x.q e.q × Operand s t n x.r e.r
 
-shape_fit : (s : List ℕ) (t : Table) (n : ℕ) (x : Shape) → shape_validity s t n x ≡ Fit → Operands s t n x (entry s t n)
+shape_fit : (s : List ℕ) (t : Table) (n : ℕ) (x : Shape) → shape_validity s t n x ≡ Ok tt → Operands s t n x (entry s t n)
 unfolding shape_validity each_operand
 shape_fit s t n Unknown e = absurd (false≢true (ask_fit false 7 _ e))
 shape_fit s t n (Known x) e =
@@ -53,6 +53,6 @@ shape_fit s t n (Known x) e =
     let refs = three (points s t n x.p o.p) (points s t n x.q o.q) (points s t n x.r o.r) (ask_fit _ 9 _ (turn_fit _ 1 e)) in
     (operand_fit s t n _ _ names.0 refs.0, operand_fit s t n _ _ names.1 refs.1, operand_fit s t n _ _ names.2 refs.2)
 
-pub operands_fit : (s : List ℕ) → validity s ≡ Fit → (t : Table) (n : ℕ) → n < entry_count s t → Operands s t n (shape t (entry s t n).kind) (entry s t n)
+pub operands_fit : (s : List ℕ) → validity s ≡ Ok tt → (t : Table) (n : ℕ) → n < entry_count s t → Operands s t n (shape t (entry s t n).kind) (entry s t n)
 unfolding entry_validity
 operands_fit s fit t n h = shape_fit s t n _ (entry_fit s fit t n h)

@@ -1,4 +1,5 @@
 -- The place of a refusal is small, and its number is one: every field's length is bounded before the next field is asked about.
+use Rattle.std.specs.Prelude.{Err, Ok}
 use mathlib.Core.Path.{◌≡◌, refl, sym, ◌∙◌, ap}
 use mathlib.Core.Bool.{Bool, true, false, cond, ◌&&◌}
 use mathlib.Core.List.{List, [], ◌∷◌}
@@ -9,18 +10,15 @@ use lib.Dec.{T, eqb, leb, leb→le}
 use mir.Facts.{and_yes}
 use lib.ListN.{length}
 use borrow.Author.Tests.{leb-true, eqb-true}
-use Rattle.program.specs.Asking.{ask, then_ask, is_refused, in_turn, ask_each}
+use Rattle.program.specs.Asking.{ask, then_ask, is_refused, in_turn, ask_each, Validity}
 use Rattle.program.specs.File.{word_at, names_field, table_field, program_fields, initial_field, head_found, head_at, field_start, place_after, after_head, field_head, name_count, name_offset, entry_count, entry_offset}
 use Rattle.program.specs.Questions.{whole_entries, head_validity, heads_validity, end_validity, name_validity, shape_validity, entry_validity, table_validity, use_validity, to_be_used, used_validity, last_validity, uses_validity, jump_validity, jumps_validity, content_validity, validity, input_validity}
 use Rattle.program.specs.Tree.{last_command}
 use Rattle.program.specs.Kind.{Shape, Unknown, Known}
 use Rattle.program.specs.declared.Field.{Field}
-use Rattle.program.specs.declared.Head.TheVariants.{Short, Found}
 use Rattle.program.specs.declared.Refusal.{Refusal}
 use Rattle.program.specs.declared.Table.{Table}
 use Rattle.program.specs.declared.Table.TheVariants.{Arithmetic, Boolean, Commands}
-use Rattle.program.specs.declared.Validity.{Validity}
-use Rattle.program.specs.declared.Validity.TheVariants.{Fit, Refused}
 use Rattle.program.proofs.Asking.{refused_unfit, ask_fit, turn_fit, not_refused}
 use Rattle.program.proofs.Fit.{counts_allowed}
 use Rattle.program.proofs.FirstSuch.{first_found}
@@ -35,10 +33,10 @@ pub record Told (most : ℕ) (x : Refusal) : Type 0 where
   pub near : x.offset ≤ most
 
 abbrev pub Placed : ℕ → Validity → Type 0
-Placed most v = (x : Refusal) → v ≡ Refused x → Told most x
+Placed most v = (x : Refusal) → v ≡ Err x → Told most x
 
 module _ {most : ℕ} where
-  pub placed_fit : Placed most Fit
+  pub placed_fit : Placed most (Ok tt)
   placed_fit x e = refused_unfit x (sym e)
 
   pub placed_ask : (yes? : Bool) (n at : ℕ) → T (leb 1 n && leb n 30) → at ≤ most → Placed most (ask yes? n at)
@@ -49,15 +47,15 @@ module _ {most : ℕ} where
       let both = and_yes (leb 1 n) (leb n 30) h in
       rw (← same) (record { numbered = leb→le 1 n both.0; asked = leb→le n 30 both.1; near = l })
 
-  pub placed_then : (a b : Validity) → Placed most a → (a ≡ Fit → Placed most b) → Placed most (then_ask a b)
+  pub placed_then : (a b : Validity) → Placed most a → (a ≡ Ok tt → Placed most b) → Placed most (then_ask a b)
   unfolding then_ask
-  placed_then Fit b p q = q refl
-  placed_then (Refused y) b p q = p
+  placed_then (Ok _) b p q = q refl
+  placed_then (Err y) b p q = p
 
   pub placed_each : (n : ℕ) (q : ℕ → Validity) → ((k : ℕ) → k < n → Placed most (q k)) → Placed most (ask_each n q)
   unfolding is_refused ask_each
   placed_each n q p x e =
-      let found = first_found is_refused Fit refl (λ v i. not_refused v (is_refused v) refl i) n q (ap is_refused e) in
+      let found = first_found is_refused (Ok tt) refl (λ v i. not_refused v (is_refused v) refl i) n q (ap is_refused e) in
       p found.at found.below x (sym found.answer ∙ e)
 
   -- questions 1 to 4 have their place where the head starts
@@ -65,7 +63,7 @@ module _ {most : ℕ} where
   unfolding head_at head_found head_validity in_turn
   head_placed s at f l = go (leb (at + 3) (length s))
     where
-      go : (b : Bool) → Placed most (head_validity (length s) (cond b (Found (head_found s at)) (Short at)) f)
+      go : (b : Bool) → Placed most (head_validity (length s) (cond b (Ok (head_found s at)) (Err at)) f)
       go true =
           placed_then _ _ (placed_ask _ 2 at tt l)
           (λ _. placed_then _ _ (placed_ask _ 3 at tt l) (λ _. placed_then _ _ (placed_ask _ 4 at tt l) (λ _. placed_fit)))
@@ -84,7 +82,7 @@ few_content f len e =
     let few : len / f.width ≤ f.most = leb-true _ _ known.2 in
     omega (arith, div-add-mod' len f.width, mul-le-mul_right f.width few)
 
-next_near : (s : List ℕ) (k : ℕ) (f : Field) → head_validity (length s) (field_head s k) f ≡ Fit → field_start s (suc k) ≤ field_start s k + (3 + f.most * f.width)
+next_near : (s : List ℕ) (k : ℕ) (f : Field) → head_validity (length s) (field_head s k) f ≡ Ok tt → field_start s (suc k) ≤ field_start s k + (3 + f.most * f.width)
 unfolding field_head place_after after_head head_found
 next_near s k f e =
     let head = whole s (field_start s k) f e in
@@ -112,7 +110,7 @@ to_be_used_lem Boolean count = omega arith
 to_be_used_lem Commands count = omega arith
 
 -- where four fields that pass questions 1 to 4 end: 3 + 2 * 32, 3 + 7 * 512, 3 + 7 * 256 and 3 + 7 * 256 bytes at most
-module _ (s : List ℕ) (heads : heads_validity s 0 program_fields ≡ Fit) where
+module _ (s : List ℕ) (heads : heads_validity s 0 program_fields ≡ Ok tt) where
   fields_end : field_start s 4 ≤ 7244
   unfolding program_fields names_field table_field place_after
   fields_end =
@@ -166,14 +164,14 @@ validity_placed s =
     (λ _. placed_then _ _ (content_placed s heads (omega arith)) (λ _. placed_fit)))
 
 -- a well-formed file has no more bytes
-pub few_bytes : (s : List ℕ) → validity s ≡ Fit → length s ≤ 7244
+pub few_bytes : (s : List ℕ) → validity s ≡ Ok tt → length s ≤ 7244
 unfolding validity end_validity
 few_bytes s fit =
     let end : field_start s 4 ≡ length s = eqb-true _ _ (ask_fit _ 5 _ (turn_fit _ 1 fit)) in
     omega (arith, fields_end s (turn_fit _ 0 fit))
 
 -- the questions of the sheet program's input, whose fifth field has 3 + 32 * 512 bytes at most
-initial_end : (s : List ℕ) → heads_validity s 0 program_fields ≡ Fit → head_validity (length s) (field_head s 4) (initial_field (name_count s)) ≡ Fit → field_start s 5 ≤ 23631
+initial_end : (s : List ℕ) → heads_validity s 0 program_fields ≡ Ok tt → head_validity (length s) (field_head s 4) (initial_field (name_count s)) ≡ Ok tt → field_start s 5 ≤ 23631
 unfolding initial_field
 initial_end s heads e =
     omega (arith, fields_end s heads, next_near s 4 _ e, mul-le-mul_left 512 (counts_allowed s heads).names)

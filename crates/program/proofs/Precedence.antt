@@ -1,5 +1,6 @@
 -- What precedes an edge at its node, by induction on drawing: no edge drawn before leaves a fresh node, and those that leave the node of an if or do before a guard are
 -- the earlier guards'.
+use Rattle.std.specs.Prelude.{Ok}
 use mathlib.Core.Logic.{◌≢◌}
 use mathlib.Core.Path.{◌≡◌, refl, sym, ◌∙◌, ap, subst}
 use mathlib.Core.Bool.{Bool, true, false, false≢true, cond, or-true}
@@ -17,7 +18,6 @@ use Rattle.program.specs.Questions.{validity}
 use Rattle.program.specs.Syntax.{Boolean, Command, skip, assign, store, sequence, conditional, iteration, guarded, choice, jump}
 use Rattle.program.specs.declared.Construction.{Construction}
 use Rattle.program.specs.declared.Construction.TheVariants.{Nondeterministic, Deterministic}
-use Rattle.program.specs.declared.Validity.TheVariants.{Fit}
 use Rattle.program.proofs.Lists.{concat_append}
 use Rattle.program.proofs.Made.{Made, make_skip, make_assign, make_store, make_sequence, make_conditional, make_iteration, make_guarded, make_choice, make_jump}
 use Rattle.program.proofs.Nodes.{fresh_grows}
@@ -222,6 +222,6 @@ part_followed (make_choice {c = x} e l m c d) κ o a b n pre h clear begins =
 part_followed (make_jump e) κ o a b n pre h clear begins = more begins none
 
 -- of the graph of a well-formed file
-pub edge_follows : (s : List ℕ) → validity s ≡ Fit → (κ : Construction) (e : ℕ) → e < edge_count κ s → Follows (before (graph κ s) e) (edge_at (graph κ s) e).action
+pub edge_follows : (s : List ℕ) → validity s ≡ Ok tt → (κ : Construction) (e : ℕ) → e < edge_count κ s → Follows (before (graph κ s) e) (edge_at (graph κ s) e).action
 unfolding edge_count edges graph edge_at before leaving
 edge_follows s fit κ e h = followed_at (part_followed (script_made s fit) κ (within 0 1) 0 1 2 [] (omega arith) (λ x i. refl) refl) e _ h

@@ -1,4 +1,5 @@
 -- The code and the graph of a well-formed file are its prepared program.
+use Rattle.std.specs.Prelude.{Ok}
 use mathlib.Core.Path.{◌≡◌, refl, sym, ◌∙◌, ap}
 use mathlib.Core.Bool.{Bool, true, false, false≢true}
 use mathlib.Core.List.{List, [], ◌∷◌}
@@ -6,7 +7,7 @@ use Prim.Native.Nat.{ℕ, zero, suc, ◌<◌}
 use native.Mathlib.Omega.{arith}
 use borrow.Author.Tests.{lt-ltb}
 use lib.Dec.{T}
-use Rattle.program.specs.Asking.{is_refused}
+use Rattle.program.specs.Asking.{is_refused, Validity}
 use Rattle.program.specs.File.{sizes}
 use Rattle.program.specs.Graph.{Action, perform, test, leave, select, selected, edge, edge_at, graph, edges, edge_count, node_count, action_kind, action_entry}
 use Rattle.program.specs.Parts.LinkingParts.{LinkedFrom}
@@ -22,8 +23,6 @@ use Rattle.program.specs.Tree.{Entries, command_at, command_made}
 use Rattle.program.specs.declared.CommandNode.{CommandNode}
 use Rattle.program.specs.declared.CommandNode.TheVariants.{Skip, Assign, Store, Sequence, Conditional, Iteration, Guarded, Choice, Jump}
 use Rattle.program.specs.declared.Construction.{Construction}
-use Rattle.program.specs.declared.Validity.{Validity}
-use Rattle.program.specs.declared.Validity.TheVariants.{Fit}
 use Rattle.program.proofs.Actions.{edge_faithful}
 use Rattle.program.proofs.Counts.{few_nodes, few_edges}
 use Rattle.program.proofs.Fit.{counts}
@@ -156,7 +155,7 @@ guard_told es fs (test b) h = refl
 guard_told es fs (leave c) h = refl
 guard_told es fs (select k earlier b) h = some_guard es _ ∙ ap is_condition h
 
-module _ (κ : Construction) (s : List ℕ) (fit : validity s ≡ Fit) (code words : List ℕ) (c : CodeIn s code) (g : GraphIn κ s words) where
+module _ (κ : Construction) (s : List ℕ) (fit : validity s ≡ Ok tt) (code words : List ℕ) (c : CodeIn s code) (g : GraphIn κ s words) where
   same_entries : SameEntries s (entries_in code words)
   unfolding entries_in numbers_at
   same_entries =
@@ -207,7 +206,7 @@ pub refused_for : (κ : Construction) (s : List ℕ) {v : Validity} {r : Bool} (
 unfolding is_refused
 refused_for κ s code words e asked refused = record { asked = e; prepared = λ fit. absurd (false≢true (sym (asked ∙ ap is_refused fit) ∙ refused)) }
 
-pub prepared_for : (κ : Construction) (s : List ℕ) {v : Validity} (code words : List ℕ) → validity s ≡ Fit → v ≡ validity s → CodeIn s code → GraphIn κ s words → PreparedFor κ s v code words
+pub prepared_for : (κ : Construction) (s : List ℕ) {v : Validity} (code words : List ℕ) → validity s ≡ Ok tt → v ≡ validity s → CodeIn s code → GraphIn κ s words → PreparedFor κ s v code words
 prepared_for κ s code words fit e c g = record { asked = e; prepared = λ same. prepared κ s fit code words c g }
 
 -- and the reply with the links: a refusal with any two arrays, and fit with these

@@ -1,16 +1,15 @@
 -- A row of numbers read back: two answers with the same row are the same, so the `numbers` clause of an operation alone fixes its reply.
+use Rattle.std.specs.Prelude.{Err, Ok}
 use mathlib.Core.Path.{◌≡◌, refl, sym, ap, ◌∙◌}
 use mathlib.Core.Bool.{cond}
 use mathlib.Core.List.{List}
 use Prim.Native.Nat.{ℕ}
 use lib.Dec.{eqb}
 use lib.ListN.{length, get_or}
-use Rattle.program.specs.Asking.{validity_numbers}
+use Rattle.program.specs.Asking.{validity_numbers, Validity}
 use Rattle.program.specs.Drawing.{drawn_numbers}
 use Rattle.program.specs.declared.Drawn.{Drawn}
 use Rattle.program.specs.declared.Refusal.{Refusal}
-use Rattle.program.specs.declared.Validity.{Validity}
-use Rattle.program.specs.declared.Validity.TheVariants.{Fit, Refused}
 
 -- of answers that are read back out of their rows, two with the same row are the same
 pub same_row : {A B : Type 0} (row : A → B) (read : B → A) {a b : A} → read (row a) ≡ a → read (row b) ≡ b → row a ≡ row b → a ≡ b
@@ -21,12 +20,12 @@ abbrev pub refusal_read : List ℕ → Refusal
 refusal_read l = record { number = get_or l 0 0; offset = get_or l 1 0 }
 
 abbrev validity_read : List ℕ → Validity
-validity_read l = cond (eqb (length l) 1) Fit (Refused (refusal_read l))
+validity_read l = cond (eqb (length l) 1) (Ok tt) (Err (refusal_read l))
 
 validity_back : (v : Validity) → validity_read (validity_numbers v) ≡ v
 unfolding validity_numbers
-validity_back Fit = refl
-validity_back (Refused x) = refl
+validity_back (Ok _) = refl
+validity_back (Err x) = refl
 
 pub validity_row : (v w : Validity) → validity_numbers v ≡ validity_numbers w → v ≡ w
 validity_row v w = same_row validity_numbers (λ l. validity_read l) (validity_back v) (validity_back w)
@@ -34,13 +33,13 @@ validity_row v w = same_row validity_numbers (λ l. validity_read l) (validity_b
 abbrev drawn_read : List ℕ → Drawn
 drawn_read l =
     cond (eqb (length l) 3)
-    (record { validity = Fit; nodes = get_or l 1 0; edges = get_or l 2 0 })
-    (record { validity = Refused (refusal_read l); nodes = get_or l 2 0; edges = get_or l 3 0 })
+    (record { validity = Ok tt; nodes = get_or l 1 0; edges = get_or l 2 0 })
+    (record { validity = Err (refusal_read l); nodes = get_or l 2 0; edges = get_or l 3 0 })
 
 drawn_back : (v : Validity) (n e : ℕ) → let d : Drawn = record { validity = v; nodes = n; edges = e } in drawn_read (drawn_numbers d) ≡ d
 unfolding drawn_numbers validity_numbers
-drawn_back Fit n e = refl
-drawn_back (Refused x) n e = refl
+drawn_back (Ok _) n e = refl
+drawn_back (Err x) n e = refl
 
 pub drawn_row : (c d : Drawn) → drawn_numbers c ≡ drawn_numbers d → c ≡ d
 drawn_row c d =

@@ -1,4 +1,5 @@
 -- What stands past the end of a file reads as zero; what is read in a part of it; what the field reader finds; and a layout's spans.
+use Rattle.std.specs.Prelude.{Err, Ok}
 use mathlib.Core.Path.{◌≡◌, refl, ap, ◌∙◌}
 use mathlib.Core.Bool.{Bool, true, false, cond}
 use mathlib.Core.List.{List}
@@ -9,17 +10,14 @@ use borrow.Author.Tests.{leb-true, le-leb, lt-leb, eq-eqb, ne_eqb}
 use lib.Dec.{eqb, leb}
 use lib.ListN.{length, take, drop, get_or-eq_default}
 use lib.Seq.{get_or-take, get_or-drop}
-use Rattle.program.specs.Asking.{ask}
-use Rattle.program.specs.File.{byte_at, word_at, names_field, table_field, head_found, head_at, after_head, place_after, field_start, field_head, head_span, entry_at, layout_of, span_of, name_count, entry_count, table_start, entry_offset, entry, cells_of}
+use Rattle.program.specs.Asking.{ask, Validity}
+use Rattle.program.specs.File.{byte_at, word_at, names_field, table_field, head_found, head_at, after_head, place_after, field_start, field_head, head_span, entry_at, layout_of, span_of, name_count, entry_count, table_start, entry_offset, entry, cells_of, Head}
 use Rattle.program.specs.Questions.{head_validity, end_validity, same_table, limit}
 use Rattle.program.specs.declared.Entry.{Entry}
 use Rattle.program.specs.declared.Field.{Field}
-use Rattle.program.specs.declared.Head.{Head}
-use Rattle.program.specs.declared.Head.TheVariants.{Short, Found}
 use Rattle.program.specs.declared.Layout.{Layout}
 use Rattle.program.specs.declared.Table.{Table}
 use Rattle.program.specs.declared.Table.TheVariants.{Arithmetic, Boolean, Commands}
-use Rattle.program.specs.declared.Validity.{Validity}
 
 pub byte_past : (s : List ℕ) (i : ℕ) → length s ≤ i → byte_at s i ≡ 0
 unfolding byte_at
@@ -55,11 +53,11 @@ module _ (s bytes : List ℕ) (start end : ℕ) (front : take end bytes ≡ take
       )
 
 -- what the field reader finds where three bytes are left, and where they are not
-pub head_there : (s : List ℕ) (at : ℕ) → at + 3 ≤ length s → head_at s at ≡ Found (head_found s at)
+pub head_there : (s : List ℕ) (at : ℕ) → at + 3 ≤ length s → head_at s at ≡ Ok (head_found s at)
 unfolding head_at
 head_there s at h = rw (le-leb _ _ h)
 
-pub head_short : (s : List ℕ) (at : ℕ) → length s < at + 3 → head_at s at ≡ Short at
+pub head_short : (s : List ℕ) (at : ℕ) → length s < at + 3 → head_at s at ≡ Err at
 unfolding head_at
 head_short s at h = rw (lt-leb _ _ h)
 
@@ -68,7 +66,7 @@ span_inside : (s : List ℕ) (at : ℕ) (f : Field) → 0 < (head_span (head_at 
 unfolding head_at head_found head_span
 span_inside s at f h = go (leb (at + 3) (length s)) refl h
   where
-    go : (b : Bool) → leb (at + 3) (length s) ≡ b → 0 < (head_span (cond b (Found (head_found s at)) (Short at)) f).count → (head_span (cond b (Found (head_found s at)) (Short at)) f).start ≤ length s
+    go : (b : Bool) → leb (at + 3) (length s) ≡ b → 0 < (head_span (cond b (Ok (head_found s at)) (Err at)) f).count → (head_span (cond b (Ok (head_found s at)) (Err at)) f).start ≤ length s
     go true t h = leb-true _ _ t
     go false t h = absurd (omega arith)
 

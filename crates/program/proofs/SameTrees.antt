@@ -1,4 +1,5 @@
 -- Any reading that has a well-formed file's entries has its trees and actions.
+use Rattle.std.specs.Prelude.{Ok}
 use mathlib.Core.Path.{◌≡◌, refl}
 use mathlib.Core.List.{List, [], ◌∷◌, ◌++◌}
 use Prim.Native.Nat.{ℕ, zero, suc, ◌≤◌, ◌<◌}
@@ -10,7 +11,6 @@ use Rattle.program.specs.Questions.{same_table, limit, validity}
 use Rattle.program.specs.Syntax.{Boolean, Command, Arith}
 use Rattle.program.specs.Tree.{Entries, arith_trees, arith_at, boolean_node, boolean_trees, boolean_at, command_node, command_trees, command_at, boolean_made, command_made, arith_made, arith_node}
 use Rattle.program.specs.declared.Table.TheVariants.{Arithmetic, Boolean as Booleans, Commands}
-use Rattle.program.specs.declared.Validity.TheVariants.{Fit}
 use Rattle.program.proofs.Induction.{by_kind, by_command}
 use Rattle.program.proofs.Operands.{Operands, operands_fit}
 
@@ -22,7 +22,7 @@ pub record SameEntries (s : List ℕ) (es : Entries) : Type 0 where
   pub booleans : (n : ℕ) → n < entry_count s Booleans → es Booleans n ≡ entry s Booleans n
   pub commands : (n : ℕ) → n < entry_count s Commands → es Commands n ≡ entry s Commands n
 
-module _ (s : List ℕ) (fit : validity s ≡ Fit) (es : Entries) (same : SameEntries s es) where
+module _ (s : List ℕ) (fit : validity s ≡ Ok tt) (es : Entries) (same : SameEntries s es) where
   arith_node_lem : (below : List Arith) (n : ℕ) → n < entry_count s Arithmetic → arith_node below n (es Arithmetic n) ≡ arith_node below n (entry s Arithmetic n)
   unfolding arith_kind arith_made
   arith_node_lem below n h = rw (same.kind n h, same.p n h, same.q n h)

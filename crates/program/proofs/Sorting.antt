@@ -1,5 +1,6 @@
 -- The command trees of a well-formed program are well sorted: every name is there and of the right sort, every reference lower and of the sort its
 -- rule needs.
+use Rattle.std.specs.Prelude.{Ok}
 use mathlib.Core.Path.{◌≡◌, refl, ◌∙◌, ap}
 use mathlib.Core.Bool.{Bool, true, false, not}
 use mathlib.Core.List.{List}
@@ -15,7 +16,6 @@ use Rattle.program.specs.Parts.Sorted.{command_named, boolean_named, is_guarded_
 use Rattle.program.specs.Syntax.{Command, skip, assign, store, sequence, conditional, iteration, guarded, choice, jump, command_entry}
 use Rattle.program.specs.Tree.{command_at, last_command, script}
 use Rattle.program.specs.declared.Table.TheVariants.{Commands}
-use Rattle.program.specs.declared.Validity.TheVariants.{Fit}
 use Rattle.program.proofs.Expressions.{boolean_sorted}
 use Rattle.program.proofs.Fit.{one_last, last_fit}
 use Rattle.program.proofs.Made.{AtEntry, Made, make_skip, make_assign, make_store, make_sequence, make_conditional, make_iteration, make_guarded, make_choice, make_jump, not_guarded, made}
@@ -67,7 +67,7 @@ done_named ns (iteration n c) h = refl
 done_named ns (jump n j) h = refl
 
 -- its names are there and of the right sort, and its references point as they must
-module _ (s : List ℕ) (fit : validity s ≡ Fit) where
+module _ (s : List ℕ) (fit : validity s ≡ Ok tt) where
   pub made_named : {g : Bool} {n : ℕ} {c : Command} → Made s g n c → command_named (sizes s) c ≡ true
   unfolding command_named
   made_named (make_skip e) = refl

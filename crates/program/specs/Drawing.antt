@@ -1,14 +1,12 @@
 -- What drawing the graph of a file, by a construction, into a buffer replies, and what the buffer holds afterwards (document 01, "Questions asked", 13).
-use Rattle.std.specs.Prelude.{ℕ, ◌+◌, ◌*◌, List, [], ◌∷◌, ◌++◌, leb, length, drop}
-use Rattle.program.specs.Asking.{ask_plain, then_ask, validity_numbers}
+use Rattle.std.specs.Prelude.{ℕ, ◌+◌, ◌*◌, List, [], ◌∷◌, ◌++◌, leb, length, drop, Err, Ok}
+use Rattle.program.specs.Asking.{ask_plain, then_ask, validity_numbers, Validity}
 use Rattle.program.specs.File.{byte_at, word_at}
 use Rattle.program.specs.Graph.{edge_count, node_count, graph_bytes}
 use Rattle.program.specs.Questions.{validity}
 use Rattle.program.specs.declared.Construction.{Construction}
 use Rattle.program.specs.declared.Drawn.{Drawn}
 use Rattle.program.specs.declared.EdgeBytes.{EdgeBytes}
-use Rattle.program.specs.declared.Validity.{Validity}
-use Rattle.program.specs.declared.Validity.TheVariants.{Fit, Refused}
 
 -- "Does the arrow buffer hold all arrows? 13", after the file's questions
 unfoldable pub draw_validity : Construction → List ℕ → List ℕ → Validity
@@ -16,8 +14,8 @@ draw_validity κ s buffer = then_ask (validity s) (ask_plain (leb (7 * edge_coun
 
 -- the reply: "other counts and nodes come back as zero"
 unfoldable pub drawn_by : Construction → List ℕ → Validity → Drawn
-drawn_by κ s Fit = record { validity = Fit; nodes = node_count κ s; edges = edge_count κ s }
-drawn_by κ s (Refused x) = record { validity = Refused x; nodes = 0; edges = 0 }
+drawn_by κ s (Ok _) = record { validity = Ok tt; nodes = node_count κ s; edges = edge_count κ s }
+drawn_by κ s (Err x) = record { validity = Err x; nodes = 0; edges = 0 }
 
 unfoldable pub drawn : Construction → List ℕ → List ℕ → Drawn
 drawn κ s buffer = drawn_by κ s (draw_validity κ s buffer)
@@ -28,8 +26,8 @@ over bytes buffer = bytes ++ drop (length bytes) buffer
 
 -- the buffer afterwards: "Refusals 1 to 17 change no buffer"
 unfoldable pub drawn_buffer_by : Construction → List ℕ → List ℕ → Validity → List ℕ
-drawn_buffer_by κ s buffer Fit = over (graph_bytes κ s) buffer
-drawn_buffer_by κ s buffer (Refused x) = buffer
+drawn_buffer_by κ s buffer (Ok _) = over (graph_bytes κ s) buffer
+drawn_buffer_by κ s buffer (Err x) = buffer
 
 unfoldable pub drawn_buffer : Construction → List ℕ → List ℕ → List ℕ
 drawn_buffer κ s buffer = drawn_buffer_by κ s buffer (draw_validity κ s buffer)

@@ -1,12 +1,10 @@
 -- The program file: numbers, fields and entries (document 01, "The script file"). All reading is total: a byte past the end is 0.
-use Rattle.std.specs.Prelude.{ℕ, zero, suc, ◌+◌, ◌*◌, ◌/◌, ◌-◌, Bool, cond, ◌&&◌, eqb, leb, ltb, length, get_or, take, drop, ℤ, pos, negsuc}
+use Rattle.std.specs.Prelude.{ℕ, zero, suc, ◌+◌, ◌*◌, ◌/◌, ◌-◌, Bool, cond, ◌&&◌, eqb, leb, ltb, length, get_or, take, drop, ℤ, pos, negsuc, Result, Ok, Err}
 use mathlib.Core.List.{List, [], ◌∷◌, map, sum}
 use Rattle.signs.specs.Lists.{tabulate}
 use Rattle.program.specs.declared.Entry.{Entry}
 use Rattle.program.specs.declared.Field.{Field}
 use Rattle.program.specs.declared.FieldHead.{FieldHead}
-use Rattle.program.specs.declared.Head.{Head}
-use Rattle.program.specs.declared.Head.TheVariants.{Short, Found}
 use Rattle.program.specs.declared.Layout.{Layout}
 use Rattle.program.specs.declared.Span.{Span}
 use Rattle.program.specs.declared.Table.{Table}
@@ -50,15 +48,19 @@ initial_field names = record { tag = 5; width = names; least = 0; most = 512 }
 unfoldable pub head_found : List ℕ → ℕ → FieldHead
 head_found s at = record { start = at; tag = byte_at s at; length = word_at s (at + 1); content = at + 3; next = at + 3 + word_at s (at + 1) }
 
+-- what stands at a place of a file: the head of a field, or, where fewer bytes are left than a head has, the place
+abbrev pub Head : Type 0
+Head = Result FieldHead ℕ
+
 -- "Are three bytes left for its head?": what the field reader finds at a place
 unfoldable pub head_at : List ℕ → ℕ → Head
-head_at s at = cond (leb (at + 3) (length s)) (Found (head_found s at)) (Short at)
+head_at s at = cond (leb (at + 3) (length s)) (Ok (head_found s at)) (Err at)
 
 -- where the reader goes from there. It stays where no head stands; question 1 is no there, so no answer to the questions depends on a place
 -- further on
 unfoldable pub after_head : Head → ℕ
-after_head (Short at) = at
-after_head (Found h) = h.next
+after_head (Err at) = at
+after_head (Ok h) = h.next
 
 -- where the reader is k fields after a place
 unfoldable pub place_after : List ℕ → ℕ → ℕ → ℕ
@@ -74,13 +76,13 @@ field_head s k = head_at s (field_start s k)
 
 -- the content of a field: where it starts, and how many entries it has
 unfoldable pub head_span : Head → Field → Span
-head_span (Short at) f = record { start = at; count = 0 }
-head_span (Found h) f = record { start = h.content; count = h.length / f.width }
+head_span (Err at) f = record { start = at; count = 0 }
+head_span (Ok h) f = record { start = h.content; count = h.length / f.width }
 
 -- the same as bytes, as far as they are there
 unfoldable pub head_content : List ℕ → Head → List ℕ
-head_content s (Short at) = []
-head_content s (Found h) = take h.length (drop h.content s)
+head_content s (Err at) = []
+head_content s (Ok h) = take h.length (drop h.content s)
 
 unfoldable pub layout_of : List ℕ → Layout
 layout_of s =

@@ -1,8 +1,6 @@
 -- "First such" (document 01): the first of the answers at 0, 1, … n - 1 that settles a matter. The questions, the lowest defined edge, the
 -- verdict's 41 and 42 and the index mark are all found this way.
-use Rattle.std.specs.Prelude.{ℕ, zero, suc, Bool, true, false, cond}
-use Rattle.program.specs.declared.First.{First}
-use Rattle.program.specs.declared.First.TheVariants.{At, Nothing}
+use Rattle.std.specs.Prelude.{ℕ, zero, suc, Bool, true, false, cond, None, Option, Some}
 
 module _ {A : Type 0} (settles : A → Bool) where
   -- an answer where it settles the matter, else a later one
@@ -15,9 +13,9 @@ module _ {A : Type 0} (settles : A → Bool) where
   first_of nothing (suc n) f = or_else (first_of nothing n f) (f n)
 
 -- the first of 0, 1, … n - 1 that passes a test
-unfoldable pub is_at : First → Bool
-is_at (At k) = true
-is_at Nothing = false
+unfoldable pub is_at : Option ℕ → Bool
+is_at (Some k) = true
+is_at None = false
 
-unfoldable pub first_such : ℕ → (ℕ → Bool) → First
-first_such n test = first_of is_at Nothing n (λ k. cond (test k) (At k) Nothing)
+unfoldable pub first_such : ℕ → (ℕ → Bool) → Option ℕ
+first_such n test = first_of is_at None n (λ k. cond (test k) (Some k) None)

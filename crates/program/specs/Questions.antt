@@ -1,21 +1,17 @@
 -- Questions 1 to 11, of a program file and of the sheet program's input (document 01, "Questions asked, with the number when it is no"), and 20, which document 02's
 -- order 7 asks after them.
-use Rattle.std.specs.Prelude.{ℕ, zero, suc, ◌+◌, ◌/◌, ◌%◌, ◌-◌, Bool, true, false, not, cond, ◌&&◌, List, [], ◌∷◌, eqb, leb, ltb, length, take}
-use Rattle.program.specs.Asking.{ask, then_ask, in_turn, ask_each, validity_numbers}
-use Rattle.program.specs.File.{table_tag, program_fields, initial_field, field_start, field_head, head_content, name_count, name_offset, size_at, sizes, entry_count, entry_offset, entry, cell_count, is_variable, is_array}
+use Rattle.std.specs.Prelude.{ℕ, zero, suc, ◌+◌, ◌/◌, ◌%◌, ◌-◌, Bool, true, false, not, cond, ◌&&◌, List, [], ◌∷◌, eqb, leb, ltb, length, take, Ok, Err}
+use Rattle.program.specs.Asking.{ask, then_ask, in_turn, ask_each, validity_numbers, Validity}
+use Rattle.program.specs.File.{table_tag, program_fields, initial_field, field_start, field_head, head_content, name_count, name_offset, size_at, sizes, entry_count, entry_offset, entry, cell_count, is_variable, is_array, Head}
 use Rattle.program.specs.Jumps.{loose}
 use Rattle.program.specs.Kind.{Role, Unused, Half, Variable, Array, To, Roles, Shape, Unknown, Known, shape, table_of, is_command, is_guarded}
 use Rattle.program.specs.Tree.{last_command, script}
 use Rattle.program.specs.declared.Entry.{Entry}
 use Rattle.program.specs.declared.Field.{Field}
-use Rattle.program.specs.declared.Head.{Head}
-use Rattle.program.specs.declared.Head.TheVariants.{Short, Found}
 use Rattle.program.specs.declared.Sort.{Sort}
 use Rattle.program.specs.declared.Sort.TheVariants.{Expression, Condition, Command, Guarded}
 use Rattle.program.specs.declared.Table.{Table}
 use Rattle.program.specs.declared.Table.TheVariants.{Arithmetic, Boolean, Commands}
-use Rattle.program.specs.declared.Validity.{Validity}
-use Rattle.program.specs.declared.Validity.TheVariants.{Fit}
 
 -- "Is the length whole entries, as many as allowed?"
 unfoldable pub whole_entries : Field → ℕ → Bool
@@ -24,8 +20,8 @@ whole_entries f len = eqb (len % f.width) 0 && leb f.least (len / f.width) && le
 -- "Are three bytes left for its head? 1. Is the tag the one due? 2. Is the length whole entries, as many as allowed? 3. Is all the content there? 4."
 -- Asked of what the reader finds in a file of so many bytes. Their place is where the head starts
 unfoldable pub head_validity : ℕ → Head → Field → Validity
-head_validity end (Short at) f = ask false 1 at
-head_validity end (Found h) f =
+head_validity end (Err at) f = ask false 1 at
+head_validity end (Ok h) f =
     in_turn
     (ask (eqb h.tag f.tag) 2 h.start
     ∷ ask (whole_entries f h.length) 3 h.start
@@ -34,7 +30,7 @@ head_validity end (Found h) f =
 
 -- "For each field in turn", from the field with k fields before it
 unfoldable pub heads_validity : List ℕ → ℕ → List Field → Validity
-heads_validity s k [] = Fit
+heads_validity s k [] = Ok tt
 heads_validity s k (f ∷ fs) = then_ask (head_validity (length s) (field_head s k) f) (heads_validity s (suc k) fs)
 
 -- "Then: does the file end after the fourth field? 5", after k fields; its place is the first extra byte

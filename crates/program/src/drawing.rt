@@ -8,7 +8,7 @@ ghost use Rattle.program.specs.Parts.Prepared;
 ghost use Rattle.program.specs.Questions;
 
 use crate::prepared::{GRAPH, graphing};
-use crate::{Construction, Drawn, EdgeBytes, Refusal, Validity, file, prepared, validation};
+use crate::{Construction, Drawn, EdgeBytes, Refusal, file, prepared, validation};
 
 // The bytes of the most edges, seven for each of 255.
 pub const BYTES: usize = 1785;
@@ -52,10 +52,10 @@ fn put_edge(buffer: &mut [u8], at: usize, source: u16, target: u16, kind: u8, en
 }
 
 fn refused(x: Refusal) -> Drawn
-    ensures { result ≡ record { validity = Validity.Refused x; nodes = 0; edges = 0 } }
+    ensures { result ≡ record { validity = Err x; nodes = 0; edges = 0 } }
 {
     Drawn {
-        validity: Validity::Refused(x),
+        validity: Err(x),
         nodes: 0,
         edges: 0,
     }
@@ -80,7 +80,7 @@ fn put_bytes(graph: &[u16; GRAPH], buffer: &mut [u8])
 
 // Question 13 of a well-formed program. Its graph is drawn aside first: a buffer that is too short stays as it is.
 fn draw_fit(construction: Construction, s: &[u8], buffer: &mut [u8]) -> Drawn
-    requires { Questions.validity s.now ≡ Validity.Fit }
+    requires { Questions.validity s.now ≡ Ok tt }
     ensures { (result ≡ spec.drawn construction s.now buffer.old)
         × (buffer.new ≡ spec.drawn_buffer construction s.now buffer.old) }
 {
@@ -97,21 +97,26 @@ fn draw_fit(construction: Construction, s: &[u8], buffer: &mut [u8]) -> Drawn
     }
     put_bytes(&graph, buffer);
     Drawn {
-        validity: Validity::Fit,
+        validity: Ok(()),
         nodes: prepared::node_count(&graph),
         edges,
     }
 }
 
 // The graph of a file of known validity, drawn into a buffer.
-fn draw_valid(construction: Construction, s: &[u8], buffer: &mut [u8], v: Validity) -> Drawn
+fn draw_valid(
+    construction: Construction,
+    s: &[u8],
+    buffer: &mut [u8],
+    v: Result<(), Refusal>,
+) -> Drawn
     requires { v ≡ Questions.validity s.now }
     ensures { (result ≡ spec.drawn construction s.now buffer.old)
         × (buffer.new ≡ spec.drawn_buffer construction s.now buffer.old) }
 {
     match v {
-        Validity::Fit => draw_fit(construction, s, buffer),
-        Validity::Refused(x) => refused(x),
+        Ok(()) => draw_fit(construction, s, buffer),
+        Err(x) => refused(x),
     }
 }
 

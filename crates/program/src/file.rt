@@ -5,7 +5,7 @@ ghost use Rattle.program.specs.File as spec;
 ghost use Rattle.program.specs.Parts.Layouts;
 ghost use Rattle.program.specs.Questions;
 
-use crate::{Entry, Field, FieldHeads, Head, Layout, Span, Table, Validity, reader};
+use crate::{Entry, Field, FieldHead, FieldHeads, Layout, Span, Table, reader};
 
 pub(crate) fn wide(b: u8) -> u16
     ensures { result ≡ b }
@@ -125,16 +125,16 @@ pub(crate) fn initial_field(names: u16) -> Field
 }
 
 // The content of the field with this head.
-fn head_span(head: Head, field: Field) -> Span
+fn head_span(head: Result<FieldHead, usize>, field: Field) -> Span
     requires { 0 < field.width }
     ensures { result ≡ spec.head_span head field }
 {
     match head {
-        Head::Short(at) => Span {
+        Err(at) => Span {
             start: at,
             count: 0,
         },
-        Head::Found(found) => Span {
+        Ok(found) => Span {
             start: found.content,
             count: found.length / field.width,
         },
@@ -166,7 +166,7 @@ pub fn layout(s: &[u8]) -> Layout
 
 // The same of a well-formed program, whose heads are all there: each length is read where it stands.
 pub(crate) fn fit_layout(s: &[u8]) -> Layout
-    requires { Questions.validity s.now ≡ Validity.Fit }
+    requires { Questions.validity s.now ≡ Ok tt }
     ensures { result ≡ spec.layout_of s.now }
 {
     let names = whole_word(s, 1);

@@ -60,24 +60,10 @@ pub struct Refusal {
     pub offset: usize,
 }
 
-// The answer to the questions.
-#[derive(Clone, Copy)]
-pub enum Validity {
-    Fit,
-    Refused(Refusal),
-}
-
-// The first number that passes a test, or that there is none.
-#[derive(Clone, Copy)]
-pub enum First {
-    At(u16),
-    Nothing,
-}
-
 // What drawing the graph replies: the counts are zero where it is refused.
 #[derive(Clone, Copy)]
 pub struct Drawn {
-    pub validity: Validity,
+    pub validity: Result<(), Refusal>,
     pub nodes: u16,
     pub edges: u16,
 }
@@ -170,21 +156,14 @@ pub struct FieldHead {
     pub next: usize,
 }
 
-// What stands at a place of a file: fewer bytes than a head has (with the place), or the head of a field.
-#[derive(Clone, Copy)]
-pub enum Head {
-    Short(usize),
-    Found(FieldHead),
-}
-
 // What stands at the four fields of a program and after them, where the sheet program's input has its start list.
 #[derive(Clone, Copy)]
 pub struct FieldHeads {
-    pub names: Head,
-    pub arithmetic: Head,
-    pub boolean: Head,
-    pub commands: Head,
-    pub initial: Head,
+    pub names: Result<FieldHead, usize>,
+    pub arithmetic: Result<FieldHead, usize>,
+    pub boolean: Result<FieldHead, usize>,
+    pub commands: Result<FieldHead, usize>,
+    pub initial: Result<FieldHead, usize>,
 }
 
 // The field reader: a file's bytes and a place in them.

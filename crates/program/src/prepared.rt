@@ -11,7 +11,7 @@ pub(crate) mod graphing;
 mod linking;
 
 use crate::{
-    ActionNode, ArithNode, BooleanNode, CommandNode, Construction, Validity, decoding, file,
+    ActionNode, ArithNode, BooleanNode, CommandNode, Construction, Refusal, decoding, file,
     validation,
 };
 
@@ -330,7 +330,7 @@ fn fill(
     program: &[u8],
     code: &mut [u16; CODE],
     graph: &mut [u16; GRAPH],
-) -> Validity
+) -> Result<(), Refusal>
     requires { (code.old ≡ replicate spec.code_length 0) × (graph.old ≡ replicate spec.graph_length 0) }
     ensures { spec.PreparedFor construction program.now result code.new graph.new }
 {
@@ -351,7 +351,7 @@ pub fn prepare(
     program: &[u8],
     code: &mut [u16; CODE],
     graph: &mut [u16; GRAPH],
-) -> Validity
+) -> Result<(), Refusal>
     ensures { spec.PreparedFor construction program.now result code.new graph.new }
 {
     *code = [0u16; CODE];
@@ -365,7 +365,7 @@ pub fn prepare_linked(
     program: &[u8],
     code: &mut [u16; CODE],
     graph: &mut [u16; GRAPH],
-) -> Validity
+) -> Result<(), Refusal>
     ensures { spec.PreparedLinked construction program.now result code.new graph.new }
 {
     *code = [0u16; CODE];

@@ -4,20 +4,20 @@ ghost use Rattle.std.specs.Prelude.{◌≡◌};
 ghost use Rattle.program.specs.File as spec;
 ghost use Rattle.program.specs.Parts.Layouts;
 
-use crate::{FieldHead, FieldHeads, FieldReader, Head, file};
+use crate::{FieldHead, FieldHeads, FieldReader, file};
 
 // What stands at `at`.
-pub fn head_at(s: &[u8], at: usize) -> Head
+pub fn head_at(s: &[u8], at: usize) -> Result<FieldHead, usize>
     ensures { result ≡ spec.head_at s.now at }
 {
     if s.len() <= at {
-        return Head::Short(at);
+        return Err(at);
     }
     if s.len() - at < 3 {
-        return Head::Short(at);
+        return Err(at);
     }
     let length = file::word_at(s, at + 1);
-    Head::Found(FieldHead {
+    Ok(FieldHead {
         start: at,
         tag: file::byte_at(s, at),
         length,
@@ -27,12 +27,12 @@ pub fn head_at(s: &[u8], at: usize) -> Head
 }
 
 // Where the reader goes from a head: to the next field, or nowhere where no head stands.
-pub(crate) fn after(head: Head) -> usize
+pub(crate) fn after(head: Result<FieldHead, usize>) -> usize
     ensures { result ≡ spec.after_head head }
 {
     match head {
-        Head::Short(at) => at,
-        Head::Found(field) => field.next,
+        Err(at) => at,
+        Ok(field) => field.next,
     }
 }
 
@@ -57,7 +57,7 @@ pub fn new<'a>(bytes: &'a [u8]) -> FieldReader<'a>
 }
 
 // What stands where the reader is.
-pub fn head<'a>(r: FieldReader<'a>) -> Head
+pub fn head<'a>(r: FieldReader<'a>) -> Result<FieldHead, usize>
     ensures { result ≡ spec.head_at r.entry.bytes.now r.entry.at }
 {
     head_at(r.bytes, r.at)
@@ -74,14 +74,14 @@ pub fn advance<'a>(r: FieldReader<'a>, k: u8) -> FieldReader<'a>
 }
 
 // The head of the field with `k` fields before it.
-pub fn field_head(s: &[u8], k: u8) -> Head
+pub fn field_head(s: &[u8], k: u8) -> Result<FieldHead, usize>
     ensures { result ≡ spec.field_head s.now k }
 {
     head(advance(new(s), k))
 }
 
 // The reader where the field with this head ends, or at the place where no head stands.
-pub fn past<'a>(r: FieldReader<'a>, head: Head) -> FieldReader<'a>
+pub fn past<'a>(r: FieldReader<'a>, head: Result<FieldHead, usize>) -> FieldReader<'a>
     ensures { (result.bytes ≡ r.entry.bytes) × (result.at ≡ spec.after_head head) }
 {
     FieldReader {

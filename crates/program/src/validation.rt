@@ -8,7 +8,7 @@ ghost use Rattle.program.specs.Parts.Checking;
 ghost use Rattle.program.specs.Parts.Counting;
 ghost use Rattle.program.specs.File;
 
-use crate::{Field, FieldHead, FieldHeads, Head, Layout, Refusal, Table, Validity};
+use crate::{Field, FieldHead, FieldHeads, Layout, Refusal, Table};
 
 mod entries;
 mod jumps;
@@ -18,22 +18,22 @@ pub(crate) mod uses;
 use crate::{file, kinds, reader};
 
 // One question: its answer, and its number and place when that is no.
-pub fn ask(yes: bool, number: u8, offset: usize) -> Validity
+pub fn ask(yes: bool, number: u8, offset: usize) -> Result<(), Refusal>
     ensures { result ≡ Asking.ask yes number offset }
 {
     if yes {
-        Validity::Fit
+        Ok(())
     } else {
-        Validity::Refused(Refusal { number, offset })
+        Err(Refusal { number, offset })
     }
 }
 
-pub fn refused(v: Validity) -> bool
+pub fn refused(v: Result<(), Refusal>) -> bool
     ensures { result ≡ Asking.is_refused v }
 {
     match v {
-        Validity::Fit => false,
-        Validity::Refused(_) => true,
+        Ok(()) => false,
+        Err(_) => true,
     }
 }
 
@@ -50,9 +50,9 @@ fn whole_entries(field: Field, len: u16) -> bool
 }
 
 // Questions 2 to 4 of a head in a file of `end` bytes.
-fn check_found(end: usize, found: FieldHead, field: Field) -> Validity
+fn check_found(end: usize, found: FieldHead, field: Field) -> Result<(), Refusal>
     requires { 0 < field.width }
-    ensures { result ≡ spec.head_validity end (Head.Found found) field }
+    ensures { result ≡ spec.head_validity end (Ok found) field }
 {
     if found.tag != field.tag {
         return ask(false, 2, found.start);
@@ -64,18 +64,18 @@ fn check_found(end: usize, found: FieldHead, field: Field) -> Validity
 }
 
 // Questions 1 to 4 of what the reader finds in a file of `end` bytes.
-fn check_head(end: usize, head: Head, field: Field) -> Validity
+fn check_head(end: usize, head: Result<FieldHead, usize>, field: Field) -> Result<(), Refusal>
     requires { 0 < field.width }
     ensures { result ≡ spec.head_validity end head field }
 {
     match head {
-        Head::Short(at) => ask(false, 1, at),
-        Head::Found(found) => check_found(end, found, field),
+        Err(at) => ask(false, 1, at),
+        Ok(found) => check_found(end, found, field),
     }
 }
 
 // Questions 1 to 4 of the four fields, whose heads are at hand.
-fn check_heads(s: &[u8], h: FieldHeads) -> Validity
+fn check_heads(s: &[u8], h: FieldHeads) -> Result<(), Refusal>
     requires { h ≡ Layouts.heads_of s.now }
     ensures { result ≡ spec.heads_validity s.now 0 File.program_fields }
 {
@@ -106,7 +106,7 @@ fn in_bounds(size: u16, total: usize) -> bool
 }
 
 // Question 6 of every name.
-fn check_names(s: &[u8], names: u16) -> Validity
+fn check_names(s: &[u8], names: u16) -> Result<(), Refusal>
     requires { names ≡ File.name_count s.now }
     ensures { result ≡ Asking.ask_each (File.name_count s.now) (spec.name_validity s.now) }
 {
@@ -121,7 +121,7 @@ fn check_names(s: &[u8], names: u16) -> Validity
         }
         i += 1;
     }
-    Validity::Fit
+    Ok(())
 }
 
 // Questions 7 to 9 of a table's entries. Where they are answered yes, the operands of all are counted, for question 10, and it is noted whether one may be a jump,
@@ -132,7 +132,7 @@ fn check_table(
     table: Table,
     uses: &mut [u8; 1024],
     jumps: &mut [u8; 1],
-) -> Validity
+) -> Result<(), Refusal>
     requires { Layouts.LaidOut s.now l }
     ensures { Checking.TableNoted s.now table uses.old uses.new jumps.old jumps.new result }
 {
@@ -147,7 +147,7 @@ fn check_table(
         }
         n += 1;
     }
-    Validity::Fit
+    Ok(())
 }
 
 // How many of a table's entries are to be used once: all but the last command.
@@ -162,7 +162,7 @@ fn to_be_used(table: Table, count: u16) -> u16
 }
 
 // Question 10 of a table's entries, whose uses stand in `counts`.
-fn check_uses(s: &[u8], l: Layout, table: Table, counts: &[u8]) -> Validity
+fn check_uses(s: &[u8], l: Layout, table: Table, counts: &[u8]) -> Result<(), Refusal>
     requires { Layouts.LaidOut s.now l × Counting.UsesIn s.now counts.now }
     ensures { result ≡ spec.used_validity s.now table }
 {
@@ -181,11 +181,11 @@ fn check_uses(s: &[u8], l: Layout, table: Table, counts: &[u8]) -> Validity
         }
         n += 1;
     }
-    Validity::Fit
+    Ok(())
 }
 
 // Question 11.
-fn check_last(s: &[u8], l: Layout) -> Validity
+fn check_last(s: &[u8], l: Layout) -> Result<(), Refusal>
     requires { Layouts.LaidOut s.now l }
     ensures { result ≡ spec.last_validity s.now }
 {
@@ -197,7 +197,7 @@ fn check_last(s: &[u8], l: Layout) -> Validity
 }
 
 // Questions 10 and 11.
-fn check_all_uses(s: &[u8], l: Layout, counts: &[u8]) -> Validity
+fn check_all_uses(s: &[u8], l: Layout, counts: &[u8]) -> Result<(), Refusal>
     requires { Layouts.LaidOut s.now l × Counting.UsesIn s.now counts.now }
     ensures { result ≡ spec.uses_validity s.now }
 {
@@ -217,7 +217,7 @@ fn check_all_uses(s: &[u8], l: Layout, counts: &[u8]) -> Validity
 }
 
 // Questions 7 to 11.
-fn check_entries(s: &[u8], l: Layout, jumps: &mut [u8; 1]) -> Validity
+fn check_entries(s: &[u8], l: Layout, jumps: &mut [u8; 1]) -> Result<(), Refusal>
     requires { Layouts.LaidOut s.now l }
     ensures { Checking.EntriesNoted s.now jumps.old jumps.new result }
 {
@@ -238,8 +238,8 @@ fn check_entries(s: &[u8], l: Layout, jumps: &mut [u8; 1]) -> Validity
 }
 
 // Questions 6 to 11 and 20, where questions 1 to 4 are answered yes.
-fn check_content(s: &[u8], l: Layout) -> Validity
-    requires { (spec.heads_validity s.now 0 File.program_fields ≡ Validity.Fit) × (l ≡ File.layout_of s.now) }
+fn check_content(s: &[u8], l: Layout) -> Result<(), Refusal>
+    requires { (spec.heads_validity s.now 0 File.program_fields ≡ Ok tt) × (l ≡ File.layout_of s.now) }
     ensures { result ≡ spec.content_validity s.now }
 {
     let spans = l.names;
@@ -256,14 +256,14 @@ fn check_content(s: &[u8], l: Layout) -> Validity
 }
 
 // Question 5: whether a file ends after its last field, at `at`.
-fn check_end(s: &[u8], at: usize) -> Validity
+fn check_end(s: &[u8], at: usize) -> Result<(), Refusal>
     ensures { result ≡ Asking.ask (eqb at (length s.now)) 5 at }
 {
     ask(at == s.len(), 5, at)
 }
 
 // Questions 1 to 11 and 20 of a program file.
-pub fn validate(s: &[u8]) -> Validity
+pub fn validate(s: &[u8]) -> Result<(), Refusal>
     ensures value { result ≡ spec.validity s.now }
     ensures numbers { Asking.validity_numbers result ≡ spec.validation_row s.now }
 {
@@ -281,7 +281,7 @@ pub fn validate(s: &[u8]) -> Validity
 }
 
 // Questions 1 to 11 and 20 of the sheet program's input, whose fifth field is the start list.
-pub fn validate_input(s: &[u8]) -> Validity
+pub fn validate_input(s: &[u8]) -> Result<(), Refusal>
     ensures value { result ≡ spec.input_validity s.now }
     ensures numbers { Asking.validity_numbers result ≡ spec.input_row s.now }
 {
@@ -320,8 +320,8 @@ pub fn initial_part<'a>(s: &'a [u8]) -> &'a [u8]
     let h = reader::heads(s);
     let fifth = h.initial;
     match fifth {
-        Head::Short(_) => &s[..0],
-        Head::Found(found) => part(s, found.content, file::long(found.length)),
+        Err(_) => &s[..0],
+        Ok(found) => part(s, found.content, file::long(found.length)),
     }
 }
 

@@ -6,9 +6,7 @@
 // asks for document 01's graph by name, 32 more for the deterministic one.
 #![tactic(auto)]
 
-use program::{
-    Drawn, EdgeBytes, Entry, FieldHead, Head, Table, Validity, drawing, file, reader, validation,
-};
+use program::{Drawn, EdgeBytes, Entry, FieldHead, Table, drawing, file, reader, validation};
 use std::io::{BufWriter, Read, Write};
 use std::{fs, io};
 
@@ -38,8 +36,8 @@ fn print_counts<W: Write>(out: &mut W, d: Drawn) -> io::Result<()> {
 fn print_drawn<W: Write>(out: &mut W, d: Drawn) -> io::Result<()> {
     let v = d.validity;
     match v {
-        Validity::Fit => print_counts(out, d),
-        Validity::Refused(x) => printing::refusal(out, x),
+        Ok(()) => print_counts(out, d),
+        Err(x) => printing::refusal(out, x),
     }
 }
 
@@ -105,8 +103,8 @@ fn answer_sum<W: Write>(out: &mut W, on: u8, s: &[u8], room: usize) -> io::Resul
 fn answer_input<W: Write>(out: &mut W, s: &[u8]) -> io::Result<()> {
     let v = validation::validate_input(s);
     match v {
-        Validity::Fit => printing::text(out, b"fit")?,
-        Validity::Refused(x) => printing::refusal(out, x)?,
+        Ok(()) => printing::text(out, b"fit")?,
+        Err(x) => printing::refusal(out, x)?,
     }
     printing::text(out, b"\n")
 }
@@ -159,8 +157,8 @@ fn print_readings<W: Write>(out: &mut W, s: &[u8]) -> io::Result<()> {
 fn answer_readings<W: Write>(out: &mut W, s: &[u8]) -> io::Result<()> {
     let v = validation::validate(s);
     match v {
-        Validity::Fit => print_readings(out, s)?,
-        Validity::Refused(x) => printing::refusal(out, x)?,
+        Ok(()) => print_readings(out, s)?,
+        Err(x) => printing::refusal(out, x)?,
     }
     printing::text(out, b"\n")
 }
@@ -190,13 +188,13 @@ fn print_found<W: Write>(out: &mut W, h: FieldHead) -> io::Result<()> {
     printing::place(out, h.next)
 }
 
-fn print_head<W: Write>(out: &mut W, head: Head) -> io::Result<()> {
+fn print_head<W: Write>(out: &mut W, head: Result<FieldHead, usize>) -> io::Result<()> {
     match head {
-        Head::Short(at) => {
+        Err(at) => {
             printing::text(out, b"none at ")?;
             printing::place(out, at)?;
         }
-        Head::Found(h) => print_found(out, h)?,
+        Ok(h) => print_found(out, h)?,
     }
     printing::text(out, b"\n")
 }
@@ -212,8 +210,8 @@ fn print_heads<W: Write>(out: &mut W, s: &[u8]) -> io::Result<()> {
 fn answer_parts<W: Write>(out: &mut W, s: &[u8]) -> io::Result<()> {
     let v = validation::validate_input(s);
     match v {
-        Validity::Fit => print_parts(out, s)?,
-        Validity::Refused(x) => printing::refusal(out, x)?,
+        Ok(()) => print_parts(out, s)?,
+        Err(x) => printing::refusal(out, x)?,
     }
     printing::text(out, b"\n")?;
     print_heads(out, s)

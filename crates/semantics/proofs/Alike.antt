@@ -1,4 +1,5 @@
 -- A run depends on the names' cells alone: in an array with other cells behind them it is the run of the memory.
+use Rattle.std.specs.Prelude.{None, Option, Some}
 use mathlib.Core.Path.{◌≡◌, refl, sym, ap, subst, ◌∙◌}
 use mathlib.Core.Bool.{Bool, true, false, cond, ◌&&◌}
 use mathlib.Core.List.{List}
@@ -12,8 +13,6 @@ use lib.Seq.{get_or-set_same, get_or-set_other}
 use Rattle.program.specs.File.{cell_count}
 use Rattle.program.specs.Graph.{Graph, edge_at}
 use Rattle.program.specs.Parts.Prepared.{Prepared}
-use Rattle.program.specs.declared.First.{First}
-use Rattle.program.specs.declared.First.TheVariants.{At, Nothing}
 use Rattle.program.proofs.Laws.{such_same}
 use Rattle.semantics.specs.Action.{after, is_defined}
 use Rattle.semantics.specs.Budget.{lowest_defined, Result, ends, goes_on, run_from}
@@ -95,12 +94,12 @@ module _ {ns : List ℕ} {g : Graph} {code graph : List ℕ} (p : Prepared ns g 
       (by (λ e h. same_run budget (onward run e) _ _ (same_after e h m m' a)) (eqb run.node 1) (lowest_defined ns g run.node m) refl)
     where
       by : ((e : ℕ) → e < length g.edges → Matching ns (run_from budget ns g (along ns g (at run m) e)) (run_from budget ns g (along ns g (at run m') e)))
-          → (b : Bool) (x : First) → lowest_defined ns g run.node m ≡ x
+          → (b : Bool) (x : Option ℕ) → lowest_defined ns g run.node m ≡ x
           → Matching ns (cond b (ends Arrived (at run m)) (goes_on (λ e. run_from budget ns g (along ns g (at run m) e)) (at run m) x))
           (cond b (ends Arrived (at run m')) (goes_on (λ e. run_from budget ns g (along ns g (at run m') e)) (at run m') x))
       by go true x q = record { run = refl; ending = refl; memory = a }
-      by go false Nothing q = record { run = refl; ending = refl; memory = a }
-      by go false (At e) q = go e (leaves_below g e run.node (lowest_found ns g run.node m e q).0)
+      by go false None q = record { run = refl; ending = refl; memory = a }
+      by go false (Some e) q = go e (leaves_below g e run.node (lowest_found ns g run.node m e q).0)
 
   -- as the code copies a memory in, runs there and copies it back
   pub ends_copied : (budget : ℕ) (m : List ℤ) → length m ≡ cell_count ns → (cells after-it back : List ℤ) (x : Ended) → Placed code m cells

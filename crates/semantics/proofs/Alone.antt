@@ -1,4 +1,5 @@
 -- (order 8) "In it at most one arrow is defined at any node in any memory": of the deterministic graph.
+use Rattle.std.specs.Prelude.{Ok}
 use mathlib.Core.Path.{◌≡◌, refl, sym, ◌∙◌, ap}
 use mathlib.Core.Bool.{Bool, true, false, false≢true}
 use mathlib.Core.List.{List, [], ◌∷◌, flat_map}
@@ -18,7 +19,6 @@ use Rattle.program.specs.Parts.Preceding.{before, is_test, is_select, is_guard, 
 use Rattle.program.specs.Questions.{validity}
 use Rattle.program.specs.Syntax.{Boolean, negation}
 use Rattle.program.specs.declared.Construction.TheVariants.{Deterministic}
-use Rattle.program.specs.declared.Validity.TheVariants.{Fit}
 use Rattle.program.proofs.Laws.{before_all, selected_all, done_all, edge_follows, untested}
 use Rattle.program.proofs.Selecting.{all_split}
 use Rattle.program.proofs.Tests.{two, both, is_true}
@@ -85,7 +85,7 @@ module _ (ns : List ℕ) (m : List ℤ) where
         ]
 
 -- of a well-formed file
-pub at_most_one : (s : List ℕ) → validity s ≡ Fit → (node : ℕ) (m : List ℤ) (e f : ℕ) → T (leaves (graph Deterministic s) e node) → T (leaves (graph Deterministic s) f node)
+pub at_most_one : (s : List ℕ) → validity s ≡ Ok tt → (node : ℕ) (m : List ℤ) (e f : ℕ) → T (leaves (graph Deterministic s) e node) → T (leaves (graph Deterministic s) f node)
     → T (is_defined (edge_effect (sizes s) (graph Deterministic s) m e)) → T (is_defined (edge_effect (sizes s) (graph Deterministic s) m f)) → e ≡ f
 unfolding edge_count edges leaves
 at_most_one s fit node m e f le lf de df =

@@ -1,4 +1,5 @@
 -- What a number stands for that the evaluators hand on, by whether it is a fault; and what becomes of such numbers.
+use Rattle.std.specs.Prelude.{Err, Ok}
 use mathlib.Core.Path.{◌≡◌, refl, sym, ◌∙◌, subst, ap}
 use mathlib.Core.Bool.{Bool, true, false, not, ◌&&◌, true≢false, cond}
 use mathlib.Core.List.{List}
@@ -21,11 +22,8 @@ use Rattle.signs.specs.declared.Operator.{Operator}
 use Rattle.signs.specs.declared.Reason.TheVariants.{IndexNegative, IndexTooLarge}
 use Rattle.program.specs.File.{first_cell}
 use Rattle.semantics.specs.Parts.Coding.{earlier, reason_numbered, evaluated, decided, is_code, place_by, Indexed}
-use Rattle.semantics.specs.Expression.{fault, at, nowhere, place_of, operated, combine, compare_values, conjoin, and_then, negate}
-use Rattle.semantics.specs.declared.Evaluation.TheVariants.{Number, Undefined}
+use Rattle.semantics.specs.Expression.{fault, at, nowhere, place_of, operated, combine, compare_values, conjoin, and_then, negate, Truth}
 use Rattle.semantics.specs.declared.Fault.{Fault}
-use Rattle.semantics.specs.declared.Truth.{Truth}
-use Rattle.semantics.specs.declared.Truth.TheVariants.{Known, Undefined as Unknown}
 
 -- the test for a fault, and the fault
 abbrev pub is_fault : ℤ → Bool
@@ -44,22 +42,22 @@ handed z h = to_z-of_z w64 z record { sfits = h }
 
 -- ---- what a number stands for
 
-pub fault_evaluated : (z : ℤ) → is_fault z ≡ true → evaluated z ≡ Undefined (fault_in z)
+pub fault_evaluated : (z : ℤ) → is_fault z ≡ true → evaluated z ≡ Err (fault_in z)
 unfolding evaluated
 fault_evaluated (pos n) h = rw (le-ltb n 4294967296 (leb-true 4294967296 n h))
 fault_evaluated (negsuc n) h = absurd (true≢false (sym h))
 
-pub fault_decided : (z : ℤ) → is_fault z ≡ true → decided z ≡ Unknown (fault_in z)
+pub fault_decided : (z : ℤ) → is_fault z ≡ true → decided z ≡ Err (fault_in z)
 unfolding decided
 fault_decided (pos n) h = rw (le-ltb n 4294967296 (leb-true 4294967296 n h))
 fault_decided (negsuc n) h = absurd (true≢false (sym h))
 
-pub number_evaluated : (z : ℤ) → is_fault z ≡ false → evaluated z ≡ Number z
+pub number_evaluated : (z : ℤ) → is_fault z ≡ false → evaluated z ≡ Ok z
 unfolding evaluated
 number_evaluated (pos n) h = rw (lt-ltb n 4294967296 (leb-false 4294967296 n h))
 number_evaluated (negsuc n) h = refl
 
-pub truth_decided : (z : ℤ) → is_fault z ≡ false → decided z ≡ Known (equal z (pos 1))
+pub truth_decided : (z : ℤ) → is_fault z ≡ false → decided z ≡ Ok (equal z (pos 1))
 unfolding decided equal
 truth_decided (pos n) h = rw (lt-ltb n 4294967296 (leb-false 4294967296 n h))
 truth_decided (negsuc n) h = refl
@@ -70,7 +68,7 @@ pub small_number : (z : ℤ) → SFits w32 z → is_fault z ≡ false
 small_number (pos n) f = lt-leb 4294967296 n (omega (arith, f.sfits))
 small_number (negsuc n) f = refl
 
-pub small_evaluated : (z : ℤ) → SFits w32 z → evaluated z ≡ Number z
+pub small_evaluated : (z : ℤ) → SFits w32 z → evaluated z ≡ Ok z
 small_evaluated z f = number_evaluated z (small_number z f)
 
 pub small_code : (z : ℤ) → SFits w32 z → T (is_code z)
@@ -92,7 +90,7 @@ code_small (negsuc n) t h =
     (or_yes (leb n 2147483647 && true) false t)
 
 -- such a number widened, as the machine hands it on
-pub small_handed : (x : ℤ) → SFits w32 x → T (is_code (wide x)) × (evaluated (wide x) ≡ Number x)
+pub small_handed : (x : ℤ) → SFits w32 x → T (is_code (wide x)) × (evaluated (wide x) ≡ Ok x)
 small_handed x f = rw (wide_is x f) (small_code x f, small_evaluated x f)
 
 -- cast to 32 bits and back
@@ -111,7 +109,7 @@ unfolding equal
 other_bits (pos n) h = ne_eqb n 1 h
 other_bits (negsuc n) h = refl
 
-pub one_decided : (z : ℤ) → SFits w64 z → of_z w64 z ≡ 1 → decided z ≡ Known true
+pub one_decided : (z : ℤ) → SFits w64 z → of_z w64 z ≡ 1 → decided z ≡ Ok true
 unfolding decided
 one_decided (pos n) f e = rw e
 one_decided (negsuc n) f e = absurd (omega (arith, f.sfits))
@@ -129,7 +127,7 @@ pub negate_fault : (a : ℤ) → is_fault a ≡ true → decided a ≡ negate (d
 unfolding negate
 negate_fault a h = rw (fault_decided a h)
 
-pub negate_truth : (a : ℤ) {t : Bool} → is_fault a ≡ false → equal a (pos 1) ≡ t → negate (decided a) ≡ Known (not t)
+pub negate_truth : (a : ℤ) {t : Bool} → is_fault a ≡ false → equal a (pos 1) ≡ t → negate (decided a) ≡ Ok (not t)
 unfolding negate
 negate_truth a h e = rw (truth_decided a h, e)
 
@@ -171,7 +169,7 @@ module _ (a b : ℤ) where
       unfolding combine
       combine_both o = rw (number_evaluated a h, number_evaluated b k)
 
-      pub compare_both : (c : Comparison) → compare_values c (evaluated a) (evaluated b) ≡ Known (compares c a b)
+      pub compare_both : (c : Comparison) → compare_values c (evaluated a) (evaluated b) ≡ Ok (compares c a b)
       unfolding compare_values
       compare_both c = rw (number_evaluated a h, number_evaluated b k)
 
@@ -179,7 +177,7 @@ module _ (a b : ℤ) where
       unfolding conjoin
       conjoin_true e = rw (truth_decided a h, truth_decided b k, e)
 
-      pub conjoin_false : equal a (pos 1) ≡ false → conjoin (decided a) (decided b) ≡ Known false
+      pub conjoin_false : equal a (pos 1) ≡ false → conjoin (decided a) (decided b) ≡ Ok false
       unfolding conjoin
       conjoin_false e = rw (truth_decided a h, truth_decided b k, e)
 
@@ -245,12 +243,12 @@ module _ (ns : List ℕ) (x : ℕ) (r : ℤ) where
   placed_at h = rw h
 
 -- a number that stands for a fault is one
-undefined_fault : (r : ℤ) (f : Fault) → evaluated r ≡ Undefined f → (is_fault r ≡ true) × (fault_in r ≡ f)
+undefined_fault : (r : ℤ) (f : Fault) → evaluated r ≡ Err f → (is_fault r ≡ true) × (fault_in r ≡ f)
 undefined_fault r f e = by (is_fault r) refl
   where
     by : (t : Bool) → is_fault r ≡ t → (t ≡ true) × (fault_in r ≡ f)
-    by true h = (refl, let same : Undefined (fault_in r) ≡ Undefined f = sym (fault_evaluated r h) ∙ e in cc)
-    by false h = absurd (let same : Number r ≡ Undefined f = sym (number_evaluated r h) ∙ e in let z : ◌≡◌ {A = ℕ} 0 1 = cc in omega arith)
+    by true h = (refl, let same : Err (fault_in r) ≡ Err f = sym (fault_evaluated r h) ∙ e in cc)
+    by false h = absurd (let same : Ok r ≡ Err f = sym (number_evaluated r h) ∙ e in let z : ◌≡◌ {A = ℕ} 0 1 = cc in omega arith)
 
 module _ (size : ℕ) (v : ℤ) where
   -- a fault is handed on
@@ -260,7 +258,7 @@ module _ (size : ℕ) (v : ℤ) where
       record { code = c; below = λ k. absurd (true≢false (sym h ∙ k)); place = λ ns x s. rw (fault_evaluated v h, placed_fault ns x v h) }
 
   -- one that is found: the number that stands for it
-  refused_index : (r : ℤ) (f : Fault) → T (is_code r) → evaluated r ≡ Undefined f
+  refused_index : (r : ℤ) (f : Fault) → T (is_code r) → evaluated r ≡ Err f
       → ((ns : List ℕ) (x : ℕ) → get_or ns x 0 ≡ size → place_of ns x (evaluated v) ≡ nowhere f) → Indexed size v r
   refused_index r f c e p =
       let fault = undefined_fault r f e in
@@ -275,7 +273,7 @@ module _ (size : ℕ) (v : ℤ) where
   negative_place (pos n) h e ns x = absurd (omega (arith, ltb-true n 0 e))
   negative_place (negsuc n) h e ns x = rw (number_evaluated (negsuc n) h)
 
-  pub index_negative : is_fault v ≡ false → lt_z v (pos 0) ≡ true → (r : ℤ) → T (is_code r) → evaluated r ≡ Undefined (fault IndexNegative) → Indexed size v r
+  pub index_negative : is_fault v ≡ false → lt_z v (pos 0) ≡ true → (r : ℤ) → T (is_code r) → evaluated r ≡ Err (fault IndexNegative) → Indexed size v r
   index_negative h e r c k = refused_index r (fault IndexNegative) c k (λ ns x s. negative_place v h e ns x)
 
   large_place : (z : ℤ) → is_fault z ≡ false → lt_z z (pos 0) ≡ false → size ≤ nat_abs z
@@ -284,7 +282,7 @@ module _ (size : ℕ) (v : ℤ) where
   large_place (pos n) h e k ns x s = rw (number_evaluated (pos n) h, le-ltb n (get_or ns x 0) (rw s k))
   large_place (negsuc n) h e k ns x s = absurd (true≢false e)
 
-  pub index_large : is_fault v ≡ false → lt_z v (pos 0) ≡ false → size ≤ nat_abs v → (r : ℤ) → T (is_code r) → evaluated r ≡ Undefined (fault IndexTooLarge) → Indexed size v r
+  pub index_large : is_fault v ≡ false → lt_z v (pos 0) ≡ false → size ≤ nat_abs v → (r : ℤ) → T (is_code r) → evaluated r ≡ Err (fault IndexTooLarge) → Indexed size v r
   index_large h e k r c d = refused_index r (fault IndexTooLarge) c d (large_place v h e k)
 
   -- an index inside

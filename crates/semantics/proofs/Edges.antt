@@ -1,4 +1,5 @@
 -- The edges of a prepared graph are the graph's: which node they leave, and what they do.
+use Rattle.std.specs.Prelude.{None, Some}
 use mathlib.Core.Path.{◌≡◌, refl, sym, ap, subst, ◌∙◌}
 use mathlib.Core.Bool.{Bool, true, false, ◌&&◌}
 use mathlib.Core.List.{List}
@@ -15,7 +16,6 @@ use Rattle.program.specs.Graph.{Graph, edge_at}
 use Rattle.program.specs.Meaning.{Meaning, meaning}
 use Rattle.program.specs.Parts.Prepared.{edge_count_place, entries_in, source_in, action_in, decoded_meaning, is_guard_node, guards_in, edge_meaning, Prepared, Following}
 use Rattle.program.specs.Parts.Sorted.{meaning_named}
-use Rattle.program.specs.declared.First.TheVariants.{At, Nothing}
 use Rattle.program.proofs.Laws.{first_such_lem, none_such, after_other, edge_meaning_lem}
 use Rattle.semantics.specs.Action.{effect, after}
 use Rattle.semantics.specs.Parts.Cells.{NumbersIn, Placed}
@@ -55,7 +55,7 @@ module _ {ns : List ℕ} {g : Graph} {code graph : List ℕ} (p : Prepared ns g 
         by true t = rw (sym (edge_leaves k node l), t) (at.before k h l t)
         by false t = rw (sym (edge_leaves k node l), t)
 
-    pub first_leaving : e < get_or graph edge_count_place 0 → q e ≡ true → first_such (length g.edges) (λ k. leaves g k node && q k) ≡ At e
+    pub first_leaving : e < get_or graph edge_count_place 0 → q e ≡ true → first_such (length g.edges) (λ k. leaves g k node && q k) ≡ Some e
     first_leaving h t =
         first_such_lem _ _ e
         (record {
@@ -64,7 +64,7 @@ module _ {ns : List ℕ} {g : Graph} {code graph : List ℕ} (p : Prepared ns g 
           before = λ k l. fails k l (omega arith);
         })
 
-    pub none_leaving : get_or graph edge_count_place 0 ≤ e → first_such (length g.edges) (λ k. leaves g k node && q k) ≡ Nothing
+    pub none_leaving : get_or graph edge_count_place 0 ≤ e → first_such (length g.edges) (λ k. leaves g k node && q k) ≡ None
     none_leaving h = none_such _ _ (λ k l. fails k (omega (arith, p.edges)) (omega (arith, p.edges)))
 
   module _ (e : ℕ) (h : e < length g.edges) where

@@ -1,4 +1,5 @@
 -- The effect of an action from the numbers that its expressions give, and performing it.
+use Rattle.std.specs.Prelude.{Err, Ok}
 use mathlib.Core.Path.{◌≡◌, refl, sym, subst, ◌∙◌}
 use mathlib.Core.Bool.{Bool, true, false, cond, ◌&&◌, true≢false}
 use mathlib.Core.List.{List}
@@ -21,7 +22,6 @@ use Rattle.semantics.specs.Parts.Coding.{reason_numbered, evaluated, decided, Va
 use Rattle.semantics.specs.Expression.{fault, at, value}
 use Rattle.semantics.specs.declared.Effect.{Effect}
 use Rattle.semantics.specs.declared.Effect.TheVariants.{Undefined as Fails, Unchanged, Stored}
-use Rattle.semantics.specs.declared.Truth.TheVariants.{Known, Undefined as Unknown}
 use Rattle.semantics.proofs.Coded.{is_fault, fault_in, one_decided, placed_fault, placed_at}
 use Rattle.semantics.proofs.Named.{variable_there, array_there, place_inside}
 
@@ -91,7 +91,7 @@ unfolding pass is_defined decided
 other_pass (pos n) h =
     by (ltb n 4294967296)
   where
-    by : (b : Bool) → is_defined (pass (cond b (Known (eqb n 1)) (Unknown (fault (reason_numbered (n - 4294967296)))))) ≡ false
+    by : (b : Bool) → is_defined (pass (cond b (Ok (eqb n 1)) (Err (fault (reason_numbered (n - 4294967296)))))) ≡ false
     by true = rw (ne_eqb n 1 h)
     by false = refl
 other_pass (negsuc n) h = refl

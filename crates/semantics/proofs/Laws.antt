@@ -1,4 +1,5 @@
 -- The theorems on steps and runs for the crate above, on one page. Their proofs are in the modules that they cite.
+use Rattle.std.specs.Prelude.{Err, Ok, None, Some}
 use mathlib.Core.Path.{◌≡◌}
 use mathlib.Core.Bool.{Bool, true, false, ◌&&◌}
 use mathlib.Core.List.{List}
@@ -17,13 +18,11 @@ use Rattle.program.specs.Parts.Sorted.{arith_named, boolean_named, meaning_named
 use Rattle.program.specs.Syntax.{Arith, Boolean, Command}
 use Rattle.program.specs.declared.Construction.{Construction}
 use Rattle.program.specs.declared.Construction.TheVariants.{Deterministic}
-use Rattle.program.specs.declared.First.TheVariants.{At, Nothing}
 use Rattle.program.specs.declared.Refusal.{Refusal}
-use Rattle.program.specs.declared.Validity.TheVariants.{Fit, Refused}
 use Rattle.program.specs.Meaning.{Meaning}
 use Rattle.semantics.specs.Action.{effect, after, is_defined}
 use Rattle.semantics.specs.Budget.{lowest_defined, Result, ends, run_from, budgeted, program_budgeted, ended_numbers}
-use Rattle.semantics.specs.Expression.{cell_value, at, place_of, value, truth_in}
+use Rattle.semantics.specs.Expression.{cell_value, at, place_of, value, truth_in, Evaluation}
 use Rattle.semantics.specs.Parts.Replaying.{replay, outcomes, step}
 use Rattle.semantics.specs.Replay.{program_replay, program_outcomes}
 use Rattle.semantics.specs.Step.{Configuration, begun, leaves, edge_effect, memory_validity, outcome, along, program_outcome, program_step, stepped_numbers}
@@ -32,7 +31,6 @@ use Rattle.semantics.specs.declared.Ended.{Ended}
 use Rattle.semantics.specs.declared.Stepped.{Stepped}
 use Rattle.semantics.specs.declared.Effect.TheVariants.{Stored}
 use Rattle.semantics.specs.declared.Ending.TheVariants.{Arrived, Spent, Stuck, Refused as Ends}
-use Rattle.semantics.specs.declared.Evaluation.{Evaluation}
 use Rattle.semantics.specs.declared.Outcome.TheVariants.{Taken, Refused as Refuses}
 use Rattle.semantics.proofs.Alone
 use Rattle.semantics.proofs.Edges
@@ -47,10 +45,10 @@ use Rattle.semantics.proofs.Steps.{Takable}
 -- ---- A step
 
 -- question 12: the memory has as many cells as the names
-pub memory_fit : (ns : List ℕ) (m : List ℤ) → memory_validity ns m ≡ Fit → length m ≡ cell_count ns
+pub memory_fit : (ns : List ℕ) (m : List ℤ) → memory_validity ns m ≡ Ok tt → length m ≡ cell_count ns
 memory_fit = Steps.memory_fit
 
-pub fit_memory : (ns : List ℕ) (m : List ℤ) → length m ≡ cell_count ns → memory_validity ns m ≡ Fit
+pub fit_memory : (ns : List ℕ) (m : List ℤ) → length m ≡ cell_count ns → memory_validity ns m ≡ Ok tt
 fit_memory = Steps.fit_memory
 
 -- an edge that leaves a node exists
@@ -97,27 +95,27 @@ module _ (ns : List ℕ) (g : Graph) where
 
 module _ (ns : List ℕ) (g : Graph) where
   -- the lowest defined edge leaves the node and is defined; where there is none, no edge out of the node is defined
-  pub lowest_found : (node : ℕ) (m : List ℤ) (e : ℕ) → lowest_defined ns g node m ≡ At e → T (leaves g e node) × T (is_defined (edge_effect ns g m e))
+  pub lowest_found : (node : ℕ) (m : List ℤ) (e : ℕ) → lowest_defined ns g node m ≡ Some e → T (leaves g e node) × T (is_defined (edge_effect ns g m e))
   lowest_found = Runs.lowest_found ns g
 
-  pub lowest_none : (node : ℕ) (m : List ℤ) → lowest_defined ns g node m ≡ Nothing
+  pub lowest_none : (node : ℕ) (m : List ℤ) → lowest_defined ns g node m ≡ None
       → (e : ℕ) → T (leaves g e node) → is_defined (edge_effect ns g m e) ≡ false
   lowest_none = Runs.lowest_none ns g
 
   -- what holds where a run starts and is kept by each edge taken gives what holds where it ends
   pub run_ends : (I : Configuration → Type 0) (P : Result → Type 0)
-      → ((c : Configuration) (e : ℕ) → lowest_defined ns g c.run.node c.memory ≡ At e → I c → I (along ns g c e))
+      → ((c : Configuration) (e : ℕ) → lowest_defined ns g c.run.node c.memory ≡ Some e → I c → I (along ns g c e))
       → ((c : Configuration) → I c → c.run.node ≡ 1 → P (ends Arrived c))
       → ((c : Configuration) → I c → c.run.node ≢ 1 → P (ends Spent c))
-      → ((c : Configuration) → I c → c.run.node ≢ 1 → lowest_defined ns g c.run.node c.memory ≡ Nothing → P (ends Stuck c))
+      → ((c : Configuration) → I c → c.run.node ≢ 1 → lowest_defined ns g c.run.node c.memory ≡ None → P (ends Stuck c))
       → (budget : ℕ) (c : Configuration) → I c → P (run_from budget ns g c)
   run_ends = Runs.run_ends ns g
 
   -- where question 12 is answered yes, a budgeted run is a run from node 0, and where it is refused, none
-  pub budgeted_run : (budget : ℕ) (m : List ℤ) → memory_validity ns m ≡ Fit → budgeted ns g budget m ≡ run_from budget ns g (begun m)
+  pub budgeted_run : (budget : ℕ) (m : List ℤ) → memory_validity ns m ≡ Ok tt → budgeted ns g budget m ≡ run_from budget ns g (begun m)
   budgeted_run = Runs.budgeted_run ns g
 
-  pub refused_run : (budget : ℕ) (m : List ℤ) (x : Refusal) → memory_validity ns m ≡ Refused x → budgeted ns g budget m ≡ ends (Ends x) (begun m)
+  pub refused_run : (budget : ℕ) (m : List ℤ) (x : Refusal) → memory_validity ns m ≡ Err x → budgeted ns g budget m ≡ ends (Ends x) (begun m)
   refused_run = Runs.refused_run ns g
 
   -- it has arrived where its node is 1, and only there; where it is stuck, no edge out of its node is defined
@@ -134,7 +132,7 @@ module _ (ns : List ℕ) (g : Graph) where
         → Replayed ns g budget c (run_from budget ns g c)
     run_replayed = Runs.run_replayed ns g inside
 
-    pub budgeted_replayed : (budget : ℕ) (m : List ℤ) → 0 < g.nodes → memory_validity ns m ≡ Fit
+    pub budgeted_replayed : (budget : ℕ) (m : List ℤ) → 0 < g.nodes → memory_validity ns m ≡ Ok tt
         → Replayed ns g budget (begun m) (budgeted ns g budget m)
     budgeted_replayed = Runs.budgeted_replayed ns g inside
 
@@ -186,7 +184,7 @@ module _ (ns : List ℕ) where
 
 module _ (κ : Construction) (s : List ℕ) where
   -- well formed: steps and runs are those of its sizes and graph, and a budgeted run is a list of step calls
-  module _ (fit : validity s ≡ Fit) where
+  module _ (fit : validity s ≡ Ok tt) where
     pub program_outcome_lem : (c : Configuration) (e : ℕ) → program_outcome κ s c e ≡ outcome (sizes s) (graph κ s) c e
     program_outcome_lem = Steps.program_outcome_lem κ s fit
 
@@ -202,12 +200,12 @@ module _ (κ : Construction) (s : List ℕ) where
     pub program_budgeted_lem : (budget : ℕ) (m : List ℤ) → program_budgeted κ s budget m ≡ budgeted (sizes s) (graph κ s) budget m
     program_budgeted_lem = Runs.program_budgeted_lem κ s fit
 
-    pub program_replayed : (budget : ℕ) (m : List ℤ) → memory_validity (sizes s) m ≡ Fit
+    pub program_replayed : (budget : ℕ) (m : List ℤ) → memory_validity (sizes s) m ≡ Ok tt
         → Replayed (sizes s) (graph κ s) budget (begun m) (program_budgeted κ s budget m)
     program_replayed = Runs.program_replayed κ s fit
 
   -- not well formed: a step leaves the configuration as it was, and there is no run
-  module _ (x : Refusal) (refused : validity s ≡ Refused x) where
+  module _ (x : Refusal) (refused : validity s ≡ Err x) where
     pub refused_outcome : (c : Configuration) (e : ℕ) → program_outcome κ s c e ≡ Refuses x
     refused_outcome = Steps.refused_outcome κ s x refused
 
@@ -225,7 +223,7 @@ module _ (κ : Construction) (s : List ℕ) where
   program_budgeted_length = Runs.program_budgeted_length κ s
 
 -- (order 8) on the deterministic graph: "at most one arrow is defined at any node in any memory"
-pub at_most_one : (s : List ℕ) → validity s ≡ Fit → (node : ℕ) (m : List ℤ) (e f : ℕ) → T (leaves (graph Deterministic s) e node) → T (leaves (graph Deterministic s) f node)
+pub at_most_one : (s : List ℕ) → validity s ≡ Ok tt → (node : ℕ) (m : List ℤ) (e f : ℕ) → T (leaves (graph Deterministic s) e node) → T (leaves (graph Deterministic s) f node)
     → T (is_defined (edge_effect (sizes s) (graph Deterministic s) m e)) → T (is_defined (edge_effect (sizes s) (graph Deterministic s) m f)) → e ≡ f
 at_most_one = Alone.at_most_one
 
@@ -256,8 +254,8 @@ module _ {ns : List ℕ} {g : Graph} {code graph : List ℕ} (p : Prepared ns g 
 
   -- the first edge out of a node that passes a test, as following the links finds it; and that there is none
   module _ (node : ℕ) (q : ℕ → Bool) (e : ℕ) (at : Following graph node (λ k. q k ≡ false) e) where
-    pub first_leaving : e < get_or graph edge_count_place 0 → q e ≡ true → first_such (length g.edges) (λ k. leaves g k node && q k) ≡ At e
+    pub first_leaving : e < get_or graph edge_count_place 0 → q e ≡ true → first_such (length g.edges) (λ k. leaves g k node && q k) ≡ Some e
     first_leaving = Edges.first_leaving p node q e at
 
-    pub none_leaving : get_or graph edge_count_place 0 ≤ e → first_such (length g.edges) (λ k. leaves g k node && q k) ≡ Nothing
+    pub none_leaving : get_or graph edge_count_place 0 ≤ e → first_such (length g.edges) (λ k. leaves g k node && q k) ≡ None
     none_leaving = Edges.none_leaving p node q e at

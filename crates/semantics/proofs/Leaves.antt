@@ -1,4 +1,5 @@
 -- What an arithmetic entry of ordered code is, the tree that stands there, and the cell of a leaf.
+use Rattle.std.specs.Prelude.{Ok}
 use mathlib.Core.Path.{◌≡◌, refl, sym, ap, subst, ◌∙◌}
 use mathlib.Core.List.{List}
 use Prim.Native.Nat.{ℕ, ◌+◌, ◌*◌, ◌≤◌, ◌<◌}
@@ -22,11 +23,10 @@ use Rattle.program.proofs.Laws.{arith_below_lem}
 use Rattle.program.proofs.Readings.{number_told}
 use Rattle.semantics.specs.Parts.Cells.{Loaded}
 use Rattle.semantics.specs.Expression.{cell_value, value}
-use Rattle.semantics.specs.declared.Evaluation.TheVariants.{Number}
 
 -- a tree whose value is that of a cell, wherever the code's numbers are behind the memory
 abbrev pub CellOf : List ℕ → Arith → ℕ → Type 0
-CellOf code a c = (ns : List ℕ) (m : List ℤ) → Loaded ns code m → T (arith_named ns a) → value ns m a ≡ Number (cell_value m c)
+CellOf code a c = (ns : List ℕ) (m : List ℤ) → Loaded ns code m → T (arith_named ns a) → value ns m a ≡ Ok (cell_value m c)
 
 -- entry n, where code has asked what it is, and was told
 module _ (code : List ℕ) (n : ℕ) where
@@ -71,9 +71,9 @@ module _ (code : List ℕ) (n : ℕ) where
         few : n < 512
         few = below_most l.coded.ordered h
 
-        by : (k : ArithNode) → arith_in code n ≡ k → value ns m (arith_at (entries_in code graph) n) ≡ Number (cell_value m c)
+        by : (k : ArithNode) → arith_in code n ≡ k → value ns m (arith_at (entries_in code graph) n) ≡ Ok (cell_value m c)
         by (NumberNode z) told =
-            rw (node_tree few refl told) (ap Number (sym (number_told code n few refl told) ∙ sym (l.numbers.number n few) ∙ ap (cell_value m) (sym (rw told at (e ∙ l.coded.leaf n h)))))
-        by (Variable x) told = rw (node_tree few refl told) (ap (λ (k : ℕ). Number (cell_value m k)) (sym (rw told at (e ∙ l.coded.leaf n h))))
+            rw (node_tree few refl told) (ap Ok (sym (number_told code n few refl told) ∙ sym (l.numbers.number n few) ∙ ap (cell_value m) (sym (rw told at (e ∙ l.coded.leaf n h)))))
+        by (Variable x) told = rw (node_tree few refl told) (ap (λ (k : ℕ). Ok (cell_value m k)) (sym (rw told at (e ∙ l.coded.leaf n h))))
         by (Element x i) told = absurd (omega (arith, rw told at (e ∙ l.coded.leaf n h)))
         by (Operator o p q) told = absurd (omega (arith, rw told at (e ∙ l.coded.leaf n h)))

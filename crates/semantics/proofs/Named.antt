@@ -1,4 +1,5 @@
 -- Where its names are there, an action stores inside the memory, and no value, truth or effect depends on a cell outside.
+use Rattle.std.specs.Prelude.{Err, Ok}
 use mathlib.Core.Path.{◌≡◌, refl, ap}
 use mathlib.Core.Bool.{Bool, true, false, cond, ◌&&◌}
 use mathlib.Core.List.{List}
@@ -16,12 +17,8 @@ use Rattle.program.specs.Syntax.{Arith, number, variable, element, operator, Boo
 use Rattle.program.proofs.Laws.{cells_inside}
 use Rattle.program.specs.Meaning.{Meaning, nothing, assigns, stores, condition}
 use Rattle.semantics.specs.Action.{pass, store_to, effect}
-use Rattle.semantics.specs.Expression.{fault, cell_value, Place, at, nowhere, place_of, value_at, value, truth_in}
+use Rattle.semantics.specs.Expression.{fault, cell_value, Place, at, nowhere, place_of, value_at, value, truth_in, Evaluation, Truth}
 use Rattle.semantics.specs.declared.Effect.TheVariants.{Stored}
-use Rattle.semantics.specs.declared.Evaluation.{Evaluation}
-use Rattle.semantics.specs.declared.Evaluation.TheVariants.{Number, Undefined}
-use Rattle.semantics.specs.declared.Truth.{Truth}
-use Rattle.semantics.specs.declared.Truth.TheVariants.{Known, Undefined as Unknown}
 
 module _ (ns : List ℕ) where
   -- a variable that is there has one cell, and an array as many as its size says
@@ -44,7 +41,7 @@ module _ (ns : List ℕ) where
 
   pub place_inside : (x : ℕ) → T (is_array ns x) → (v : Evaluation) (c : ℕ) → place_of ns x v ≡ at c → c < cell_count ns
   unfolding place_of
-  place_inside x t (Number (pos i)) c p = by (ltb i (get_or ns x 0)) refl p
+  place_inside x t (Ok (pos i)) c p = by (ltb i (get_or ns x 0)) refl p
     where
       by : (b : Bool) → ltb i (get_or ns x 0) ≡ b → cond b (at (first_cell ns x + i)) (nowhere (fault IndexTooLarge)) ≡ at c → c < cell_count ns
       by true h p =
@@ -53,21 +50,21 @@ module _ (ns : List ℕ) where
           let same : c ≡ first_cell ns x + i = cc in
           omega (arith, cells_inside ns x there.0, there.1)
       by false h p = absurd (let z : ◌≡◌ {A = ℕ} 0 1 = cc in omega arith)
-  place_inside x t (Number (negsuc i)) c p = absurd (let z : ◌≡◌ {A = ℕ} 0 1 = cc in omega arith)
-  place_inside x t (Undefined f) c p = absurd (let z : ◌≡◌ {A = ℕ} 0 1 = cc in omega arith)
+  place_inside x t (Ok (negsuc i)) c p = absurd (let z : ◌≡◌ {A = ℕ} 0 1 = cc in omega arith)
+  place_inside x t (Err f) c p = absurd (let z : ◌≡◌ {A = ℕ} 0 1 = cc in omega arith)
 
   -- a value stored to a place is stored to its cell, and a condition stores nothing
   stored_at : (p : Place) (v : Evaluation) (c : ℕ) (z : ℤ) → store_to p v ≡ Stored c z → p ≡ at c
   unfolding store_to
-  stored_at (at d) (Number w) c z e = cc
-  stored_at (at d) (Undefined f) c z e = cc
+  stored_at (at d) (Ok w) c z e = cc
+  stored_at (at d) (Err f) c z e = cc
   stored_at (nowhere f) v c z e = cc
 
   passes_nothing : (v : Truth) (c : ℕ) (z : ℤ) → pass v ≡ Stored c z → ⊥
   unfolding pass
-  passes_nothing (Known true) c z e = let z : ◌≡◌ {A = ℕ} 0 1 = cc in omega arith
-  passes_nothing (Known false) c z e = let z : ◌≡◌ {A = ℕ} 0 1 = cc in omega arith
-  passes_nothing (Unknown f) c z e = let z : ◌≡◌ {A = ℕ} 0 1 = cc in omega arith
+  passes_nothing (Ok true) c z e = let z : ◌≡◌ {A = ℕ} 0 1 = cc in omega arith
+  passes_nothing (Ok false) c z e = let z : ◌≡◌ {A = ℕ} 0 1 = cc in omega arith
+  passes_nothing (Err f) c z e = let z : ◌≡◌ {A = ℕ} 0 1 = cc in omega arith
 
   -- an action stores inside the memory
   pub stores_inside : (m : List ℤ) (x : Meaning) → T (meaning_named ns x) → (c : ℕ) (z : ℤ) → effect ns m x ≡ Stored c z → c < cell_count ns
@@ -86,13 +83,13 @@ module _ (ns : List ℕ) where
   module _ (m m' : List ℤ) (same : (c : ℕ) → c < cell_count ns → cell_value m c ≡ cell_value m' c) where
     place_same : (p : Place) → ((c : ℕ) → p ≡ at c → c < cell_count ns) → value_at m p ≡ value_at m' p
     unfolding value_at
-    place_same (at c) inside = ap Number (same c (inside c refl))
+    place_same (at c) inside = ap Ok (same c (inside c refl))
     place_same (nowhere f) inside = refl
 
     pub value_same : (a : Arith) → T (arith_named ns a) → value ns m a ≡ value ns m' a
     unfolding arith_named value
     value_same (number k z) t = refl
-    value_same (variable k x) t = ap Number (same (first_cell ns x) (variable_inside x t))
+    value_same (variable k x) t = ap Ok (same (first_cell ns x) (variable_inside x t))
     value_same (element k x i) t =
         let named = and_yes (is_array ns x) (arith_named ns i) t in
         rw (value_same i named.1) (place_same (place_of ns x (value ns m' i)) (place_inside x named.0 (value ns m' i)))

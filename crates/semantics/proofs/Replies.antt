@@ -1,4 +1,5 @@
 -- The reply of a step by the answer to its questions and the effect of its edge.
+use Rattle.std.specs.Prelude.{Err, Ok}
 use mathlib.Core.Path.{◌≡◌, ◌∙◌, ap}
 use mathlib.Core.List.{List}
 use Prim.Native.Nat.{ℕ, ◌<◌}
@@ -9,7 +10,6 @@ use Rattle.program.specs.Graph.{Graph, graph, edge_at}
 use Rattle.program.specs.Questions.{validity}
 use Rattle.program.specs.declared.Construction.{Construction}
 use Rattle.program.specs.declared.Refusal.{Refusal}
-use Rattle.program.specs.declared.Validity.TheVariants.{Fit, Refused}
 use Rattle.semantics.specs.Action.{after}
 use Rattle.semantics.specs.Parts.Replaying.{step}
 use Rattle.semantics.specs.Step.{edge_effect, step_validity, outcome_by, outcome_unless_refused, outcome, along, next, program_outcome, program_step, step_reply}
@@ -24,18 +24,18 @@ use Rattle.program.proofs.Tests.{passed}
 use Rattle.semantics.proofs.Steps.{leaves_below}
 
 -- where no question of a step is refused, the edge exists
-pub edge_exists : (ns : List ℕ) (g : Graph) (node : ℕ) (m : List ℤ) (e : ℕ) → step_validity ns g node m e ≡ Fit → e < length g.edges
+pub edge_exists : (ns : List ℕ) (g : Graph) (node : ℕ) (m : List ℤ) (e : ℕ) → step_validity ns g node m e ≡ Ok tt → e < length g.edges
 unfolding step_validity
 edge_exists ns g node m e p = leaves_below g e node (passed (ask_fit _ 15 0 (turn_fit _ 2 p)))
 
 module _ (ns : List ℕ) (g : Graph) (run : Run) (e : ℕ) (m : List ℤ) where
   -- a refused question: run and memory are as they were
-  pub step_refused : (x : Refusal) → step_validity ns g run.node m e ≡ Refused x → StepsTo ns g run e m m (record { run = run; outcome = Refuses x })
+  pub step_refused : (x : Refusal) → step_validity ns g run.node m e ≡ Err x → StepsTo ns g run e m m (record { run = run; outcome = Refuses x })
   unfolding step outcome next outcome_unless_refused
   step_refused x p = record { reply = rw p; memory = rw p }
 
   -- none refused: by the effect
-  pub step_settled : step_validity ns g run.node m e ≡ Fit → (x : Effect) → x ≡ edge_effect ns g m e → (target : ℕ) → target ≡ (edge_at g e).target
+  pub step_settled : step_validity ns g run.node m e ≡ Ok tt → (x : Effect) → x ≡ edge_effect ns g m e → (target : ℕ) → target ≡ (edge_at g e).target
       → (m' : List ℤ) (r : Stepped) → Settled run target x m m' r → StepsTo ns g run e m m' r
   unfolding step outcome next along outcome_unless_refused outcome_by run_after after
   step_settled p (Fails f) q target t m' r k =
@@ -51,10 +51,10 @@ pub record Replied (κ : Construction) (s : List ℕ) (run : Run) (e : ℕ) (m m
   pub memory : m' ≡ (program_step κ s (record { run = run; memory = m }) e).memory
 
 module _ (κ : Construction) (s : List ℕ) (run : Run) (e : ℕ) (m : List ℤ) where
-  pub program_refused : (x : Refusal) → validity s ≡ Refused x → Replied κ s run e m m (record { run = run; outcome = Refuses x })
+  pub program_refused : (x : Refusal) → validity s ≡ Err x → Replied κ s run e m m (record { run = run; outcome = Refuses x })
   unfolding step_reply program_step program_outcome next outcome_unless_refused
   program_refused x p = record { reply = rw p; memory = rw p }
 
-  pub program_replied : validity s ≡ Fit → (m' : List ℤ) (r : Stepped) → StepsTo (sizes s) (graph κ s) run e m m' r → Replied κ s run e m m' r
+  pub program_replied : validity s ≡ Ok tt → (m' : List ℤ) (r : Stepped) → StepsTo (sizes s) (graph κ s) run e m m' r → Replied κ s run e m m' r
   unfolding step_reply program_step program_outcome outcome_unless_refused step
   program_replied p m' r k = record { reply = rw p k.reply; memory = rw p k.memory }

@@ -1,4 +1,6 @@
 -- A budgeted run is a list of step calls that are all taken; how it ends; and it leaves a memory as long as it was.
+use Rattle.program.specs.Asking.{Validity}
+use Rattle.std.specs.Prelude.{Err, Ok, None, Option, Some}
 use mathlib.Core.Path.{◌≡◌, refl, ap, ◌∙◌}
 use mathlib.Core.Bool.{Bool, true, false, cond, ◌&&◌}
 use mathlib.Core.Logic.{◌≢◌}
@@ -14,11 +16,7 @@ use Rattle.program.specs.File.{sizes, cell_count}
 use Rattle.program.specs.Graph.{Graph, graph, edges, edge_count, node_count, edge_at}
 use Rattle.program.specs.Questions.{validity}
 use Rattle.program.specs.declared.Construction.{Construction}
-use Rattle.program.specs.declared.First.{First}
-use Rattle.program.specs.declared.First.TheVariants.{At, Nothing}
 use Rattle.program.specs.declared.Refusal.{Refusal}
-use Rattle.program.specs.declared.Validity.{Validity}
-use Rattle.program.specs.declared.Validity.TheVariants.{Fit, Refused}
 use Rattle.program.proofs.Laws.{such_first, such_none, two_nodes, edge_inside}
 use Rattle.program.proofs.Tests.{passed}
 use Rattle.semantics.specs.Action.{is_defined}
@@ -51,11 +49,11 @@ second_fails false b t p = absurd t
 
 module _ (ns : List ℕ) (g : Graph) where
   -- the lowest defined edge leaves the node and is defined, and where there is none no edge out of the node is
-  pub lowest_found : (node : ℕ) (m : List ℤ) (e : ℕ) → lowest_defined ns g node m ≡ At e → T (leaves g e node) × T (is_defined (edge_effect ns g m e))
+  pub lowest_found : (node : ℕ) (m : List ℤ) (e : ℕ) → lowest_defined ns g node m ≡ Some e → T (leaves g e node) × T (is_defined (edge_effect ns g m e))
   unfolding lowest_defined
   lowest_found node m e p = and_yes (leaves g e node) (is_defined (edge_effect ns g m e)) (passed (such_first (length g.edges) _ e p).passes)
 
-  pub lowest_none : (node : ℕ) (m : List ℤ) → lowest_defined ns g node m ≡ Nothing → (e : ℕ) → T (leaves g e node) → is_defined (edge_effect ns g m e) ≡ false
+  pub lowest_none : (node : ℕ) (m : List ℤ) → lowest_defined ns g node m ≡ None → (e : ℕ) → T (leaves g e node) → is_defined (edge_effect ns g m e) ≡ false
   unfolding lowest_defined
   lowest_none node m p e l = second_fails (leaves g e node) _ l (such_none (length g.edges) _ p e (leaves_below g e node l))
 
@@ -72,10 +70,10 @@ module _ (ns : List ℕ) (g : Graph) where
 
   -- what holds where a run starts and is kept by each edge taken gives what holds where it ends
   module _ (I : Configuration → Type 0) (P : Result → Type 0)
-      (keeps : (c : Configuration) (e : ℕ) → lowest_defined ns g c.run.node c.memory ≡ At e → I c → I (along ns g c e))
+      (keeps : (c : Configuration) (e : ℕ) → lowest_defined ns g c.run.node c.memory ≡ Some e → I c → I (along ns g c e))
       (arrives : (c : Configuration) → I c → c.run.node ≡ 1 → P (ends Arrived c))
       (spends : (c : Configuration) → I c → c.run.node ≢ 1 → P (ends Spent c))
-      (sticks : (c : Configuration) → I c → c.run.node ≢ 1 → lowest_defined ns g c.run.node c.memory ≡ Nothing → P (ends Stuck c)) where
+      (sticks : (c : Configuration) → I c → c.run.node ≢ 1 → lowest_defined ns g c.run.node c.memory ≡ None → P (ends Stuck c)) where
     either : (c : Configuration) (r : Result) → I c → (c.run.node ≢ 1 → P r) → (b : Bool) → eqb c.run.node 1 ≡ b → P (cond b (ends Arrived c) r)
     either c r i other true p = arrives c i (eqb-true c.run.node 1 p)
     either c r i other false p = other (eqb-false c.run.node 1 p)
@@ -87,9 +85,9 @@ module _ (ns : List ℕ) (g : Graph) where
         either c _ i (λ d. further (λ e. run_ends budget (along ns g c e)) d (lowest_defined ns g c.run.node c.memory) refl) (eqb c.run.node 1) refl
       where
         further : ((e : ℕ) → I (along ns g c e) → P (run_from budget ns g (along ns g c e))) → c.run.node ≢ 1
-            → (x : First) → lowest_defined ns g c.run.node c.memory ≡ x → P (goes_on (λ e. run_from budget ns g (along ns g c e)) c x)
-        further go d (At e) p = go e (keeps c e p i)
-        further go d Nothing p = sticks c i d p
+            → (x : Option ℕ) → lowest_defined ns g c.run.node c.memory ≡ x → P (goes_on (λ e. run_from budget ns g (along ns g c e)) c x)
+        further go d (Some e) p = go e (keeps c e p i)
+        further go d None p = sticks c i d p
 
   -- how a run ends
   pub run_stops : (budget : ℕ) (c : Configuration) → Stops ns g (run_from budget ns g c)
@@ -126,11 +124,11 @@ module _ (ns : List ℕ) (g : Graph) where
 
   -- the budgeted run: a run where question 12 is answered yes, and none where it is refused
   module _ (budget : ℕ) (m : List ℤ) where
-    pub budgeted_run : memory_validity ns m ≡ Fit → budgeted ns g budget m ≡ run_from budget ns g (begun m)
+    pub budgeted_run : memory_validity ns m ≡ Ok tt → budgeted ns g budget m ≡ run_from budget ns g (begun m)
     unfolding budgeted ends_unless_refused
     budgeted_run fit = rw fit
 
-    pub refused_run : (x : Refusal) → memory_validity ns m ≡ Refused x → budgeted ns g budget m ≡ ends (Refuses x) (begun m)
+    pub refused_run : (x : Refusal) → memory_validity ns m ≡ Err x → budgeted ns g budget m ≡ ends (Refuses x) (begun m)
     unfolding budgeted ends_unless_refused
     refused_run x p = rw p
 
@@ -138,16 +136,16 @@ module _ (ns : List ℕ) (g : Graph) where
     budgeted_length = by (memory_validity ns m) refl
       where
         by : (v : Validity) → memory_validity ns m ≡ v → length (budgeted ns g budget m).final.memory ≡ length m
-        by Fit p = rw (budgeted_run p) (run_length budget (begun m))
-        by (Refused x) p = rw (refused_run x p)
+        by (Ok _) p = rw (budgeted_run p) (run_length budget (begun m))
+        by (Err x) p = rw (refused_run x p)
 
     pub budgeted_stops : Stops ns g (budgeted ns g budget m)
     unfolding fresh
     budgeted_stops = by (memory_validity ns m) refl
       where
         by : (v : Validity) → memory_validity ns m ≡ v → Stops ns g (budgeted ns g budget m)
-        by Fit p = rw (budgeted_run p) (run_stops budget (begun m))
-        by (Refused x) p =
+        by (Ok _) p = rw (budgeted_run p) (run_stops budget (begun m))
+        by (Err x) p =
             rw (refused_run x p)
             (record { arrived = λ q. cc; at_end = λ q. absurd (omega arith); stuck = λ q e l. cc })
 
@@ -164,17 +162,17 @@ module _ (ns : List ℕ) (g : Graph) where
         by (λ e. run_replayed budget (along ns g c e)) (eqb c.run.node 1) (lowest_defined ns g c.run.node c.memory) refl
       where
         by : ((e : ℕ) → length (along ns g c e).memory ≡ cell_count ns → (along ns g c e).run.node < g.nodes → Replayed ns g budget (along ns g c e) (run_from budget ns g (along ns g c e)))
-            → (b : Bool) (x : First) → lowest_defined ns g c.run.node c.memory ≡ x
+            → (b : Bool) (x : Option ℕ) → lowest_defined ns g c.run.node c.memory ≡ x
             → Replayed ns g (suc budget) c (cond b (ends Arrived c) (goes_on (λ e. run_from budget ns g (along ns g c e)) c x))
         by go true x p = stays (suc budget) c Arrived (λ q. cc)
-        by go false Nothing p = stays (suc budget) c Stuck (λ q. cc)
-        by go false (At e) p =
+        by go false None p = stays (suc budget) c Stuck (λ q. cc)
+        by go false (Some e) p =
             let found = lowest_found c.run.node c.memory e p in
             moves budget c e (run_from budget ns g (along ns g c e))
             (record { room = room; node_inside = here; edge_leaves = found.0; edge_defined = found.1 })
             (go e (along_length ns g c e ∙ room) (inside e (leaves_below g e c.run.node found.0)))
 
-    pub budgeted_replayed : (budget : ℕ) (m : List ℤ) → 0 < g.nodes → memory_validity ns m ≡ Fit → Replayed ns g budget (begun m) (budgeted ns g budget m)
+    pub budgeted_replayed : (budget : ℕ) (m : List ℤ) → 0 < g.nodes → memory_validity ns m ≡ Ok tt → Replayed ns g budget (begun m) (budgeted ns g budget m)
     unfolding fresh
     budgeted_replayed budget m some fit = rw (budgeted_run budget m fit) (run_replayed budget (begun m) (memory_fit ns m fit) some)
 
@@ -189,18 +187,18 @@ module _ (ns : List ℕ) (g : Graph) (budget : ℕ) (r : Result) where
 
 -- of a program file
 module _ (κ : Construction) (s : List ℕ) where
-  module _ (fit : validity s ≡ Fit) (budget : ℕ) (m : List ℤ) where
+  module _ (fit : validity s ≡ Ok tt) (budget : ℕ) (m : List ℤ) where
     pub program_budgeted_lem : program_budgeted κ s budget m ≡ budgeted (sizes s) (graph κ s) budget m
     unfolding program_budgeted ends_unless_refused
     program_budgeted_lem = rw fit
 
-    pub program_replayed : memory_validity (sizes s) m ≡ Fit → Replayed (sizes s) (graph κ s) budget (begun m) (program_budgeted κ s budget m)
+    pub program_replayed : memory_validity (sizes s) m ≡ Ok tt → Replayed (sizes s) (graph κ s) budget (begun m) (program_budgeted κ s budget m)
     unfolding edges edge_count node_count edge_at
     program_replayed room =
         rw program_budgeted_lem
         (budgeted_replayed (sizes s) (graph κ s) (λ e h. (edge_inside κ s e _ h).target_inside) budget m (omega (arith, two_nodes κ s)) room)
 
-  pub refused_budgeted : (x : Refusal) → validity s ≡ Refused x → (budget : ℕ) (m : List ℤ) → program_budgeted κ s budget m ≡ ends (Refuses x) (begun m)
+  pub refused_budgeted : (x : Refusal) → validity s ≡ Err x → (budget : ℕ) (m : List ℤ) → program_budgeted κ s budget m ≡ ends (Refuses x) (begun m)
   unfolding program_budgeted ends_unless_refused
   refused_budgeted x p budget m = rw p
 
@@ -208,5 +206,5 @@ module _ (κ : Construction) (s : List ℕ) where
   program_budgeted_length budget m = by (validity s) refl
     where
       by : (v : Validity) → validity s ≡ v → length (program_budgeted κ s budget m).final.memory ≡ length m
-      by Fit p = rw (program_budgeted_lem p budget m) (budgeted_length (sizes s) (graph κ s) budget m)
-      by (Refused x) p = rw (refused_budgeted x p budget m)
+      by (Ok _) p = rw (program_budgeted_lem p budget m) (budgeted_length (sizes s) (graph κ s) budget m)
+      by (Err x) p = rw (refused_budgeted x p budget m)

@@ -1,4 +1,5 @@
 -- The truth of a guard after those of the lower edges out of its node, worked out guard by guard.
+use Rattle.std.specs.Prelude.{Ok}
 use mathlib.Core.Path.{◌≡◌, refl, sym, ◌∙◌, ap}
 use mathlib.Core.Bool.{true, ◌&&◌, and_assoc, and-true}
 use mathlib.Core.List.{List, [], ◌∷◌, ◌++◌, foldl}
@@ -12,11 +13,9 @@ use Rattle.program.proofs.Guards.{Joins}
 use Rattle.program.proofs.Laws.{selected_all, selected_folded}
 use Rattle.program.proofs.Selecting.{all_split}
 use Rattle.program.proofs.Tests.{two, passed, is_true}
-use Rattle.semantics.specs.Expression.{conjoin, negate, truth_in}
+use Rattle.semantics.specs.Expression.{conjoin, negate, truth_in, Truth}
 use Rattle.semantics.specs.Parts.Coding.{decided, TruthIn}
 use Rattle.semantics.specs.Parts.Selecting.{and_fail, FailsAfter}
-use Rattle.semantics.specs.declared.Truth.{Truth}
-use Rattle.semantics.specs.declared.Truth.TheVariants.{Known}
 use Rattle.semantics.proofs.Exit.{joins}
 
 -- the names of ∧ are those of both sides
@@ -68,6 +67,6 @@ module _ {code : List ℕ} {m : List ℤ} where
             let named = two (all_of (λ g. boolean_named ns (negation 0 g)) gs) (boolean_named ns b) (sym (selected_all (named_join ns) gs b) ∙ is_true _ t) in
             q
             ∙ ap (λ x. conjoin x (decided a)) (earlier.gives ns loaded named.0)
-            ∙ ap (conjoin (foldl (λ y g. conjoin y (truth_in ns m (negation 0 g))) (Known true) gs)) (own.gives ns loaded (passed named.1))
+            ∙ ap (conjoin (foldl (λ y g. conjoin y (truth_in ns m (negation 0 g))) (Ok true) gs)) (own.gives ns loaded (passed named.1))
             ∙ sym (selected_folded (joins ns m) gs b);
       }

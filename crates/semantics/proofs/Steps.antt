@@ -1,4 +1,5 @@
 -- A step moves along an edge or changes nothing, and a memory keeps its length.
+use Rattle.std.specs.Prelude.{Err, Ok}
 use mathlib.Core.Path.{◌≡◌, refl, sym, ◌∙◌}
 use mathlib.Core.Logic.{◌≢◌}
 use mathlib.Core.List.{List, [], ◌∷◌}
@@ -9,14 +10,12 @@ use lib.IntN.{ℤ}
 use lib.ListN.{length, length-set}
 use borrow.Author.Tests.{eqb-true, eq-eqb, ltb-true, lt-ltb}
 use mir.Facts.{and_yes}
-use Rattle.program.specs.Asking.{ask, then_ask, in_turn}
+use Rattle.program.specs.Asking.{ask, then_ask, in_turn, Validity}
 use Rattle.program.specs.File.{sizes, cell_count}
 use Rattle.program.specs.Graph.{Graph, graph, edge_at}
 use Rattle.program.specs.Questions.{validity}
 use Rattle.program.specs.declared.Construction.{Construction}
 use Rattle.program.specs.declared.Refusal.{Refusal}
-use Rattle.program.specs.declared.Validity.{Validity}
-use Rattle.program.specs.declared.Validity.TheVariants.{Fit, Refused}
 use Rattle.program.proofs.Laws.{ask_fit, turn_fit}
 use Rattle.program.proofs.Tests.{passed, is_true}
 use Rattle.semantics.specs.Action.{after, is_defined}
@@ -36,12 +35,12 @@ pub record Takable (ns : List ℕ) (g : Graph) (c : Configuration) (e : ℕ) : T
   pub edge_defined : T (is_defined (edge_effect ns g c.memory e))
 
 -- an answer is Taken where no question is refused and the effect is defined, and only there
-taken_parts : (v : Validity) (x : Effect) → outcome_unless_refused v (outcome_by x) ≡ Taken → (v ≡ Fit) × T (is_defined x)
+taken_parts : (v : Validity) (x : Effect) → outcome_unless_refused v (outcome_by x) ≡ Taken → (v ≡ Ok tt) × T (is_defined x)
 unfolding outcome_unless_refused outcome_by is_defined
-taken_parts Fit (Fails f) p = absurd (let z : ◌≡◌ {A = ℕ} 0 1 = cc in omega arith)
-taken_parts Fit Unchanged p = (refl, tt)
-taken_parts Fit (Stored c z) p = (refl, tt)
-taken_parts (Refused r) x p = absurd (let z : ◌≡◌ {A = ℕ} 0 1 = cc in omega arith)
+taken_parts (Ok _) (Fails f) p = absurd (let z : ◌≡◌ {A = ℕ} 0 1 = cc in omega arith)
+taken_parts (Ok _) Unchanged p = (refl, tt)
+taken_parts (Ok _) (Stored c z) p = (refl, tt)
+taken_parts (Err r) x p = absurd (let z : ◌≡◌ {A = ℕ} 0 1 = cc in omega arith)
 
 defined_taken : (x : Effect) → T (is_defined x) → outcome_by x ≡ Taken
 unfolding outcome_by is_defined
@@ -50,11 +49,11 @@ defined_taken Unchanged t = refl
 defined_taken (Stored c z) t = refl
 
 -- question 12: the memory has as many cells as the names
-pub memory_fit : (ns : List ℕ) (m : List ℤ) → memory_validity ns m ≡ Fit → length m ≡ cell_count ns
+pub memory_fit : (ns : List ℕ) (m : List ℤ) → memory_validity ns m ≡ Ok tt → length m ≡ cell_count ns
 unfolding memory_validity
 memory_fit ns m p = eqb-true (length m) (cell_count ns) (ask_fit _ 12 0 p)
 
-pub fit_memory : (ns : List ℕ) (m : List ℤ) → length m ≡ cell_count ns → memory_validity ns m ≡ Fit
+pub fit_memory : (ns : List ℕ) (m : List ℤ) → length m ≡ cell_count ns → memory_validity ns m ≡ Ok tt
 unfolding memory_validity ask
 fit_memory ns m p = rw (eq-eqb (length m) (cell_count ns) p)
 
@@ -124,7 +123,7 @@ module _ (ns : List ℕ) (g : Graph) where
 
 -- of a program file: the same where it is well formed, and nothing where it is not
 module _ (κ : Construction) (s : List ℕ) where
-  module _ (fit : validity s ≡ Fit) (c : Configuration) (e : ℕ) where
+  module _ (fit : validity s ≡ Ok tt) (c : Configuration) (e : ℕ) where
     pub program_outcome_lem : program_outcome κ s c e ≡ outcome (sizes s) (graph κ s) c e
     unfolding program_outcome outcome_unless_refused
     program_outcome_lem = rw fit
@@ -133,7 +132,7 @@ module _ (κ : Construction) (s : List ℕ) where
     unfolding program_step step
     program_step_lem = rw program_outcome_lem
 
-  module _ (fit : validity s ≡ Fit) where
+  module _ (fit : validity s ≡ Ok tt) where
     pub program_replay_lem : (c : Configuration) (es : List ℕ) → program_replay κ s c es ≡ replay (sizes s) (graph κ s) c es
     unfolding program_replay replay
     program_replay_lem c [] = refl
@@ -144,7 +143,7 @@ module _ (κ : Construction) (s : List ℕ) where
     program_outcomes_lem c [] = refl
     program_outcomes_lem c (e ∷ es) = rw (program_outcome_lem fit c e, program_step_lem fit c e, program_outcomes_lem (step (sizes s) (graph κ s) c e) es)
 
-  module _ (x : Refusal) (refused : validity s ≡ Refused x) (c : Configuration) (e : ℕ) where
+  module _ (x : Refusal) (refused : validity s ≡ Err x) (c : Configuration) (e : ℕ) where
     pub refused_outcome : program_outcome κ s c e ≡ Refuses x
     unfolding program_outcome outcome_unless_refused
     refused_outcome = rw refused

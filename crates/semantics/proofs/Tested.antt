@@ -1,4 +1,5 @@
 -- Guards of the deterministic graph, tested one after the other: at most one edge out of a node is defined, and it is found by testing each guard by itself.
+use Rattle.std.specs.Prelude.{Err, Ok}
 use mathlib.Core.Path.{◌≡◌, refl, sym, ◌∙◌, ap}
 use mathlib.Core.Bool.{Bool, true, false, false≢true, ◌&&◌, and-true, and-false, and_assoc}
 use mathlib.Core.List.{List}
@@ -19,14 +20,12 @@ use Rattle.program.proofs.Guards.{Joins}
 use Rattle.program.proofs.Laws.{all_lower, lower_all, own_there}
 use Rattle.semantics.specs.Action.{pass, effect, after, is_defined}
 use Rattle.semantics.specs.Budget.{lowest_defined}
-use Rattle.semantics.specs.Expression.{conjoin, negate, truth_in}
+use Rattle.semantics.specs.Expression.{conjoin, negate, truth_in, Truth}
 use Rattle.semantics.specs.Parts.Cells.{NumbersIn}
 use Rattle.semantics.specs.Parts.Coding.{decided, TruthIn}
 use Rattle.semantics.specs.Parts.Running.{Lowest}
 use Rattle.semantics.specs.Parts.Selecting.{holds_in, Opens, Fails}
 use Rattle.semantics.specs.Step.{edge_effect}
-use Rattle.semantics.specs.declared.Truth.{Truth}
-use Rattle.semantics.specs.declared.Truth.TheVariants.{Known, Undefined as Unknown}
 use Rattle.semantics.proofs.Coded.{is_fault, fault_decided, truth_decided}
 use Rattle.semantics.proofs.Edges.{first_leaving, none_leaving}
 use Rattle.semantics.proofs.Opened.{guarded}
@@ -35,12 +34,12 @@ use Rattle.semantics.proofs.Opened.{guarded}
 
 holds_both : (a b : Truth) → is_defined (pass (conjoin a b)) ≡ (is_defined (pass a) && is_defined (pass b))
 unfolding conjoin pass is_defined
-holds_both (Known true) (Known true) = refl
-holds_both (Known true) (Known false) = refl
-holds_both (Known true) (Unknown f) = refl
-holds_both (Known false) (Known b) = refl
-holds_both (Known false) (Unknown f) = refl
-holds_both (Unknown f) b = refl
+holds_both (Ok true) (Ok true) = refl
+holds_both (Ok true) (Ok false) = refl
+holds_both (Ok true) (Err f) = refl
+holds_both (Ok false) (Ok b) = refl
+holds_both (Ok false) (Err f) = refl
+holds_both (Err f) b = refl
 
 -- ∧ holds where both sides do
 pub holds_join : (ns : List ℕ) (m : List ℤ) → Joins (holds_in ns m) ◌&&◌ true
@@ -58,9 +57,9 @@ holds_join ns m =
 -- a condition does not hold with its falsehood
 not_both : (t : Truth) → is_defined (pass (negate t)) ≡ true → is_defined (pass t) ≡ false
 unfolding negate pass is_defined
-not_both (Known true) h = absurd (false≢true h)
-not_both (Known false) h = refl
-not_both (Unknown f) h = refl
+not_both (Ok true) h = absurd (false≢true h)
+not_both (Ok false) h = refl
+not_both (Err f) h = refl
 
 pub failed : (ns : List ℕ) (m : List ℤ) (b : Boolean) → holds_in ns m (negation 0 b) ≡ true → holds_in ns m b ≡ false
 unfolding holds_in truth_in
@@ -72,7 +71,7 @@ pub record Stands (ns : List ℕ) (m : List ℤ) (b : Boolean) (v : ℤ) : Type 
 
 -- by it: true; undefined, so that neither the condition nor its falsehood holds; false
 module _ {ns : List ℕ} {m : List ℤ} {b : Boolean} {v : ℤ} (q : Stands ns m b v) where
-  pub known_holds : decided v ≡ Known true → holds_in ns m b ≡ true
+  pub known_holds : decided v ≡ Ok true → holds_in ns m b ≡ true
   unfolding holds_in pass is_defined
   known_holds e = rw (sym q.told ∙ e)
 
@@ -91,9 +90,9 @@ module _ {ns : List ℕ} {m : List ℤ} {b : Boolean} {v : ℤ} (q : Stands ns m
 -- a condition leaves a memory as it is
 passing : (m : List ℤ) (t : Truth) → m ≡ after m (pass t)
 unfolding after pass
-passing m (Known true) = refl
-passing m (Known false) = refl
-passing m (Unknown f) = refl
+passing m (Ok true) = refl
+passing m (Ok false) = refl
+passing m (Err f) = refl
 
 -- ---- the edges out of a node whose lowest is a guard's
 

@@ -1,4 +1,5 @@
 -- The turns of a budgeted run: as a loop takes them, one edge each.
+use Rattle.std.specs.Prelude.{None, Some}
 use mathlib.Core.Path.{◌≡◌, refl, sym, ap, subst, ◌∙◌}
 use mathlib.Core.Logic.{◌≢◌, ◌⊎◌, inl, inr}
 use mathlib.Core.Bool.{Bool, true, false, cond}
@@ -11,7 +12,6 @@ use lib.IntN.{ℤ}
 use lib.ListN.{length}
 use Rattle.program.specs.Graph.{Graph, edge_at}
 use Rattle.program.specs.Parts.Prepared.{target_in, Prepared}
-use Rattle.program.specs.declared.First.TheVariants.{At, Nothing}
 use Rattle.semantics.specs.Action.{after}
 use Rattle.semantics.specs.Budget.{lowest_defined, Result, ends, goes_on, run_from}
 use Rattle.semantics.specs.Parts.Cells.{NumbersIn}
@@ -34,12 +34,12 @@ module _ (ns : List ℕ) (g : Graph) (c : Configuration) where
       let same : suc left - 1 ≡ left = omega arith in
       rw (ne_eqb c.run.node 1 d, same)
 
-  pub run_along : (left e : ℕ) → 0 < left → c.run.node ≢ 1 → lowest_defined ns g c.run.node c.memory ≡ At e
+  pub run_along : (left e : ℕ) → 0 < left → c.run.node ≢ 1 → lowest_defined ns g c.run.node c.memory ≡ Some e
       → run_from left ns g c ≡ run_from (left - 1) ns g (along ns g c e)
   unfolding goes_on
   run_along left e h d p = run_goes left h d ∙ rw p
 
-  run_stuck : (left : ℕ) → 0 < left → c.run.node ≢ 1 → lowest_defined ns g c.run.node c.memory ≡ Nothing → run_from left ns g c ≡ ends Stuck c
+  run_stuck : (left : ℕ) → 0 < left → c.run.node ≢ 1 → lowest_defined ns g c.run.node c.memory ≡ None → run_from left ns g c ≡ ends Stuck c
   unfolding goes_on
   run_stuck left h d p = run_goes left h d ∙ rw p
 
@@ -87,7 +87,7 @@ module _ {ns : List ℕ} {g : Graph} {code graph : List ℕ} (y : Prepared ns g 
         numbers = subst (NumbersIn code) to_memory (numbers_kept y e there m reached.numbers);
       }
     where
-      found : lowest_defined ns g run.node m ≡ At e
+      found : lowest_defined ns g run.node m ≡ Some e
       found = lowest.lowest ∙ rw (lt-ltb e 255 h)
 
       there : e < length g.edges

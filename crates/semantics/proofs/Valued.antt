@@ -1,4 +1,5 @@
 -- Numbers that stand for the values and truths of trees: of a leaf, and of a tree from those of its parts.
+use Rattle.std.specs.Prelude.{Ok}
 use mathlib.Core.Path.{◌≡◌, refl, sym, ap, ◌∙◌}
 use mathlib.Core.Bool.{true}
 use mathlib.Core.List.{List}
@@ -18,10 +19,7 @@ use Rattle.program.specs.File.{is_array}
 use Rattle.program.specs.Parts.Sorted.{arith_named, boolean_named}
 use Rattle.program.specs.Syntax.{Arith, number, variable, element, operator, Boolean, truth, comparison, conjunction, short_circuit, negation}
 use Rattle.semantics.specs.Parts.Coding.{evaluated, decided, is_code, ValueIn, TruthIn}
-use Rattle.semantics.specs.Expression.{cell_value, place_of, value_at, combine, value, compare_values, conjoin, and_then, negate, truth_in}
-use Rattle.semantics.specs.declared.Evaluation.TheVariants.{Number}
-use Rattle.semantics.specs.declared.Truth.{Truth}
-use Rattle.semantics.specs.declared.Truth.TheVariants.{Known}
+use Rattle.semantics.specs.Expression.{cell_value, place_of, value_at, combine, value, compare_values, conjoin, and_then, negate, truth_in, Truth}
 use Rattle.semantics.proofs.Leaves.{CellOf}
 use Rattle.semantics.proofs.Coded.{is_fault, fault_evaluated, small_handed}
 use Rattle.semantics.proofs.Named.{variable_there, array_there}
@@ -36,12 +34,12 @@ module _ {code : List ℕ} {m : List ℤ} where
   unfolding value is_code in_range evaluated
   past_valued k past = record { code = tt; gives = λ ns loaded t. rw (past ns loaded.coded) }
 
-  pub variable_valued : (k x : ℕ) {r : ℤ} → T (is_code r) → evaluated r ≡ Number (cell_value m (cell_in code x)) → ValueIn code m (variable k x) r
+  pub variable_valued : (k x : ℕ) {r : ℤ} → T (is_code r) → evaluated r ≡ Ok (cell_value m (cell_in code x)) → ValueIn code m (variable k x) r
   unfolding value arith_named
   variable_valued k x c e =
-      record { code = c; gives = λ ns loaded t. e ∙ ap (λ (y : ℕ). Number (cell_value m y)) (loaded.coded.cell x (variable_there ns x t).0) }
+      record { code = c; gives = λ ns loaded t. e ∙ ap (λ (y : ℕ). Ok (cell_value m y)) (loaded.coded.cell x (variable_there ns x t).0) }
 
-  pub cell_valued : {a : Arith} (c : ℕ) {r : ℤ} → CellOf code a c → T (is_code r) → evaluated r ≡ Number (cell_value m c) → ValueIn code m a r
+  pub cell_valued : {a : Arith} (c : ℕ) {r : ℤ} → CellOf code a c → T (is_code r) → evaluated r ≡ Ok (cell_value m c) → ValueIn code m a r
   cell_valued c stands k e = record { code = k; gives = λ ns loaded t. e ∙ sym (stands ns m loaded t) }
 
   pub element_valued : (k x : ℕ) {i : Arith} {v r : ℤ} → ValueIn code m i v → T (is_code r)
@@ -110,7 +108,7 @@ module _ {code : List ℕ} {m : List ℤ} where
         }
 
     -- && where the left is true, and where it is not
-    pub short_right : {v : ℤ} → decided u ≡ Known true → TruthIn code m b v → TruthIn code m (short_circuit k a b) v
+    pub short_right : {v : ℤ} → decided u ≡ Ok true → TruthIn code m b v → TruthIn code m (short_circuit k a b) v
     unfolding truth_in boolean_named and_then
     short_right e right =
         record {

@@ -1,26 +1,22 @@
 -- What an action does to a memory, by its meaning (document 01, "The step"; book, Definition 2.17 and Exercise 2.20).
-use Rattle.std.specs.Prelude.{ℕ, Bool, true, false, List, set, ℤ}
+use Rattle.std.specs.Prelude.{ℕ, Bool, true, false, List, set, ℤ, Err, Ok}
 use Rattle.signs.specs.declared.Reason.TheVariants.{ConditionFalse}
 use Rattle.program.specs.File.{first_cell}
 use Rattle.program.specs.Meaning.{Meaning, nothing, assigns, stores, condition}
-use Rattle.semantics.specs.Expression.{fault, Place, at, nowhere, place_of, value, truth_in}
+use Rattle.semantics.specs.Expression.{fault, Place, at, nowhere, place_of, value, truth_in, Evaluation, Truth}
 use Rattle.semantics.specs.declared.Effect.{Effect}
 use Rattle.semantics.specs.declared.Effect.TheVariants.{Undefined as Fails, Unchanged, Stored}
-use Rattle.semantics.specs.declared.Evaluation.{Evaluation}
-use Rattle.semantics.specs.declared.Evaluation.TheVariants.{Number, Undefined}
-use Rattle.semantics.specs.declared.Truth.{Truth}
-use Rattle.semantics.specs.declared.Truth.TheVariants.{Known, Undefined as Unknown}
 
 -- a condition: "31 condition false"
 unfoldable pub pass : Truth → Effect
-pass (Known true) = Unchanged
-pass (Known false) = Fails (fault ConditionFalse)
-pass (Unknown f) = Fails f
+pass (Ok true) = Unchanged
+pass (Ok false) = Fails (fault ConditionFalse)
+pass (Err f) = Fails f
 
 -- a store to a place: "A store works out its index, tests 34 and 35, then its value."
 unfoldable pub store_to : Place → Evaluation → Effect
-store_to (at c) (Number z) = Stored c z
-store_to (at c) (Undefined f) = Fails f
+store_to (at c) (Ok z) = Stored c z
+store_to (at c) (Err f) = Fails f
 store_to (nowhere f) v = Fails f
 
 -- the effect of an action in a memory, by its meaning

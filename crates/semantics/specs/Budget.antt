@@ -1,14 +1,11 @@
 -- The budgeted run over a graph g whose names have the sizes ns (document 01, "The step").
-use Rattle.std.specs.Prelude.{ℕ, zero, suc, cond, ◌&&◌, List, [], ◌∷◌, ◌++◌, eqb, length, ℤ}
+use Rattle.program.specs.Asking.{Validity}
+use Rattle.std.specs.Prelude.{ℕ, zero, suc, cond, ◌&&◌, List, [], ◌∷◌, ◌++◌, eqb, length, ℤ, Err, Ok, None, Option, Some}
 use Rattle.program.specs.File.{sizes}
 use Rattle.program.specs.FirstSuch.{first_such}
 use Rattle.program.specs.Graph.{Graph, graph}
 use Rattle.program.specs.Questions.{validity}
 use Rattle.program.specs.declared.Construction.{Construction}
-use Rattle.program.specs.declared.First.{First}
-use Rattle.program.specs.declared.First.TheVariants.{At, Nothing}
-use Rattle.program.specs.declared.Validity.{Validity}
-use Rattle.program.specs.declared.Validity.TheVariants.{Fit, Refused}
 use Rattle.semantics.specs.Action.{is_defined}
 use Rattle.semantics.specs.Step.{Configuration, begun, memory_validity, leaves, edge_effect, along}
 use Rattle.semantics.specs.declared.Ended.{Ended}
@@ -16,7 +13,7 @@ use Rattle.semantics.specs.declared.Ending.{Ending}
 use Rattle.semantics.specs.declared.Ending.TheVariants.{Arrived, Spent, Stuck, Refused as Refuses}
 
 -- "the lowest-numbered defined arrow" out of a node
-unfoldable pub lowest_defined : List ℕ → Graph → ℕ → List ℤ → First
+unfoldable pub lowest_defined : List ℕ → Graph → ℕ → List ℤ → Option ℕ
 lowest_defined ns g node m = first_such (length g.edges) (λ e. leaves g e node && is_defined (edge_effect ns g m e))
 
 -- where a run ends, and how
@@ -28,9 +25,9 @@ abbrev pub ends : Ending → Configuration → Result
 ends x c = record { ending = x; final = c }
 
 -- a run goes on along an edge, or is stuck where there is none
-unfoldable pub goes_on : (ℕ → Result) → Configuration → First → Result
-goes_on further c (At e) = further e
-goes_on further c Nothing = ends Stuck c
+unfoldable pub goes_on : (ℕ → Result) → Configuration → Option ℕ → Result
+goes_on further c (Some e) = further e
+goes_on further c None = ends Stuck c
 
 -- "takes the lowest-numbered defined arrow each time. It answers 0 at node 1, else 1 if the budget is used up, else 2 if no arrow is defined, in
 -- that order of asking"
@@ -43,8 +40,8 @@ run_from (suc budget) ns g c =
 
 -- where a question is refused, the run is at node 0 with no edge taken: "other counts and nodes come back as zero"
 unfoldable pub ends_unless_refused : Validity → List ℤ → Result → Result
-ends_unless_refused Fit m r = r
-ends_unless_refused (Refused x) m r = ends (Refuses x) (begun m)
+ends_unless_refused (Ok _) m r = r
+ends_unless_refused (Err x) m r = ends (Refuses x) (begun m)
 
 -- "A run from node 0 with a budget", over a memory of which question 12 is asked
 unfoldable pub budgeted : List ℕ → Graph → ℕ → List ℤ → Result

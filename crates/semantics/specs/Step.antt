@@ -1,13 +1,11 @@
 -- The step of a run over a graph g whose names have the sizes ns (document 01, "The step" and questions 12, 14 and 15; book, Definitions 1.10,
 -- 1.11 and 2.17).
-use Rattle.std.specs.Prelude.{ℕ, ◌+◌, min, Bool, ◌&&◌, List, [], ◌∷◌, ◌++◌, eqb, ltb, length, ℤ}
-use Rattle.program.specs.Asking.{ask_plain, in_turn}
+use Rattle.std.specs.Prelude.{ℕ, ◌+◌, min, Bool, ◌&&◌, List, [], ◌∷◌, ◌++◌, eqb, ltb, length, ℤ, Err, Ok}
+use Rattle.program.specs.Asking.{ask_plain, in_turn, Validity}
 use Rattle.program.specs.File.{sizes, cell_count}
 use Rattle.program.specs.Graph.{Graph, edge_at, graph}
 use Rattle.program.specs.Questions.{validity}
 use Rattle.program.specs.declared.Construction.{Construction}
-use Rattle.program.specs.declared.Validity.{Validity}
-use Rattle.program.specs.declared.Validity.TheVariants.{Fit, Refused}
 use Rattle.program.specs.Meaning.{meaning}
 use Rattle.semantics.specs.Action.{effect, after}
 use Rattle.semantics.specs.Expression.{fault_number}
@@ -55,8 +53,8 @@ outcome_by Unchanged = Taken
 outcome_by (Stored c z) = Taken
 
 unfoldable pub outcome_unless_refused : Validity → Outcome → Outcome
-outcome_unless_refused Fit o = o
-outcome_unless_refused (Refused x) o = Refuses x
+outcome_unless_refused (Ok _) o = o
+outcome_unless_refused (Err x) o = Refuses x
 
 -- the answer of a step along edge e
 unfoldable pub outcome : List ℕ → Graph → Configuration → ℕ → Outcome

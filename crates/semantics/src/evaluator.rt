@@ -9,12 +9,10 @@ ghost use Rattle.std.specs.Int.Signed.{le_z};
 ghost use Rattle.program.specs.Parts.Prepared.{Coded};
 ghost use Rattle.semantics.specs.Parts.Coding as coding;
 ghost use Rattle.semantics.specs.Expression as spec;
-ghost use Rattle.semantics.specs.declared.Evaluation.TheVariants.{Number, Undefined};
-ghost use Rattle.semantics.specs.declared.Truth.TheVariants.{Known, Undefined as Unknown};
 
 use program::prepared;
 use program::prepared::CODE;
-use signs::{Comparison, Operator, Reason, Value, number};
+use signs::{Comparison, Operator, Reason, number};
 
 // The cells of a memory, and the program's numbers behind them.
 pub(crate) const MEMORY: usize = 1024;
@@ -27,8 +25,8 @@ pub(crate) fn is_fault(v: i64) -> bool
 
 fn fault_code(reason: Reason) -> i64
     ensures code { T (coding.is_code result) }
-    ensures evaluated { coding.evaluated result ≡ Undefined (spec.fault reason) }
-    ensures decided { coding.decided result ≡ Unknown (spec.fault reason) }
+    ensures evaluated { coding.evaluated result ≡ Err (spec.fault reason) }
+    ensures decided { coding.decided result ≡ Err (spec.fault reason) }
 {
     match reason {
         Reason::ConditionFalse => 4294967327,
@@ -41,18 +39,18 @@ fn fault_code(reason: Reason) -> i64
 }
 
 // What an operator gave.
-fn value_code(v: Value) -> i64
+fn value_code(v: Result<i32, Reason>) -> i64
     ensures code { T (coding.is_code result) }
     ensures evaluated { coding.evaluated result ≡ spec.operated v }
 {
     match v {
-        Value::Number(z) => z as i64,
-        Value::Undefined(reason) => fault_code(reason),
+        Ok(z) => z as i64,
+        Err(reason) => fault_code(reason),
     }
 }
 
 fn truth_code(b: bool) -> i64
-    ensures { coding.decided result ≡ Known b }
+    ensures { coding.decided result ≡ Ok b }
 {
     if b { 1 } else { 0 }
 }
@@ -115,7 +113,7 @@ fn negated(a: i64) -> i64
 // The value of a cell, past the end 0.
 fn cell_value(memory: &[i32], c: usize) -> i64
     ensures code { T (coding.is_code result) }
-    ensures evaluated { coding.evaluated result ≡ Number (spec.cell_value memory.now c) }
+    ensures evaluated { coding.evaluated result ≡ Ok (spec.cell_value memory.now c) }
 {
     if c < memory.len() {
         memory[c] as i64
@@ -128,7 +126,7 @@ fn cell_value(memory: &[i32], c: usize) -> i64
 fn cell_after(memory: &[i32], c: usize, i: usize) -> i64
     requires { i < 65536 }
     ensures code { T (coding.is_code result) }
-    ensures evaluated { coding.evaluated result ≡ Number (spec.cell_value memory.now (c + i)) }
+    ensures evaluated { coding.evaluated result ≡ Ok (spec.cell_value memory.now (c + i)) }
 {
     if memory.len() <= c {
         return 0;

@@ -13,7 +13,7 @@ ghost use Rattle.semantics.specs.Step;
 use crate::evaluator::{MEMORY, action, is_fault, selection};
 use crate::{Ended, Ending, Run, stepping};
 use program::prepared::{CELLS_MOST, CODE, GRAPH, NONE};
-use program::{Construction, Refusal, Validity, drawing, prepared, validation};
+use program::{Construction, Refusal, drawing, prepared, validation};
 
 // The reply of a run that stops at node 1, or else with its budget used up.
 fn stopped(run: Run) -> Ended
@@ -155,8 +155,8 @@ fn run_prepared(code: &[u16; CODE], graph: &[u16; GRAPH], budget: u16, memory: &
 {
     let v = validation::ask(memory.len() == prepared::cell_count(code), 12, 0);
     match v {
-        Validity::Fit => run_copied(code, graph, budget, memory),
-        Validity::Refused(x) => refused(x),
+        Ok(()) => run_copied(code, graph, budget, memory),
+        Err(x) => refused(x),
     }
 }
 
@@ -171,8 +171,8 @@ pub fn run_on(construction: Construction, program: &[u8], budget: u16, memory: &
     let mut graph = [0u16; GRAPH];
     let v = prepared::prepare_linked(construction, program, &mut code, &mut graph);
     match v {
-        Validity::Fit => run_prepared(&code, &graph, budget, memory),
-        Validity::Refused(x) => refused(x),
+        Ok(()) => run_prepared(&code, &graph, budget, memory),
+        Err(x) => refused(x),
     }
 }
 

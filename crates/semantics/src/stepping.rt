@@ -11,7 +11,7 @@ ghost use Rattle.semantics.specs.Parts.Stepping;
 use crate::evaluator::{MEMORY, action};
 use crate::{Effect, Outcome, Run, Stepped};
 use program::prepared::{CELLS_MOST, CODE, GRAPH};
-use program::{Construction, Refusal, Validity, drawing, prepared, validation};
+use program::{Construction, Refusal, drawing, prepared, validation};
 
 // The most numbers behind a memory: one for each arithmetic entry.
 const NUMBERS_MOST: usize = 512;
@@ -74,7 +74,7 @@ fn ask_step(
     node: u16,
     edge: u16,
     cells: usize,
-) -> Validity
+) -> Result<(), Refusal>
     ensures { (ns : List ℕ) (g : Graph) (m : List ℤ) → Prepared ns g code.now graph.now → length m ≡ cells
         → result ≡ spec.step_validity ns g node m edge }
 {
@@ -178,11 +178,11 @@ fn step_prepared(
 {
     let v = ask_step(code, graph, run.node, edge, memory.len());
     match v {
-        Validity::Fit => {
+        Ok(()) => {
             let found = edge_effect(code, graph, edge, memory);
             settled(run, prepared::edge_target(graph, edge), found, memory)
         }
-        Validity::Refused(x) => refused(run, x),
+        Err(x) => refused(run, x),
     }
 }
 
@@ -210,8 +210,8 @@ impl Run {
         let mut graph = [0u16; GRAPH];
         let v = prepared::prepare(construction, program, &mut code, &mut graph);
         match v {
-            Validity::Fit => step_prepared(self, &code, &graph, edge, memory),
-            Validity::Refused(x) => refused(self, x),
+            Ok(()) => step_prepared(self, &code, &graph, edge, memory),
+            Err(x) => refused(self, x),
         }
     }
 

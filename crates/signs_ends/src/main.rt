@@ -1,7 +1,7 @@
 // Runs the ends of the range, zero, one and minus one through all five operators, a line for each case: operator, left, right, value.
 #![tactic(auto)]
 
-use signs::{Operator, Value, number};
+use signs::{Operator, Reason, number};
 use std::io;
 use std::io::{BufWriter, Write};
 
@@ -9,10 +9,10 @@ const LEAST: i32 = -2147483648;
 
 const GREATEST: i32 = 2147483647;
 
-fn print_value<W: Write>(out: &mut W, v: Value) -> io::Result<()> {
+fn print_value<W: Write>(out: &mut W, v: Result<i32, Reason>) -> io::Result<()> {
     match v {
-        Value::Number(z) => printing::integer(out, z),
-        Value::Undefined(reason) => printing::undefined(out, reason),
+        Ok(z) => printing::integer(out, z),
+        Err(reason) => printing::undefined(out, reason),
     }
 }
 

@@ -1,6 +1,6 @@
 -- What the functions that judge a solution promise each other, over a prepared program whose names have the sizes ns and whose graph is g. No public
 -- contract cites these.
-use Rattle.std.specs.Prelude.{◌≡◌, ℕ, ◌+◌, Bool, true, false, not, ◌&&◌, List, length, replicate, slice_index}
+use Rattle.std.specs.Prelude.{◌≡◌, ℕ, ◌+◌, Bool, true, false, not, ◌&&◌, List, length, replicate, slice_index, Ok, Option}
 use Rattle.signs.specs.Lists.{any_of}
 use Rattle.program.specs.Asking.{ask_plain}
 use Rattle.program.specs.FirstSuch.{first_such}
@@ -9,8 +9,6 @@ use Rattle.program.specs.Meaning.{meaning}
 use Rattle.program.specs.Parts.Preceding.{plain}
 use Rattle.program.specs.Parts.Prepared.{Prepared, entries_in, action_in, decoded_meaning, is_guard_node, name_count_place}
 use Rattle.program.specs.declared.ActionNode.{ActionNode}
-use Rattle.program.specs.declared.First.{First}
-use Rattle.program.specs.declared.Validity.TheVariants.{Fit}
 use Rattle.semantics.specs.Step.{leaves}
 use Rattle.analysis.specs.Parts.Changing.{Alike}
 use Rattle.analysis.specs.Index.{may_be_negative}
@@ -47,7 +45,7 @@ unfoldable pub NeverNegative : List ℕ → List ℕ → ℕ → Type 0
 NeverNegative code graph e = may_be_negative widest (decoded_meaning (entries_in code graph) (action_in graph e)) ≡ false
 
 -- the first edge out of a node that a query picks
-unfoldable pub first_picked : List ℕ → Graph → List ℕ → Query → ℕ → List ℕ → First
+unfoldable pub first_picked : List ℕ → Graph → List ℕ → Query → ℕ → List ℕ → Option ℕ
 first_picked ns g solution q node ρ = first_such (length g.edges) (λ e. leaves g e node && picks ns g solution q ρ e)
 
 -- and of record k and the edges out of its node
@@ -85,7 +83,7 @@ pub record Searchable (code graph solution index : List ℕ) : Type 0 where
 -- what a query searches: a well-formed solution, for 42 with all of its records indexed
 pub record Searched (ns : List ℕ) (g : Graph) (code graph : List ℕ) (q : Query) (solution index : List ℕ) : Type 0 where
   pub prepared : Prepared ns g code graph
-  pub formed : solution_formed ns g solution ≡ Fit
+  pub formed : solution_formed ns g solution ≡ Ok tt
   pub filled : q ≡ MissingResult → Filled (length ns) solution index
 
 -- the verdict on two lists of whole, well-formed records

@@ -1,10 +1,9 @@
 -- What the functions that read and write records promise each other. No public contract cites these.
 use Rattle.std.specs.Prelude.{◌≡◌, ℕ, ◌+◌, ◌<◌, cond, List, length, nat_lt, slice_index}
 use Rattle.signs.specs.Lists.{tabulate}
-use Rattle.program.specs.Asking.{ask, then_ask}
+use Rattle.program.specs.Asking.{ask, then_ask, Validity}
 use Rattle.program.specs.File.{byte_at, word_at}
 use Rattle.program.specs.Parts.Prepared.{size_in}
-use Rattle.program.specs.declared.Validity.{Validity}
 use Rattle.analysis.specs.Records.{memory_formed}
 
 -- the bytes of so many names from a place on, in a list of 32: past the last name, 0

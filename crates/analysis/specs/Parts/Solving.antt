@@ -1,9 +1,9 @@
 -- How the solver's list lies in the buffer that is lent. No public contract cites these.
+use Rattle.program.specs.Asking.{Validity}
 use Rattle.std.specs.Prelude.{◌≡◌, ℕ, ◌*◌, ◌≤◌, List, length, drop}
 use mathlib.Core.List.{foldl}
 use Rattle.signs.specs.Lists.{tabulate, passing, indices}
 use Rattle.program.specs.Graph.{Graph}
-use Rattle.program.specs.declared.Validity.{Validity}
 use Rattle.semantics.specs.Step.{leaves}
 use Rattle.analysis.specs.Parts.Membership.{Indexed}
 use Rattle.analysis.specs.Records.{record_at}

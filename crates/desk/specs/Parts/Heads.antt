@@ -1,8 +1,7 @@
 -- How a call went, by what its operation answered. No public contract cites these.
-use Rattle.std.specs.Prelude.{ℕ, ◌+◌, ◌*◌, List, [], ◌∷◌, replicate}
+use Rattle.program.specs.Asking.{Validity}
+use Rattle.std.specs.Prelude.{ℕ, ◌+◌, ◌*◌, List, [], ◌∷◌, replicate, Err, Ok}
 use Rattle.signs.specs.Number.{reason_number}
-use Rattle.program.specs.declared.Validity.{Validity}
-use Rattle.program.specs.declared.Validity.TheVariants.{Fit, Refused}
 use Rattle.semantics.specs.declared.Ending.{Ending}
 use Rattle.semantics.specs.declared.Ending.TheVariants.{Arrived, Spent, Stuck, Refused as Halts}
 use Rattle.semantics.specs.declared.Outcome.{Outcome}
@@ -21,8 +20,8 @@ use Rattle.desk.specs.declared.Head.{Head}
 use Rattle.desk.specs.declared.Head.TheVariants.{Answered, Refused as Declined, Malformed}
 
 unfoldable pub validity_head : Validity → Head
-validity_head Fit = Answered 0
-validity_head (Refused x) = Declined x.number x.offset
+validity_head (Ok _) = Answered 0
+validity_head (Err x) = Declined x.number x.offset
 
 unfoldable pub outcome_head : Outcome → Head
 outcome_head Taken = Answered 0

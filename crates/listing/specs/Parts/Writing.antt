@@ -1,5 +1,5 @@
 -- What the functions that write the text promise each other. No public contract cites these.
-use Rattle.std.specs.Prelude.{◌≡◌, ℕ, ◌+◌, ◌*◌, ◌≤◌, length, take, drop}
+use Rattle.std.specs.Prelude.{◌≡◌, ℕ, ◌+◌, ◌*◌, ◌≤◌, length, take, drop, Ok}
 use mathlib.Core.List.{List, ◌++◌, flat_map}
 use Rattle.signs.specs.Lists.{tabulate}
 use Rattle.program.specs.File.{word_at, name_count, sizes}
@@ -7,7 +7,6 @@ use Rattle.program.specs.Graph.{graph}
 use Rattle.program.specs.Parts.DrawingParts.{over_at}
 use Rattle.program.specs.Questions.{validity}
 use Rattle.program.specs.declared.Construction.TheVariants.{Nondeterministic}
-use Rattle.program.specs.declared.Validity.TheVariants.{Fit}
 use Rattle.analysis.specs.Sheet.{Line, counts_line, record_line, index_line}
 use Rattle.analysis.specs.Verdict.{index_mark, marking}
 use Rattle.analysis.specs.declared.Marking.TheVariants.{Marked}
@@ -48,6 +47,6 @@ WellMarked s bytes = marking s bytes ≡ Marked (index_mark (sizes s) (graph Non
 
 -- a buffer that begins with so many records of a well-formed file, which come back marked, and room for their listing
 pub record Listed (s buffer : List ℕ) (count : ℕ) (out : List ℕ) : Type 0 where
-  pub fit : validity s ≡ Fit
+  pub fit : validity s ≡ Ok tt
   pub marked : WellMarked s (take ((2 + name_count s) * count) buffer)
   pub room : Room 0 (listing_text s buffer count) out

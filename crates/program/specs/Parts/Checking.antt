@@ -1,7 +1,7 @@
 -- What the checks of an entry's operands promise each other: questions 8 and 9 of an operand are answered as one number, and its use is counted
 -- on the way. No public contract cites these.
-use Rattle.std.specs.Prelude.{ℕ, Bool, true, not, ◌||◌, List, [], ◌∷◌, ◌≡◌, eqb}
-use Rattle.program.specs.Asking.{in_turn}
+use Rattle.std.specs.Prelude.{ℕ, Bool, true, not, ◌||◌, List, [], ◌∷◌, ◌≡◌, eqb, Ok}
+use Rattle.program.specs.Asking.{in_turn, Validity}
 use Rattle.program.specs.Parts.Counting.{Counted}
 use Rattle.program.specs.File.{entry_count, entry_offset, entry}
 use Rattle.program.specs.Kind.{Role}
@@ -10,8 +10,6 @@ use Rattle.program.specs.Questions.{named, points, entry_validity, table_validit
 use Rattle.program.specs.declared.Entry.{Entry}
 use Rattle.program.specs.declared.Table.{Table}
 use Rattle.program.specs.declared.Table.TheVariants.{Arithmetic, Boolean, Commands}
-use Rattle.program.specs.declared.Validity.{Validity}
-use Rattle.program.specs.declared.Validity.TheVariants.{Fit}
 
 -- the answer r to questions 8 and 9 of an operand x of entry n of table t: the number of the one that is answered no; where both are answered yes, the
 -- operand is counted
@@ -32,7 +30,7 @@ pub record Standing (s : List ℕ) (t : Table) (n : ℕ) (e : Entry) (at : ℕ) 
 -- the answer v to questions 7 to 9 of entry n of table t; where they are answered yes, its operands are counted
 pub record EntryChecked (s : List ℕ) (t : Table) (n : ℕ) (before after : List ℕ) (v : Validity) : Type 0 where
   pub valid : v ≡ entry_validity s t n
-  pub counted : v ≡ Fit → Counted before after (λ u k. entry_uses s u k t n)
+  pub counted : v ≡ Ok tt → Counted before after (λ u k. entry_uses s u k t n)
 
 -- and whether it may be a jump is noted, for question 20
 pub record EntryNoted (s : List ℕ) (t : Table) (n : ℕ) (before after old new : List ℕ) (v : Validity) : Type 0 where
@@ -42,14 +40,14 @@ pub record EntryNoted (s : List ℕ) (t : Table) (n : ℕ) (before after old new
 -- the same of all entries of a table
 pub record TableChecked (s : List ℕ) (t : Table) (before after : List ℕ) (v : Validity) : Type 0 where
   pub valid : v ≡ table_validity s t
-  pub counted : v ≡ Fit → Counted before after (λ u k. table_uses s u k t (entry_count s t))
+  pub counted : v ≡ Ok tt → Counted before after (λ u k. table_uses s u k t (entry_count s t))
 
 -- with the note for question 20
 pub record TableNoted (s : List ℕ) (t : Table) (before after old new : List ℕ) (v : Validity) : Type 0 where
   pub checked : TableChecked s t before after v
-  pub noted : v ≡ Fit → NotedTo s t (entry_count s t) old new
+  pub noted : v ≡ Ok tt → NotedTo s t (entry_count s t) old new
 
 -- the answer v to questions 7 to 11; where they are answered yes, it is noted whether a command may be a jump
 pub record EntriesNoted (s old new : List ℕ) (v : Validity) : Type 0 where
   pub valid : v ≡ in_turn (table_validity s Arithmetic ∷ table_validity s Boolean ∷ table_validity s Commands ∷ uses_validity s ∷ [])
-  pub noted : v ≡ Fit → NotedTo s Commands (entry_count s Commands) old new
+  pub noted : v ≡ Ok tt → NotedTo s Commands (entry_count s Commands) old new

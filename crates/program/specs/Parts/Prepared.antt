@@ -1,7 +1,8 @@
 -- A prepared program: what the crates above work on in place of a file. Two lists of numbers: `code` has the decoded expressions and the names,
 -- `graph` the decoded commands, the edges as numbers, the links of each node's edges and the counts. Document 01 has no word for it; `Prepared` says
 -- once what these are of a graph g whose names have the sizes ns.
-use Rattle.std.specs.Prelude.{◌≡◌, ℕ, zero, suc, ◌+◌, ◌*◌, ◌-◌, ◌≤◌, ◌<◌, Bool, true, false, cond, List, [], ◌∷◌, ◌++◌, T, eqb, ltb, ℤ, pos, length, get_or}
+use Rattle.program.specs.Asking.{Validity}
+use Rattle.std.specs.Prelude.{◌≡◌, ℕ, zero, suc, ◌+◌, ◌*◌, ◌-◌, ◌≤◌, ◌<◌, Bool, true, false, cond, List, [], ◌∷◌, ◌++◌, T, eqb, ltb, ℤ, pos, length, get_or, Ok}
 use Rattle.program.specs.File.{sizes, cell_count, first_cell}
 use Rattle.program.specs.Graph as drawn
 use Rattle.program.specs.Graph.{Graph, edge_at, done, selected}
@@ -22,8 +23,6 @@ use Rattle.program.specs.declared.CommandNode.TheVariants.{Skip, Assign as Assig
 use Rattle.program.specs.declared.Construction.{Construction}
 use Rattle.program.specs.declared.Entry.{Entry}
 use Rattle.program.specs.declared.Table.TheVariants.{Arithmetic, Boolean, Commands}
-use Rattle.program.specs.declared.Validity.{Validity}
-use Rattle.program.specs.declared.Validity.TheVariants.{Fit}
 
 -- the most entries of each table, names, cells, nodes and edges. What stands for an edge where there is none is the number of the most edges
 abbrev pub expressions_most : ℕ
@@ -310,9 +309,9 @@ pub record Following (graph : List ℕ) (node : ℕ) (P : ℕ → Type 0) (e : �
 -- what preparing a file by a construction replies, the answer to its questions, and leaves in the two arrays: where it is fit, its code and graph
 pub record PreparedFor (κ : Construction) (s : List ℕ) (r : Validity) (code graph : List ℕ) : Type 0 where
   pub asked : r ≡ validity s
-  pub prepared : r ≡ Fit → Prepared (sizes s) (drawn.graph κ s) code graph
+  pub prepared : r ≡ Ok tt → Prepared (sizes s) (drawn.graph κ s) code graph
 
 -- the same with the links
 pub record PreparedLinked (κ : Construction) (s : List ℕ) (r : Validity) (code graph : List ℕ) : Type 0 where
   pub prepared : PreparedFor κ s r code graph
-  pub linked : r ≡ Fit → Linked graph
+  pub linked : r ≡ Ok tt → Linked graph

@@ -5,7 +5,6 @@ ghost use Rattle.program.specs.File;
 ghost use Rattle.program.specs.Parts.Prepared.{expressions_most, code_length};
 ghost use Rattle.program.specs.Parts.Preparing as spec;
 ghost use Rattle.program.specs.Questions.{validity};
-ghost use Rattle.program.specs.declared.Validity.TheVariants.{Fit};
 
 use crate::prepared::CODE;
 use crate::{ArithNode, Layout, Span, file, prepared};
@@ -48,7 +47,7 @@ fn cells(size: u16) -> u16
 
 // The sizes and first cells of the names, the number of all cells, and that of the names.
 fn put_names(program: &[u8], names: u16, code: &mut [u16; CODE])
-    requires { (validity program.now ≡ Fit) × (names ≡ File.name_count program.now) × (length code.old ≡ code_length) }
+    requires { (validity program.now ≡ Ok tt) × (names ≡ File.name_count program.now) × (length code.old ≡ code_length) }
     ensures { spec.NamesDone program.now code.old code.new }
 {
     let mut total: u16 = 0;
@@ -99,7 +98,7 @@ fn put_cells(code: &mut [u16; CODE], count: u16)
 
 // The code of a well-formed program with this layout, into an array of zeros.
 pub(crate) fn put_code(program: &[u8], l: Layout, code: &mut [u16; CODE])
-    requires { (validity program.now ≡ Fit) × (l ≡ File.layout_of program.now) × (code.old ≡ replicate code_length 0) }
+    requires { (validity program.now ≡ Ok tt) × (l ≡ File.layout_of program.now) × (code.old ≡ replicate code_length 0) }
     ensures { spec.CodeIn program.now code.new }
 {
     let names = l.names;

@@ -10,7 +10,7 @@ ghost use Rattle.program.specs.Parts.Preparing.{GraphIn};
 ghost use Rattle.program.specs.Questions;
 
 use crate::prepared::{EDGE, EDGES, GRAPH, NODES, coding};
-use crate::{CommandNode, Construction, Jump, Layout, Validity, prepared};
+use crate::{CommandNode, Construction, Jump, Layout, prepared};
 
 // What a pen's part that counts edges is counted in: above it the next edge, below it the next fresh node.
 const PEN: u32 = 65536;
@@ -128,7 +128,7 @@ pub(crate) fn put_graph(
     l: Layout,
     graph: &mut [u16; GRAPH],
 )
-    requires { (Questions.validity program.now ≡ Validity.Fit) × (l ≡ File.layout_of program.now) × (graph.old ≡ replicate graph_length 0) }
+    requires { (Questions.validity program.now ≡ Ok tt) × (l ≡ File.layout_of program.now) × (graph.old ≡ replicate graph_length 0) }
     ensures { GraphIn construction program.now graph.new }
 {
     let commands = l.commands;

@@ -9,10 +9,10 @@ ghost use Rattle.program.specs.Kind;
 ghost use Rattle.program.specs.Questions;
 
 use super::{ask, jumps, operands};
-use crate::{Entry, Layout, Sort, Table, Validity, file};
+use crate::{Entry, Layout, Refusal, Sort, Table, file};
 
 // An entry with no operand.
-fn no_operand(e: Entry, at: usize) -> Validity
+fn no_operand(e: Entry, at: usize) -> Result<(), Refusal>
     ensures { (s : List ℕ) (t : Table) (n : ℕ) (counts : List ℕ) → spec.Standing s t n e at
         → Kind.shape t e.kind ≡ Kind.with Kind.Unused Kind.Unused Kind.Unused → spec.EntryChecked s t n counts counts result }
 {
@@ -31,7 +31,7 @@ fn one_reference(
     e: Entry,
     at: usize,
     uses: &mut [u8; 1024],
-) -> Validity
+) -> Result<(), Refusal>
     requires { Layouts.LaidOut s.now l }
     ensures { (t : Table) (n : ℕ) → limit ≡ Questions.limit s.now t n (Kind.table_of sort) → spec.Standing s.now t n e at
         → Kind.shape t e.kind ≡ Kind.with (Kind.To sort) Kind.Unused Kind.Unused
@@ -52,7 +52,7 @@ fn two_references(
     e: Entry,
     at: usize,
     uses: &mut [u8; 1024],
-) -> Validity
+) -> Result<(), Refusal>
     requires { Layouts.LaidOut s.now l }
     ensures { (t : Table) (n : ℕ) → limit ≡ Questions.limit s.now t n (Kind.table_of sort) → spec.Standing s.now t n e at
         → Kind.shape t e.kind ≡ Kind.with (Kind.To sort) (Kind.To sort) Kind.Unused
@@ -72,7 +72,7 @@ fn check_arithmetic(
     e: Entry,
     at: usize,
     uses: &mut [u8; 1024],
-) -> Validity
+) -> Result<(), Refusal>
     requires { Layouts.LaidOut s.now l × spec.Standing s.now Table.Arithmetic n e at }
     ensures { spec.EntryChecked s.now Table.Arithmetic n uses.old uses.new result }
 {
@@ -112,7 +112,7 @@ fn check_boolean(
     e: Entry,
     at: usize,
     uses: &mut [u8; 1024],
-) -> Validity
+) -> Result<(), Refusal>
     requires { Layouts.LaidOut s.now l × spec.Standing s.now Table.Boolean n e at }
     ensures { spec.EntryChecked s.now Table.Boolean n uses.old uses.new result }
 {
@@ -139,7 +139,7 @@ fn check_command(
     e: Entry,
     at: usize,
     uses: &mut [u8; 1024],
-) -> Validity
+) -> Result<(), Refusal>
     requires { Layouts.LaidOut s.now l × spec.Standing s.now Table.Commands n e at }
     ensures { spec.EntryChecked s.now Table.Commands n uses.old uses.new result }
 {
@@ -192,7 +192,7 @@ pub(super) fn check_entry(
     n: u16,
     uses: &mut [u8; 1024],
     jumps: &mut [u8; 1],
-) -> Validity
+) -> Result<(), Refusal>
     requires { Layouts.LaidOut s.now l × (start ≡ File.table_start s.now table) }
     ensures { spec.EntryNoted s.now table n uses.old uses.new jumps.old jumps.new result }
 {

@@ -8,7 +8,7 @@ ghost use Rattle.program.specs.Parts.Node;
 ghost use Rattle.program.specs.Questions;
 
 use super::ask;
-use crate::{CommandNode, Layout, Table, Validity, decoding, file};
+use crate::{CommandNode, Layout, Refusal, Table, decoding, file};
 
 // Notes a kind of command that may be a jump. Most programs have none, and then no tree is gone through.
 pub(super) fn note(jumps: &mut [u8; 1], kind: u8)
@@ -64,7 +64,7 @@ fn lowest(s: &[u8], start: usize, bound: u16, n: u16, found: u16) -> u16
 }
 
 // Question 20 of so many commands.
-fn check_lowest(s: &[u8], start: usize, count: u16) -> Validity
+fn check_lowest(s: &[u8], start: usize, count: u16) -> Result<(), Refusal>
     requires { spec.CommandsAt s.now start count }
     ensures { result ≡ Questions.jumps_validity s.now }
 {
@@ -73,13 +73,13 @@ fn check_lowest(s: &[u8], start: usize, count: u16) -> Validity
 }
 
 // Question 20, where questions 1 to 4 are answered yes and it is noted whether a command may be a jump.
-pub(super) fn check_jumps(s: &[u8], l: Layout, noted: u8) -> Validity
-    requires { (Questions.heads_validity s.now 0 File.program_fields ≡ Validity.Fit) × (l ≡ File.layout_of s.now)
+pub(super) fn check_jumps(s: &[u8], l: Layout, noted: u8) -> Result<(), Refusal>
+    requires { (Questions.heads_validity s.now 0 File.program_fields ≡ Ok tt) × (l ≡ File.layout_of s.now)
         × (noted ≡ 0 → (n : ℕ) → n < File.entry_count s.now Table.Commands → spec.may_jump s.now Table.Commands n ≡ false) }
     ensures { result ≡ Questions.jumps_validity s.now }
 {
     if noted == 0 {
-        return Validity::Fit;
+        return Ok(());
     }
     let span = l.commands;
     check_lowest(s, span.start, span.count)

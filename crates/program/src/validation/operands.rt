@@ -10,7 +10,7 @@ ghost use Rattle.program.specs.Kind;
 ghost use Rattle.program.specs.Questions;
 
 use super::{ask, uses};
-use crate::{Layout, Sort, Table, Validity, file, kinds};
+use crate::{Layout, Refusal, Sort, Table, file, kinds};
 
 // An unused operand is zero.
 pub(super) fn unused(x: u16) -> u8
@@ -100,7 +100,7 @@ fn any_answer(number: u8, p: u8, q: u8, r: u8) -> bool
 }
 
 // Questions 8 and 9 of the entry at a place, by the answers of its operands.
-pub(super) fn settled(p: u8, q: u8, r: u8, at: usize) -> Validity
+pub(super) fn settled(p: u8, q: u8, r: u8, at: usize) -> Result<(), Refusal>
     ensures { result ≡ Asking.in_turn
         (Asking.ask (not (spec.any_answer 8 p q r)) 8 at ∷ Asking.ask (not (spec.any_answer 9 p q r)) 9 at ∷ []) }
 {

@@ -1,6 +1,6 @@
 -- How the evaluators hand on what an expression or a condition gives: as one number. Document 01 has no word for it; what such a number stands for
 -- is said here, once.
-use Rattle.std.specs.Prelude.{◌≡◌, ℕ, ◌+◌, ◌-◌, ◌<◌, Bool, false, cond, ◌||◌, List, [], ◌∷◌, T, eqb, ltb, ℤ, pos, negsuc, nat_abs, get_or}
+use Rattle.std.specs.Prelude.{◌≡◌, ℕ, ◌+◌, ◌-◌, ◌<◌, Bool, false, cond, ◌||◌, List, [], ◌∷◌, T, eqb, ltb, ℤ, pos, negsuc, nat_abs, get_or, Err, Ok}
 use Rattle.std.specs.Int.Signed.{le_z, non_neg}
 use Rattle.signs.specs.Number.{in_range}
 use Rattle.signs.specs.declared.Reason.{Reason}
@@ -11,12 +11,8 @@ use Rattle.program.specs.Parts.Sorted.{arith_named, boolean_named, meaning_named
 use Rattle.program.specs.Syntax.{Arith, Boolean}
 use Rattle.semantics.specs.Action.{effect, after, is_defined}
 use Rattle.semantics.specs.Parts.Cells.{Loaded}
-use Rattle.semantics.specs.Expression.{fault, Place, at, nowhere, place_of, value, truth_in}
+use Rattle.semantics.specs.Expression.{fault, Place, at, nowhere, place_of, value, truth_in, Evaluation, Truth}
 use Rattle.semantics.specs.declared.Effect.{Effect}
-use Rattle.semantics.specs.declared.Evaluation.{Evaluation}
-use Rattle.semantics.specs.declared.Evaluation.TheVariants.{Number, Undefined}
-use Rattle.semantics.specs.declared.Truth.{Truth}
-use Rattle.semantics.specs.declared.Truth.TheVariants.{Known, Undefined as Unknown}
 
 -- the reason with a number of document 01
 unfoldable pub reason_numbered : ℕ → Reason
@@ -28,13 +24,13 @@ reason_numbered k =
 
 -- what a number stands for: below 2^32 itself, else the reason whose number is over 2^32
 unfoldable pub evaluated : ℤ → Evaluation
-evaluated (pos n) = cond (ltb n 4294967296) (Number (pos n)) (Undefined (fault (reason_numbered (n - 4294967296))))
-evaluated (negsuc n) = Number (negsuc n)
+evaluated (pos n) = cond (ltb n 4294967296) (Ok (pos n)) (Err (fault (reason_numbered (n - 4294967296))))
+evaluated (negsuc n) = Ok (negsuc n)
 
 -- and as a truth value: 1 for true, any other number below 2^32 for false
 unfoldable pub decided : ℤ → Truth
-decided (pos n) = cond (ltb n 4294967296) (Known (eqb n 1)) (Unknown (fault (reason_numbered (n - 4294967296))))
-decided (negsuc n) = Known (eqb 0 1)
+decided (pos n) = cond (ltb n 4294967296) (Ok (eqb n 1)) (Err (fault (reason_numbered (n - 4294967296))))
+decided (negsuc n) = Ok (eqb 0 1)
 
 -- a number that is handed on: a value, or a reason
 unfoldable pub is_code : ℤ → Bool

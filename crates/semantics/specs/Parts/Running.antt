@@ -1,7 +1,6 @@
 -- What the functions of the budgeted run ask of each other. No public contract cites these.
-use Rattle.std.specs.Prelude.{◌≡◌, cond, List, ℕ, ◌<◌, eqb, ltb, ℤ}
+use Rattle.std.specs.Prelude.{◌≡◌, cond, List, ℕ, ◌<◌, eqb, ltb, ℤ, None, Some}
 use Rattle.program.specs.Graph.{Graph}
-use Rattle.program.specs.declared.First.TheVariants.{At, Nothing}
 use Rattle.semantics.specs.Action.{after}
 use Rattle.semantics.specs.Budget.{lowest_defined, Result, run_from}
 use Rattle.semantics.specs.Parts.Cells.{NumbersIn}
@@ -13,7 +12,7 @@ use Rattle.semantics.specs.declared.Run.{Run}
 
 -- taking the lowest defined edge out of a node: its number and the memory after it; 255 and the memory as it was, where there is none
 pub record Lowest (ns : List ℕ) (g : Graph) (node : ℕ) (m : List ℤ) (e : ℕ) (m' : List ℤ) : Type 0 where
-  pub lowest : lowest_defined ns g node m ≡ cond (ltb e 255) (At e) Nothing
+  pub lowest : lowest_defined ns g node m ≡ cond (ltb e 255) (Some e) None
   pub memory : m' ≡ cond (ltb e 255) (after m (edge_effect ns g m e)) m
 
 -- how a run ends that goes no further: at node 1, or else with its budget used up

@@ -7,10 +7,9 @@ use Rattle.program.specs.Parts.Sorted.{boolean_named}
 use Rattle.program.specs.Syntax.{Boolean, negation}
 use Rattle.program.specs.Tree.{Entries}
 use Rattle.semantics.specs.Action.{pass, is_defined}
-use Rattle.semantics.specs.Expression.{conjoin, truth_in}
+use Rattle.semantics.specs.Expression.{conjoin, truth_in, Truth}
 use Rattle.semantics.specs.Parts.Cells.{Loaded}
 use Rattle.semantics.specs.Parts.Coding.{decided}
-use Rattle.semantics.specs.declared.Truth.{Truth}
 
 -- whether a condition holds: it is true and not undefined
 unfoldable pub holds_in : List ℕ → List ℤ → Boolean → Bool

@@ -11,17 +11,17 @@ unfolding mark_row
 whole s solution k = record { value = k; numbers = ap marking_numbers k }
 
 pub put-requires : goal.put-requires
-put-requires c = (c.prepare_linked-v.ensures.prepared.prepared c.in-Fit.is).coded.long
+put-requires c = (c.prepare_linked-v.ensures.prepared.prepared c.in-Ok.is).coded.long
 
 pub mark_prepared-requires : goal.mark_prepared-requires
-mark_prepared-requires c = ready c.prepare_linked-v.ensures c.in-Fit.is c.put.ensures
+mark_prepared-requires c = ready c.prepare_linked-v.ensures c.in-Ok.is c.put.ensures
 
-pub returns-in-Fit : goal.returns-in-Fit
-returns-in-Fit c =
+pub returns-in-Ok : goal.returns-in-Ok
+returns-in-Ok c =
     let p = c.prepare_linked-v.ensures in
-    whole _ _ (c.mark_prepared.ensures _ _ (still p c.in-Fit.is c.put.ensures) ∙ sym (marking_marked _ _ (sym p.prepared.asked ∙ c.in-Fit.is)))
+    whole _ _ (c.mark_prepared.ensures _ _ (still p c.in-Ok.is c.put.ensures) ∙ sym (marking_marked _ _ (sym p.prepared.asked ∙ c.in-Ok.is)))
 
-pub returns-in-Refused : goal.returns-in-Refused
-returns-in-Refused c =
+pub returns-in-Err : goal.returns-in-Err
+returns-in-Err c =
     let p = c.prepare_linked-v.ensures.prepared in
-    whole _ _ (sym (marking_refused _ _ _ (sym p.asked ∙ c.in-Refused.is)))
+    whole _ _ (sym (marking_refused _ _ _ (sym p.asked ∙ c.in-Err.is)))

@@ -18,14 +18,14 @@ pub judge_results-requires : goal.judge_results-requires
 judge_results-requires c =
     record { ready = c.requires.0; whole = c.requires.2; count = _; indexed = rw c.name_count-names.ensures at c.put_index.ensures }
 
-pub returns-in-At : goal.returns-in-At
+pub returns-in-Some : goal.returns-in-Some
 unfolding formed_verdict verdict_by
-returns-in-At c ns g p fit =
-    rw (sym (c.first_initial-missing.ensures ns (sym (c.name_count-names.ensures ∙ p.coded.count))) ∙ c.in-At.is)
+returns-in-Some c ns g p fit =
+    rw (sym (c.first_initial-missing.ensures ns (sym (c.name_count-names.ensures ∙ p.coded.count))) ∙ c.in-Some.is)
 
-pub returns-in-Nothing : goal.returns-in-Nothing
+pub returns-in-None : goal.returns-in-None
 unfolding formed_verdict verdict_by
-returns-in-Nothing c ns g p fit =
+returns-in-None c ns g p fit =
     let names = c.name_count-names.ensures ∙ p.coded.count in
-    rw (sym (c.first_initial-missing.ensures ns (sym names)) ∙ c.in-Nothing.is)
+    rw (sym (c.first_initial-missing.ensures ns (sym names)) ∙ c.in-None.is)
     (c.judge_results.ensures ns g (record { prepared = p; formed = fit; filled = λ q. rw (← names) c.put_index.ensures }))

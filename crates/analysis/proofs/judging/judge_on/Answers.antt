@@ -4,17 +4,17 @@ use Rattle.analysis.proofs.Judged.{ready, still, verdict_judged, verdict_refused
 use Rattle.analysis.proofs.judging.judge_on.Goals as goal
 
 pub put-requires : goal.put-requires
-put-requires c = (c.prepare_linked-v.ensures.prepared.prepared c.in-Fit.is).coded.long
+put-requires c = (c.prepare_linked-v.ensures.prepared.prepared c.in-Ok.is).coded.long
 
 pub judge_prepared-requires : goal.judge_prepared-requires
-judge_prepared-requires c = ready c.prepare_linked-v.ensures c.in-Fit.is c.put.ensures
+judge_prepared-requires c = ready c.prepare_linked-v.ensures c.in-Ok.is c.put.ensures
 
-pub returns-in-Fit : goal.returns-in-Fit
-returns-in-Fit c =
+pub returns-in-Ok : goal.returns-in-Ok
+returns-in-Ok c =
     let p = c.prepare_linked-v.ensures in
-    promised _ _ _ _ (c.judge_prepared.ensures _ _ (still p c.in-Fit.is c.put.ensures) ∙ sym (verdict_judged _ _ _ _ (sym p.prepared.asked ∙ c.in-Fit.is)))
+    promised _ _ _ _ (c.judge_prepared.ensures _ _ (still p c.in-Ok.is c.put.ensures) ∙ sym (verdict_judged _ _ _ _ (sym p.prepared.asked ∙ c.in-Ok.is)))
 
-pub returns-in-Refused : goal.returns-in-Refused
-returns-in-Refused c =
+pub returns-in-Err : goal.returns-in-Err
+returns-in-Err c =
     let p = c.prepare_linked-v.ensures.prepared in
-    promised _ _ _ _ (sym (verdict_refused _ _ _ _ _ (sym p.asked ∙ c.in-Refused.is)))
+    promised _ _ _ _ (sym (verdict_refused _ _ _ _ _ (sym p.asked ∙ c.in-Err.is)))

@@ -17,22 +17,22 @@ judge_formed-requires c =
     let whole = both_whole_lem _ _ _ _ _ c.both_whole.ensures _ c.ask-whole.ensures c.in_default.is in
     (c.requires, rw (← c.name_count-names.ensures) whole.0, rw (← c.name_count-names.ensures) whole.1)
 
-pub returns-in-Refused : goal.returns-in-Refused
+pub returns-in-Err : goal.returns-in-Err
 unfolding verdict_over verdict_unless_refused
-returns-in-Refused c ns g p = rw (asked (goal.at.returns-in-Refused c).After-ask-whole p.coded ∙ c.in-Refused.is)
+returns-in-Err c ns g p = rw (asked (goal.at.returns-in-Err c).After-ask-whole p.coded ∙ c.in-Err.is)
 
-pub returns-in-Refused-first : goal.returns-in-Refused-first
+pub returns-in-Err-first : goal.returns-in-Err-first
 unfolding verdict_over verdict_unless_refused unless_malformed
-returns-in-Refused-first c ns g p =
-    rw (asked (goal.at.returns-in-Refused-first c).After-ask-whole p.coded ∙ c.in_default.is, sym (c.initial_formed-first.ensures ns p.coded) ∙ c.in-Refused-first.is, c.malformed.ensures)
+returns-in-Err-first c ns g p =
+    rw (asked (goal.at.returns-in-Err-first c).After-ask-whole p.coded ∙ c.in_default.is, sym (c.initial_formed-first.ensures ns p.coded) ∙ c.in-Err-first.is, c.malformed.ensures)
 
-pub returns-in-Fit : goal.returns-in-Fit
+pub returns-in-Ok : goal.returns-in-Ok
 unfolding verdict_over verdict_unless_refused unless_malformed formed_verdict
-returns-in-Fit c ns g p =
-    let formed = sym (c.solution_formed-second.ensures ns g p.coded (sym (c.node_count.ensures ∙ p.nodes))) ∙ c.in-Fit.is in
-    rw (asked (goal.at.returns-in-Fit c).After-ask-whole p.coded ∙ c.in_default.is, sym (c.initial_formed-first.ensures ns p.coded) ∙ c.in_default-first.is, formed) (c.judge_formed.ensures ns g p formed)
+returns-in-Ok c ns g p =
+    let formed = sym (c.solution_formed-second.ensures ns g p.coded (sym (c.node_count.ensures ∙ p.nodes))) ∙ c.in-Ok.is in
+    rw (asked (goal.at.returns-in-Ok c).After-ask-whole p.coded ∙ c.in_default.is, sym (c.initial_formed-first.ensures ns p.coded) ∙ c.in_default-first.is, formed) (c.judge_formed.ensures ns g p formed)
 
-pub returns-in-Refused-second : goal.returns-in-Refused-second
+pub returns-in-Err-second : goal.returns-in-Err-second
 unfolding verdict_over verdict_unless_refused unless_malformed
-returns-in-Refused-second c ns g p =
-    rw (asked (goal.at.returns-in-Refused-second c).After-ask-whole p.coded ∙ c.in_default.is, sym (c.initial_formed-first.ensures ns p.coded) ∙ c.in_default-first.is, sym (c.solution_formed-second.ensures ns g p.coded (sym (c.node_count.ensures ∙ p.nodes))) ∙ c.in-Refused-second.is, c.malformed-in-Refused-second.ensures)
+returns-in-Err-second c ns g p =
+    rw (asked (goal.at.returns-in-Err-second c).After-ask-whole p.coded ∙ c.in_default.is, sym (c.initial_formed-first.ensures ns p.coded) ∙ c.in_default-first.is, sym (c.solution_formed-second.ensures ns g p.coded (sym (c.node_count.ensures ∙ p.nodes))) ∙ c.in-Err-second.is, c.malformed-in-Err-second.ensures)

@@ -17,17 +17,17 @@ pub mark_formed-requires : goal.mark_formed-requires
 mark_formed-requires c =
     (c.requires, rw (← c.name_count-names.ensures) (list_whole _ _ _ c.whole.ensures _ c.ask-whole.ensures c.in_default.is))
 
-pub returns-in-Refused : goal.returns-in-Refused
+pub returns-in-Err : goal.returns-in-Err
 unfolding marked marking_by
-returns-in-Refused c ns g p = rw (asked (goal.at.returns-in-Refused c).After-ask-whole p.coded ∙ c.in-Refused.is)
+returns-in-Err c ns g p = rw (asked (goal.at.returns-in-Err c).After-ask-whole p.coded ∙ c.in-Err.is)
 
-pub returns-in-Fit : goal.returns-in-Fit
+pub returns-in-Ok : goal.returns-in-Ok
 unfolding marked marking_by
-returns-in-Fit c ns g p =
-    let formed = sym (c.solution_formed-formed.ensures ns g p.coded (sym (c.node_count.ensures ∙ p.nodes))) ∙ c.in-Fit.is in
-    rw (asked (goal.at.returns-in-Fit c).After-ask-whole p.coded ∙ c.in_default.is, formed, c.mark_formed.ensures ns g p formed)
+returns-in-Ok c ns g p =
+    let formed = sym (c.solution_formed-formed.ensures ns g p.coded (sym (c.node_count.ensures ∙ p.nodes))) ∙ c.in-Ok.is in
+    rw (asked (goal.at.returns-in-Ok c).After-ask-whole p.coded ∙ c.in_default.is, formed, c.mark_formed.ensures ns g p formed)
 
-pub returns-in-Refused-formed : goal.returns-in-Refused-formed
+pub returns-in-Err-formed : goal.returns-in-Err-formed
 unfolding marked marking_by
-returns-in-Refused-formed c ns g p =
-    rw (asked (goal.at.returns-in-Refused-formed c).After-ask-whole p.coded ∙ c.in_default.is, sym (c.solution_formed-formed.ensures ns g p.coded (sym (c.node_count.ensures ∙ p.nodes))) ∙ c.in-Refused-formed.is, c.malformed.ensures)
+returns-in-Err-formed c ns g p =
+    rw (asked (goal.at.returns-in-Err-formed c).After-ask-whole p.coded ∙ c.in_default.is, sym (c.solution_formed-formed.ensures ns g p.coded (sym (c.node_count.ensures ∙ p.nodes))) ∙ c.in-Err-formed.is, c.malformed.ensures)

@@ -54,10 +54,10 @@ picked c ns g x =
     let memory = rw c.name_count-names.ensures at c.read_memory.ensures in
     rw (node_read x _ h _ node, ← c.first_picked-found.ensures ns g _ x (memory_read x _ h _ memory) (node_low x _ h _ node))
 
-pub returns-in-At : goal.returns-in-At
+pub returns-in-Some : goal.returns-in-Some
 unfolding spot_at
-returns-in-At c ns g x = rw (← picked (goal.at.returns-in-At c).After-first_picked-found ns g x, c.in-At.is)
+returns-in-Some c ns g x = rw (← picked (goal.at.returns-in-Some c).After-first_picked-found ns g x, c.in-Some.is)
 
-pub returns-in-Nothing : goal.returns-in-Nothing
+pub returns-in-None : goal.returns-in-None
 unfolding spot_at
-returns-in-Nothing c ns g x = rw (← picked (goal.at.returns-in-Nothing c).After-first_picked-found ns g x, c.in-Nothing.is)
+returns-in-None c ns g x = rw (← picked (goal.at.returns-in-None c).After-first_picked-found ns g x, c.in-None.is)

@@ -5,17 +5,17 @@ use Rattle.analysis.proofs.Judged.{ready, still}
 use Rattle.analysis.proofs.solver.solve_on.Goals as goal
 
 pub put-requires : goal.put-requires
-put-requires c = (c.prepare_linked-v.ensures.prepared.prepared c.in-Fit.is).coded.long
+put-requires c = (c.prepare_linked-v.ensures.prepared.prepared c.in-Ok.is).coded.long
 
 pub solve_prepared-requires : goal.solve_prepared-requires
-solve_prepared-requires c = ready c.prepare_linked-v.ensures c.in-Fit.is c.put.ensures
+solve_prepared-requires c = ready c.prepare_linked-v.ensures c.in-Ok.is c.put.ensures
 
-pub returns-in-Fit : goal.returns-in-Fit
-returns-in-Fit c =
+pub returns-in-Ok : goal.returns-in-Ok
+returns-in-Ok c =
     let p = c.prepare_linked-v.ensures in
-    answered_all _ _ _ _ (answered_asked (validity_fit _ _ (sym p.prepared.asked ∙ c.in-Fit.is)) (c.solve_prepared.ensures _ _ (still p c.in-Fit.is c.put.ensures)))
+    answered_all _ _ _ _ (answered_asked (validity_fit _ _ (sym p.prepared.asked ∙ c.in-Ok.is)) (c.solve_prepared.ensures _ _ (still p c.in-Ok.is c.put.ensures)))
 
-pub returns-in-Refused : goal.returns-in-Refused
-returns-in-Refused c =
+pub returns-in-Err : goal.returns-in-Err
+returns-in-Err c =
     let p = c.prepare_linked-v.ensures.prepared in
-    answered_all _ _ _ _ (answered_refused _ (validity_refused _ _ _ (sym p.asked ∙ c.in-Refused.is)) c.refused.ensures)
+    answered_all _ _ _ _ (answered_refused _ (validity_refused _ _ _ (sym p.asked ∙ c.in-Err.is)) c.refused.ensures)

@@ -11,19 +11,19 @@ use Rattle.analysis.proofs.solver.solve_prepared.Goals.{After-ask-whole}
 asked : (c : After-ask-whole) {ns : List ℕ} → Coded ns c.args.code.now → initial_whole ns c.args.initial.now ≡ c.ask-whole.result
 asked c coded = whole_asked coded _ c.name_count-names.ensures c.whole.ensures c.ask-whole.ensures
 
-pub returns-in-Refused : goal.returns-in-Refused
-returns-in-Refused c ns g x =
-    answered_refused _ (asked (goal.at.returns-in-Refused c).After-ask-whole x.coded ∙ c.in-Refused.is) c.refused.ensures
+pub returns-in-Err : goal.returns-in-Err
+returns-in-Err c ns g x =
+    answered_refused _ (asked (goal.at.returns-in-Err c).After-ask-whole x.coded ∙ c.in-Err.is) c.refused.ensures
 
-pub returns-in-Fit : goal.returns-in-Fit
-returns-in-Fit c ns g x =
-    answered_asked (asked (goal.at.returns-in-Fit c).After-ask-whole x.coded ∙ c.in_default.is)
-    (answered_formed (sym (c.initial_formed-formed.ensures ns x.coded) ∙ c.in-Fit.is) (c.solve_formed.ensures ns g x))
+pub returns-in-Ok : goal.returns-in-Ok
+returns-in-Ok c ns g x =
+    answered_asked (asked (goal.at.returns-in-Ok c).After-ask-whole x.coded ∙ c.in_default.is)
+    (answered_formed (sym (c.initial_formed-formed.ensures ns x.coded) ∙ c.in-Ok.is) (c.solve_formed.ensures ns g x))
 
-pub returns-in-Refused-formed : goal.returns-in-Refused-formed
-returns-in-Refused-formed c ns g x =
-    answered_asked (asked (goal.at.returns-in-Refused-formed c).After-ask-whole x.coded ∙ c.in_default.is)
-    (answered_malformed _ (sym (c.initial_formed-formed.ensures ns x.coded) ∙ c.in-Refused-formed.is) c.malformed.ensures)
+pub returns-in-Err-formed : goal.returns-in-Err-formed
+returns-in-Err-formed c ns g x =
+    answered_asked (asked (goal.at.returns-in-Err-formed c).After-ask-whole x.coded ∙ c.in_default.is)
+    (answered_malformed _ (sym (c.initial_formed-formed.ensures ns x.coded) ∙ c.in-Err-formed.is) c.malformed.ensures)
 
 pub whole-requires : goal.whole-requires
 whole-requires c =

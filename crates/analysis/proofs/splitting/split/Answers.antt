@@ -1,8 +1,8 @@
 -- `splitting::split`: by the validity.
+use Rattle.program.specs.Asking.{Validity}
 use Rattle.std.proofs.Common.{◌≡◌, ℕ, List, sym, refl, ap, ◌∙◌}
 use Rattle.program.specs.File.{sizes}
 use Rattle.program.specs.Questions.{validity}
-use Rattle.program.specs.declared.Validity.{Validity}
 use Rattle.program.proofs.Laws.{sizes_length}
 use Rattle.analysis.specs.Records.{record_width}
 use Rattle.analysis.specs.Splitter.{split_by, split, split_numbers, split_row}
@@ -16,11 +16,11 @@ both s place e p =
     let q = p ∙ ap (λ (v : Validity). split_by v (record_width (sizes s)) place) (sym e) in
     record { value = q; numbers = ap split_numbers q }
 
-pub returns-in-Fit : goal.returns-in-Fit
+pub returns-in-Ok : goal.returns-in-Ok
 unfolding record_width
-returns-in-Fit c =
-    both _ _ (sym c.validate-v.ensures.value ∙ c.in-Fit.is) (rw (c.split_by.ensures, c.name_count.ensures, sizes_length _))
+returns-in-Ok c =
+    both _ _ (sym c.validate-v.ensures.value ∙ c.in-Ok.is) (rw (c.split_by.ensures, c.name_count.ensures, sizes_length _))
 
-pub returns-in-Refused : goal.returns-in-Refused
+pub returns-in-Err : goal.returns-in-Err
 unfolding split_by
-returns-in-Refused c = both _ _ (sym c.validate-v.ensures.value ∙ c.in-Refused.is) refl
+returns-in-Err c = both _ _ (sym c.validate-v.ensures.value ∙ c.in-Err.is) refl

@@ -3,12 +3,12 @@ use Rattle.desk.specs.Parts.Heads.{validity_head}
 use Rattle.desk.proofs.files.of_validity.Goals as goal
 
 pub overflow_cast-result : goal.overflow_cast-result
-overflow_cast-result c = record { fits = c.requires _ c.in-Refused.is }
+overflow_cast-result c = record { fits = c.requires _ c.in-Err.is }
 
-pub returns-in-Fit : goal.returns-in-Fit
+pub returns-in-Ok : goal.returns-in-Ok
 unfolding validity_head
-returns-in-Fit c = rw c.in-Fit.is
+returns-in-Ok c = rw c.in-Ok.is
 
-pub returns-in-Refused : goal.returns-in-Refused
+pub returns-in-Err : goal.returns-in-Err
 unfolding validity_head
-returns-in-Refused c = rw c.in-Refused.is
+returns-in-Err c = rw c.in-Err.is

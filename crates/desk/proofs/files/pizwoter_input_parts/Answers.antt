@@ -1,4 +1,5 @@
 -- `pizwoter_input_parts`: too short, or by the answer's cases. The parts of a fit input are short.
+use Rattle.std.specs.Prelude.{Ok}
 use Prim.Native.Nat.{◌+◌}
 use mathlib.Core.Path.{◌≡◌, refl, sym, ◌∙◌}
 use mathlib.Core.List.{[], ◌∷◌, map}
@@ -6,42 +7,41 @@ use native.Mathlib.Omega.{arith}
 use lib.IntN.{pos}
 use lib.ListN.{length}
 use Rattle.program.specs.Questions.{input_validity, input_row}
-use Rattle.program.specs.declared.Validity.TheVariants.{Fit}
 use Rattle.desk.specs.Rows.{parts}
 use Rattle.desk.proofs.Heads.{parts_fit_head, parts_head}
 use Rattle.desk.proofs.Parts.{program_short, initial_short}
 use Rattle.desk.proofs.Places.{input_narrow}
 use Rattle.desk.proofs.Replies.{short_told, told_by}
 use Rattle.desk.proofs.files.pizwoter_input_parts.Goals as goal
-use Rattle.desk.proofs.files.pizwoter_input_parts.Goals.{In-Fit}
+use Rattle.desk.proofs.files.pizwoter_input_parts.Goals.{In-Ok}
 
 pub returns-then-reply-lt-PARTS : goal.returns-then-reply-lt-PARTS
 returns-then-reply-lt-PARTS c = short_told _ _ (omega (arith, c.if-reply-lt-PARTS.true)) _
 
 -- the input is fit
-fit : (c : In-Fit) → input_validity c.args.input.now ≡ Fit
-fit c = sym c.validate_input-v.ensures.value ∙ c.in-Fit.is
+fit : (c : In-Ok) → input_validity c.args.input.now ≡ Ok tt
+fit c = sym c.validate_input-v.ensures.value ∙ c.in-Ok.is
 
 pub overflow_cast-program : goal.overflow_cast-program
-overflow_cast-program c = record { fits = omega (arith, program_short _ (fit (goal.at.overflow_cast-program c).In-Fit) c.program_part.ensures) }
+overflow_cast-program c = record { fits = omega (arith, program_short _ (fit (goal.at.overflow_cast-program c).In-Ok) c.program_part.ensures) }
 
 pub overflow_cast-initial : goal.overflow_cast-initial
-overflow_cast-initial c = record { fits = omega (arith, initial_short _ (fit (goal.at.overflow_cast-initial c).In-Fit) c.initial_part.ensures) }
+overflow_cast-initial c = record { fits = omega (arith, initial_short _ (fit (goal.at.overflow_cast-initial c).In-Ok) c.initial_part.ensures) }
 
 pub overflow_add-program : goal.overflow_add-program
-overflow_add-program c = record { fits = omega (arith, program_short _ (fit (goal.at.overflow_add-program c).In-Fit) c.program_part.ensures) }
+overflow_add-program c = record { fits = omega (arith, program_short _ (fit (goal.at.overflow_add-program c).In-Ok) c.program_part.ensures) }
 
 pub overflow_cast-x : goal.overflow_cast-x
-overflow_cast-x c = record { fits = input_narrow _ c.validate_input-v.ensures.value _ c.in-Refused.is }
+overflow_cast-x c = record { fits = input_narrow _ c.validate_input-v.ensures.value _ c.in-Err.is }
 
-pub returns-in-Fit : goal.returns-in-Fit
+pub returns-in-Ok : goal.returns-in-Ok
 unfolding parts input_row
-returns-in-Fit c =
+returns-in-Ok c =
     told_by (omega (arith, c.if-reply-lt-PARTS.false)) (map pos (length c.program_part.result.now ∷ (length c.program_part.result.now + 3) ∷ length c.initial_part.result.now ∷ [])) c.put.type_inv
-    (rw (fit (goal.at.returns-in-Fit c).In-Fit, c.program_part.ensures, c.initial_part.ensures) (parts_fit_head _ _)) refl c.put.ensures
+    (rw (fit (goal.at.returns-in-Ok c).In-Ok, c.program_part.ensures, c.initial_part.ensures) (parts_fit_head _ _)) refl c.put.ensures
 
-pub returns-in-Refused : goal.returns-in-Refused
+pub returns-in-Err : goal.returns-in-Err
 unfolding parts input_row
-returns-in-Refused c =
-    told_by (omega (arith, c.if-reply-lt-PARTS.false)) (map pos (0 ∷ 0 ∷ 0 ∷ [])) c.put-in-Refused.type_inv
-    (rw (sym c.validate_input-v.ensures.value ∙ c.in-Refused.is) (parts_head _ _ _)) refl c.put-in-Refused.ensures
+returns-in-Err c =
+    told_by (omega (arith, c.if-reply-lt-PARTS.false)) (map pos (0 ∷ 0 ∷ 0 ∷ [])) c.put-in-Err.type_inv
+    (rw (sym c.validate_input-v.ensures.value ∙ c.in-Err.is) (parts_head _ _ _)) refl c.put-in-Err.ensures

@@ -1,4 +1,5 @@
 -- `class::ask_each`: every mark passed over is in the range.
+use Rattle.std.specs.Prelude.{Ok}
 use borrow.Author.Rules.{rules}
 use borrow.Author.Tests.{not-true, not-false}
 use mathlib.Core.Bool.{true, false}
@@ -11,7 +12,6 @@ use mir.ValLaws.{to_z-of_z}
 use Rattle.program.proofs.Laws.{each_stops, each_goes_on}
 use Rattle.program.specs.Asking.{ask, ask_each, is_refused}
 use Rattle.program.specs.FirstSuch.{first_of}
-use Rattle.program.specs.declared.Validity.TheVariants.{Fit}
 use Rattle.figures.specs.Figures.{mark_validity}
 use Rattle.figures.proofs.class.ask_each.Goals as goal
 use Rattle.figures.proofs.class.ask_each.Goals.{After-in_range}
@@ -39,7 +39,7 @@ loop-i-preserved c =
     let marks = c.args.marks.now in (
       search rules,
       rw add-one
-          (each_goes_on (mark_validity marks) c.loop-i.i Fit false c.loop-i.invariant.1
+          (each_goes_on (mark_validity marks) c.loop-i.i (Ok tt) false c.loop-i.invariant.1
           (sym (tested (goal.at.loop-i-preserved c).After-in_range ∙ rw (not-false c.in_range.result c.if-not-in_range.false-raw))) refl refl),
     )
 

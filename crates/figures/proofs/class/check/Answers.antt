@@ -1,11 +1,11 @@
 -- `class::check`: 23 first; where all marks are in the range, each is answered yes.
+use Rattle.std.specs.Prelude.{Ok}
 use borrow.Author.Tests.{not-true, not-false}
 use mathlib.Core.Path.{◌≡◌, sym}
 use native.Mathlib.Omega.{arith}
 use lib.ListN.{length}
 use Rattle.program.proofs.Asking.{passed}
 use Rattle.program.specs.Asking.{ask, then_ask}
-use Rattle.program.specs.declared.Validity.TheVariants.{Fit}
 use Rattle.figures.specs.Figures.{list_validity}
 use Rattle.figures.specs.Totals.{countable}
 use Rattle.figures.proofs.Joint.{each_in_range}
@@ -17,7 +17,7 @@ unfolding list_validity ask then_ask
 returns-then-not-countable c = rw (← c.countable.ensures, not-true c.countable.result c.if-not-countable.true-raw)
 
 -- the first question was answered yes
-counted : (c : Else-not-countable) → ask (countable (length c.args.marks.now)) 23 0 ≡ Fit
+counted : (c : Else-not-countable) → ask (countable (length c.args.marks.now)) 23 0 ≡ Ok tt
 unfolding ask
 counted c = rw (← c.countable.ensures, not-false c.countable.result c.if-not-countable.false-raw)
 

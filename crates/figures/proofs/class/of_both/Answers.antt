@@ -1,4 +1,5 @@
 -- `class::of_both`: the tests are those of the definition; what passes them is small, and so is the sum of two such.
+use Rattle.std.specs.Prelude.{Ok}
 use Prim.Native.Nat.{◌+◌}
 use mathlib.Core.Path.{◌≡◌, sym, ap, subst, ◌∙◌}
 use mathlib.Core.Bool.{Bool, true}
@@ -6,7 +7,6 @@ use native.Mathlib.Omega.{arith}
 use mir.Syntax.{w64}
 use mir.Val.{SFits}
 use borrow.Author.Tests.{not-true, not-false}
-use Rattle.program.specs.declared.Validity.TheVariants.{Fit}
 use Rattle.figures.specs.Parts.Bounds.{Bounded}
 use Rattle.figures.specs.Figures.{figures_by}
 use Rattle.figures.specs.Totals.{class, countable, possible}
@@ -72,7 +72,7 @@ returns c =
     let x = first_small p.Else-not-possible n in
     let y = second_small p.Else-not-possible-2 n in
     c.of_totals.ensures
-    ∙ ap (figures_by Fit) (joined_read _ _ x y n.few)
+    ∙ ap (figures_by (Ok tt)) (joined_read _ _ x y n.few)
     ∙ sym (join_fit (class c.args.first_count c.args.first_sum c.args.first_squares) (class c.args.second_count c.args.second_sum c.args.second_squares) (rw (count_passed p.Else-not-countable, first_passed p.Else-not-possible, second_passed p.Else-not-possible-2)))
 
 pub possible-requires : goal.possible-requires

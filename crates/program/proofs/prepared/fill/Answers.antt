@@ -1,7 +1,7 @@
 -- `program::prepared::fill` meets its contract.
+use Rattle.std.specs.Prelude.{Ok}
 use mathlib.Core.Path.{◌≡◌, sym, ◌∙◌}
 use Rattle.program.specs.Questions.{validity}
-use Rattle.program.specs.declared.Validity.TheVariants.{Fit}
 use Rattle.program.proofs.Asking.{not_refused}
 use Rattle.program.proofs.Preparing.{refused_for, prepared_for}
 use Rattle.program.proofs.prepared.fill.Goals as goal
@@ -11,7 +11,7 @@ pub returns-then-refused : goal.returns-then-refused
 returns-then-refused c = refused_for _ _ _ _ c.validate-v.ensures.value c.refused.ensures c.if-refused.true
 
 -- where it goes on, the file is fit
-fit : (c : Else-refused) → validity c.args.program.now ≡ Fit
+fit : (c : Else-refused) → validity c.args.program.now ≡ Ok tt
 fit c = sym c.validate-v.ensures.value ∙ not_refused _ _ c.refused.ensures c.if-refused.false
 
 pub put_code-requires : goal.put_code-requires

@@ -2,10 +2,10 @@
 use Rattle.program.specs.File.{after_head}
 use Rattle.program.proofs.reader.after.Goals as goal
 
-pub returns-in-Short : goal.returns-in-Short
+pub returns-in-Err : goal.returns-in-Err
 unfolding after_head
-returns-in-Short c = rw c.in-Short.is
+returns-in-Err c = rw c.in-Err.is
 
-pub returns-in-Found : goal.returns-in-Found
+pub returns-in-Ok : goal.returns-in-Ok
 unfolding after_head
-returns-in-Found c = rw c.in-Found.is
+returns-in-Ok c = rw c.in-Ok.is

@@ -3,9 +3,8 @@ use Prim.Native.Nat.{ℕ, suc}
 use mathlib.Core.List.{List}
 use mathlib.Core.Path.{◌≡◌, ap, ◌∙◌}
 use Rattle.std.proofs.Common.{Bor}
-use Rattle.program.specs.File.{field_head, field_start, place_after, after_head, head_at}
+use Rattle.program.specs.File.{field_head, field_start, place_after, after_head, head_at, Head}
 use Rattle.program.specs.Parts.Layouts.{heads_of}
-use Rattle.program.specs.declared.Head.{Head}
 use Rattle.program.proofs.reader.heads.Goals as goal
 
 -- what a reader finds that stands after k fields of the file

@@ -1,23 +1,23 @@
 -- `program::validation::check_all_uses` meets its contract.
+use Rattle.std.specs.Prelude.{Ok}
 use mathlib.Core.Path.{◌≡◌}
 use Rattle.program.specs.Asking.{in_turn}
 use Rattle.program.specs.Questions.{used_validity, uses_validity}
 use Rattle.program.specs.declared.Table.TheVariants.{Arithmetic, Boolean, Commands}
-use Rattle.program.specs.declared.Validity.TheVariants.{Fit}
 use Rattle.program.proofs.Asking.{stops, answered, passed, last_asked}
 use Rattle.program.proofs.validation.check_all_uses.Goals as goal
 use Rattle.program.proofs.validation.check_all_uses.Goals.{Else-refused, Else-refused-2, Else-refused-3}
 
 -- the questions that are answered yes
-arithmetic : (c : Else-refused) → used_validity c.args.s.now Arithmetic ≡ Fit
+arithmetic : (c : Else-refused) → used_validity c.args.s.now Arithmetic ≡ Ok tt
 arithmetic c =
     answered c.check_uses-arithmetic.ensures c.refused.ensures c.if-refused.false
 
-boolean : (c : Else-refused-2) → used_validity c.args.s.now Boolean ≡ Fit
+boolean : (c : Else-refused-2) → used_validity c.args.s.now Boolean ≡ Ok tt
 boolean c =
     answered c.check_uses-boolean.ensures c.refused-2.ensures c.if-refused-2.false
 
-commands : (c : Else-refused-3) → used_validity c.args.s.now Commands ≡ Fit
+commands : (c : Else-refused-3) → used_validity c.args.s.now Commands ≡ Ok tt
 commands c =
     answered c.check_uses-commands.ensures c.refused-3.ensures c.if-refused-3.false
 

@@ -1,4 +1,5 @@
 -- `program::validation::check_entries` meets its contract.
+use Rattle.std.specs.Prelude.{Ok}
 use mathlib.Core.Path.{◌≡◌, refl, sym, ◌∙◌}
 use Rattle.program.specs.Asking.{in_turn}
 use Rattle.program.specs.File.{entry_count}
@@ -6,7 +7,6 @@ use Rattle.program.specs.Parts.Counting.{UsesIn}
 use Rattle.program.specs.Parts.Jumping.{NotedTo}
 use Rattle.program.specs.Questions.{table_validity}
 use Rattle.program.specs.declared.Table.TheVariants.{Arithmetic, Boolean, Commands}
-use Rattle.program.specs.declared.Validity.TheVariants.{Fit}
 use Rattle.program.proofs.Asking.{stops, stopped, answered, passed, last_asked}
 use Rattle.program.proofs.Counting.{counted_all}
 use Rattle.program.proofs.Noting.{noted_then}
@@ -14,18 +14,18 @@ use Rattle.program.proofs.validation.check_entries.Goals as goal
 use Rattle.program.proofs.validation.check_entries.Goals.{Else-refused, Else-refused-2, Else-refused-3}
 
 -- the tables that were answered yes
-arithmetic_fit : (c : Else-refused) → table_validity c.args.s.now Arithmetic ≡ Fit
+arithmetic_fit : (c : Else-refused) → table_validity c.args.s.now Arithmetic ≡ Ok tt
 arithmetic_fit c = answered c.check_table-arithmetic.ensures.checked.valid c.refused.ensures c.if-refused.false
 
-boolean_fit : (c : Else-refused-2) → table_validity c.args.s.now Boolean ≡ Fit
+boolean_fit : (c : Else-refused-2) → table_validity c.args.s.now Boolean ≡ Ok tt
 boolean_fit c = answered c.check_table-boolean.ensures.checked.valid c.refused-2.ensures c.if-refused-2.false
 
-commands_fit : (c : Else-refused-3) → table_validity c.args.s.now Commands ≡ Fit
+commands_fit : (c : Else-refused-3) → table_validity c.args.s.now Commands ≡ Ok tt
 commands_fit c = answered c.check_table-commands.ensures.checked.valid c.refused-3.ensures c.if-refused-3.false
 
 -- the operands of all three are counted, and it is noted whether a command may be a jump
 all_counted : (c : Else-refused-3)
-    → table_validity c.args.s.now Arithmetic ≡ Fit → table_validity c.args.s.now Boolean ≡ Fit → UsesIn c.args.s.now c.check_table-commands.new.uses
+    → table_validity c.args.s.now Arithmetic ≡ Ok tt → table_validity c.args.s.now Boolean ≡ Ok tt → UsesIn c.args.s.now c.check_table-commands.new.uses
 all_counted c x y =
     let a = c.check_table-arithmetic.ensures.checked in
     let b = c.check_table-boolean.ensures.checked in
@@ -33,7 +33,7 @@ all_counted c x y =
     counted_all _ _ _ _ (a.counted (a.valid ∙ x)) (b.counted (b.valid ∙ y)) (d.counted (d.valid ∙ commands_fit c))
 
 all_noted : (c : Else-refused-3)
-    → table_validity c.args.s.now Arithmetic ≡ Fit → table_validity c.args.s.now Boolean ≡ Fit
+    → table_validity c.args.s.now Arithmetic ≡ Ok tt → table_validity c.args.s.now Boolean ≡ Ok tt
     → NotedTo c.args.s.now Commands (entry_count c.args.s.now Commands) c.args.jumps.now c.check_table-commands.new.jumps
 all_noted c x y =
     let a = c.check_table-arithmetic.ensures in

@@ -2,9 +2,9 @@
 use Rattle.program.specs.Questions.{head_validity}
 use Rattle.program.proofs.validation.check_head.Goals as goal
 
-pub returns-in-Short : goal.returns-in-Short
+pub returns-in-Err : goal.returns-in-Err
 unfolding head_validity
-returns-in-Short c = rw c.in-Short.is c.ask.ensures
+returns-in-Err c = rw c.in-Err.is c.ask.ensures
 
-pub returns-in-Found : goal.returns-in-Found
-returns-in-Found c = rw c.in-Found.is c.check_found.ensures
+pub returns-in-Ok : goal.returns-in-Ok
+returns-in-Ok c = rw c.in-Ok.is c.check_found.ensures

@@ -12,11 +12,11 @@ fifth : (c : After-heads-h) → field_head c.args.s.now 4 ≡ c.heads-h.result.i
 unfolding heads_of
 fifth c = sym (ap (λ (h : FieldHeads). h.initial) c.heads-h.ensures)
 
-pub returns-in-Short : goal.returns-in-Short
+pub returns-in-Err : goal.returns-in-Err
 unfolding initial_part head_content
-returns-in-Short c = rw (fifth (goal.at.returns-in-Short c).After-heads-h, c.in-Short.is)
+returns-in-Err c = rw (fifth (goal.at.returns-in-Err c).After-heads-h, c.in-Err.is)
 
-pub returns-in-Found : goal.returns-in-Found
+pub returns-in-Ok : goal.returns-in-Ok
 unfolding initial_part head_content
-returns-in-Found c =
-    rw (fifth (goal.at.returns-in-Found c).After-heads-h, c.in-Found.is, ← c.long.ensures) c.part.ensures
+returns-in-Ok c =
+    rw (fifth (goal.at.returns-in-Ok c).After-heads-h, c.in-Ok.is, ← c.long.ensures) c.part.ensures

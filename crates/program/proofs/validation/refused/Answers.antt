@@ -2,10 +2,10 @@
 use Rattle.program.specs.Asking.{is_refused}
 use Rattle.program.proofs.validation.refused.Goals as goal
 
-pub returns-in-Fit : goal.returns-in-Fit
+pub returns-in-Ok : goal.returns-in-Ok
 unfolding is_refused
-returns-in-Fit c = rw c.in-Fit.is
+returns-in-Ok c = rw c.in-Ok.is
 
-pub returns-in-Refused : goal.returns-in-Refused
+pub returns-in-Err : goal.returns-in-Err
 unfolding is_refused
-returns-in-Refused c = rw c.in-Refused.is
+returns-in-Err c = rw c.in-Err.is

@@ -1,18 +1,18 @@
 -- `program::validation::validate` meets its contract.
+use Rattle.std.specs.Prelude.{Ok}
 use mathlib.Core.Path.{◌≡◌, ap}
 use Rattle.program.specs.Asking.{in_turn}
 use Rattle.program.specs.Parts.Layouts.{heads_of}
 use Rattle.program.specs.File.{program_fields}
 use Rattle.program.specs.Questions.{heads_validity, end_validity, validity, validation_row}
 use Rattle.program.specs.declared.FieldHeads.{FieldHeads}
-use Rattle.program.specs.declared.Validity.TheVariants.{Fit}
 use Rattle.program.proofs.Asking.{stops, answered, passed, last_asked, numbered}
 use Rattle.program.proofs.Reading.{asked_end}
 use Rattle.program.proofs.validation.validate.Goals as goal
 use Rattle.program.proofs.validation.validate.Goals.{After-check_end-end, Else-refused}
 
 -- the questions that are answered yes
-heads_fit : (c : Else-refused) → heads_validity c.args.s.now 0 program_fields ≡ Fit
+heads_fit : (c : Else-refused) → heads_validity c.args.s.now 0 program_fields ≡ Ok tt
 heads_fit c = answered c.check_heads-heads.ensures c.refused.ensures c.if-refused.false
 
 -- question 5, after the fourth field

@@ -1,4 +1,5 @@
 -- `program::validation::validate_input` meets its contract.
+use Rattle.std.specs.Prelude.{Ok}
 use Prim.Native.Nat.{ℕ}
 use lib.ListN.{length}
 use mathlib.Core.List.{List}
@@ -10,7 +11,6 @@ use Rattle.program.specs.File.{program_fields, field_head, initial_field, name_c
 use Rattle.program.specs.Questions.{head_validity, heads_validity, end_validity, input_validity, input_row}
 use Rattle.program.specs.declared.Field.{Field}
 use Rattle.program.specs.declared.FieldHeads.{FieldHeads}
-use Rattle.program.specs.declared.Validity.TheVariants.{Fit}
 use Rattle.program.proofs.Asking.{stops, answered, passed, last_asked, numbered}
 use Rattle.program.proofs.Fit.{counts_allowed}
 use Rattle.program.proofs.Reading.{laid_names, asked_head, asked_end}
@@ -18,7 +18,7 @@ use Rattle.program.proofs.validation.validate_input.Goals as goal
 use Rattle.program.proofs.validation.validate_input.Goals.{After-check_end-end, After-check_head-initial, Else-refused}
 
 -- the questions that are answered yes
-heads_fit : (c : Else-refused) → heads_validity c.args.s.now 0 program_fields ≡ Fit
+heads_fit : (c : Else-refused) → heads_validity c.args.s.now 0 program_fields ≡ Ok tt
 heads_fit c = answered c.check_heads-heads.ensures c.refused.ensures c.if-refused.false
 
 -- what stands at the start list's field

@@ -21,14 +21,14 @@ whole k = record { value = (k.reply, k.memory); numbers = ap stepped_numbers k.r
 
 pub step_prepared-requires : goal.step_prepared-requires
 step_prepared-requires c =
-    (c.prepare-v.ensures.prepared c.in-Fit.is).coded.ordered
+    (c.prepare-v.ensures.prepared c.in-Ok.is).coded.ordered
 
-pub returns-in-Fit : goal.returns-in-Fit
-returns-in-Fit c =
+pub returns-in-Ok : goal.returns-in-Ok
+returns-in-Ok c =
     let made = c.prepare-v.ensures in
-    whole (program_replied _ _ _ _ _ (sym made.asked ∙ c.in-Fit.is) _ _ (c.step_prepared.ensures _ _ (made.prepared c.in-Fit.is)))
+    whole (program_replied _ _ _ _ _ (sym made.asked ∙ c.in-Ok.is) _ _ (c.step_prepared.ensures _ _ (made.prepared c.in-Ok.is)))
 
-pub returns-in-Refused : goal.returns-in-Refused
-returns-in-Refused c =
+pub returns-in-Err : goal.returns-in-Err
+returns-in-Err c =
     let made = c.prepare-v.ensures in
-    rw c.refused.ensures (whole (program_refused _ _ _ _ _ _ (sym made.asked ∙ c.in-Refused.is)))
+    rw c.refused.ensures (whole (program_refused _ _ _ _ _ _ (sym made.asked ∙ c.in-Err.is)))

@@ -1,4 +1,5 @@
 -- `evaluator::cell_value`: a cell has a number of 32 bits, and past the end there is 0.
+use Rattle.std.specs.Prelude.{Ok}
 use mathlib.Core.Path.{sym, ap}
 use lib.IntN.{pos}
 use lib.ListN.{get_or, get_or-eq_default}
@@ -8,7 +9,6 @@ use Rattle.signs.proofs.Signed.{widens}
 use Rattle.signs.specs.Number.{in_range}
 use Rattle.semantics.specs.Parts.Coding.{evaluated, is_code}
 use Rattle.semantics.specs.Expression.{cell_value}
-use Rattle.semantics.specs.declared.Evaluation.TheVariants.{Number}
 use Rattle.semantics.proofs.Coded.{small_handed}
 use Rattle.semantics.proofs.evaluator.cell_value.Goals as goal
 use Rattle.semantics.proofs.evaluator.cell_value.Goals.{After-result-1}
@@ -25,4 +25,4 @@ returns-then-c-memory c = let both = small_handed _ (fits (goal.at.returns-then-
 
 pub returns-else-c-memory : goal.returns-else-c-memory
 unfolding cell_value is_code in_range evaluated
-returns-else-c-memory c = record { code = tt; evaluated = ap Number (sym (get_or-eq_default c.args.memory.now (pos 0) c.if-c-memory.false)) }
+returns-else-c-memory c = record { code = tt; evaluated = ap Ok (sym (get_or-eq_default c.args.memory.now (pos 0) c.if-c-memory.false)) }

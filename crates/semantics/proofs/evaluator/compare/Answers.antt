@@ -1,10 +1,10 @@
 -- `evaluator::compare`: the earlier fault, else the comparison of two numbers of 32 bits.
+use Rattle.std.specs.Prelude.{Ok}
 use mathlib.Core.Path.{◌≡◌, sym, ap, ◌∙◌}
 use mathlib.Core.Bool.{false}
 use mir.Syntax.{w64}
 use mir.ValLaws.{to_z-of_z}
 use Rattle.semantics.specs.Parts.Coding.{earlier}
-use Rattle.semantics.specs.declared.Truth.TheVariants.{Known}
 use Rattle.semantics.proofs.Coded.{is_fault, gave, fault_first, handed, code_small, narrow, compare_fault, no_faults, compare_both}
 use Rattle.semantics.proofs.evaluator.compare.Goals as goal
 use Rattle.semantics.proofs.evaluator.compare.Goals.{After-earlier-first, Else-is_fault}
@@ -31,5 +31,5 @@ pub returns : goal.returns
 returns c =
     rw (handed c.truth_code.result c.truth_code.type_inv)
     (c.truth_code.ensures
-    ∙ ap Known (c.compares.ensures ∙ rw (narrow c.args.a (code_small _ c.requires.left (none (goal.at.returns c).Else-is_fault).0), narrow c.args.b (code_small _ c.requires.right (none (goal.at.returns c).Else-is_fault).1)))
+    ∙ ap Ok (c.compares.ensures ∙ rw (narrow c.args.a (code_small _ c.requires.left (none (goal.at.returns c).Else-is_fault).0), narrow c.args.b (code_small _ c.requires.right (none (goal.at.returns c).Else-is_fault).1)))
     ∙ sym (compare_both c.args.a c.args.b (none (goal.at.returns c).Else-is_fault).0 (none (goal.at.returns c).Else-is_fault).1 c.args.c))

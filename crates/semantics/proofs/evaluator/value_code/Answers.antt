@@ -6,18 +6,18 @@ use Rattle.signs.proofs.Signed.{widens}
 use Rattle.semantics.specs.Expression.{operated}
 use Rattle.semantics.proofs.Coded.{handed, small_handed}
 use Rattle.semantics.proofs.evaluator.value_code.Goals as goal
-use Rattle.semantics.proofs.evaluator.value_code.Goals.{In-Number}
+use Rattle.semantics.proofs.evaluator.value_code.Goals.{In-Ok}
 
-fits : (c : In-Number) → SFits w32 c.in-Number.z
+fits : (c : In-Ok) → SFits w32 c.in-Ok.z
 fits c = search rules
 
 pub overflow_cast-result : goal.overflow_cast-result
-overflow_cast-result c = widens c.in-Number.z (fits (goal.at.overflow_cast-result c).In-Number)
+overflow_cast-result c = widens c.in-Ok.z (fits (goal.at.overflow_cast-result c).In-Ok)
 
-pub returns-in-Number : goal.returns-in-Number
+pub returns-in-Ok : goal.returns-in-Ok
 unfolding operated
-returns-in-Number c = rw c.in-Number.is (let both = small_handed c.in-Number.z (fits (goal.at.returns-in-Number c).In-Number) in record { code = both.0; evaluated = both.1 })
+returns-in-Ok c = rw c.in-Ok.is (let both = small_handed c.in-Ok.z (fits (goal.at.returns-in-Ok c).In-Ok) in record { code = both.0; evaluated = both.1 })
 
-pub returns-in-Undefined : goal.returns-in-Undefined
+pub returns-in-Err : goal.returns-in-Err
 unfolding operated
-returns-in-Undefined c = rw (handed c.fault_code.result c.fault_code.type_inv, c.in-Undefined.is) record { code = c.fault_code.ensures.code; evaluated = c.fault_code.ensures.evaluated }
+returns-in-Err c = rw (handed c.fault_code.result c.fault_code.type_inv, c.in-Err.is) record { code = c.fault_code.ensures.code; evaluated = c.fault_code.ensures.evaluated }

@@ -19,16 +19,16 @@ whole κ s budget m k = record { value = (k.reply, k.memory); numbers = ap ended
 pub run_prepared-requires : goal.run_prepared-requires
 run_prepared-requires c =
     let made = c.prepare_linked-v.ensures in
-    let fit = c.in-Fit.is in
+    let fit = c.in-Ok.is in
     record { ordered = (made.prepared.prepared fit).coded.ordered; linked = made.linked fit }
 
-pub returns-in-Fit : goal.returns-in-Fit
-returns-in-Fit c =
+pub returns-in-Ok : goal.returns-in-Ok
+returns-in-Ok c =
     let made = c.prepare_linked-v.ensures.prepared in
-    let fit = c.in-Fit.is in
+    let fit = c.in-Ok.is in
     whole _ _ _ _ (rw (program_budgeted_lem _ _ (sym made.asked ∙ fit) _ _) (c.run_prepared.ensures _ _ (made.prepared fit)))
 
-pub returns-in-Refused : goal.returns-in-Refused
-returns-in-Refused c =
+pub returns-in-Err : goal.returns-in-Err
+returns-in-Err c =
     let made = c.prepare_linked-v.ensures.prepared in
-    whole _ _ _ _ (rw (refused_budgeted _ _ _ (sym made.asked ∙ c.in-Refused.is) _ _) (record { reply = c.refused.ensures; memory = refl }))
+    whole _ _ _ _ (rw (refused_budgeted _ _ _ (sym made.asked ∙ c.in-Err.is) _ _) (record { reply = c.refused.ensures; memory = refl }))

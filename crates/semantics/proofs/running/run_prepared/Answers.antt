@@ -17,11 +17,11 @@ asked c ns g p = c.ask-v.ensures ∙ asked_cells ns _ _ _ refl (c.cell_count.ens
 pub run_copied-requires : goal.run_copied-requires
 run_copied-requires c = c.requires
 
-pub returns-in-Fit : goal.returns-in-Fit
-returns-in-Fit c ns g p =
-    let fit = sym (asked (goal.at.returns-in-Fit c).After-ask-v ns g p) ∙ c.in-Fit.is in
+pub returns-in-Ok : goal.returns-in-Ok
+returns-in-Ok c ns g p =
+    let fit = sym (asked (goal.at.returns-in-Ok c).After-ask-v ns g p) ∙ c.in-Ok.is in
     rw (budgeted_run ns g _ _ fit) (c.run_copied.ensures ns g p (memory_fit ns _ fit))
 
-pub returns-in-Refused : goal.returns-in-Refused
-returns-in-Refused c ns g p =
-    rw (refused_run ns g _ _ _ (sym (asked (goal.at.returns-in-Refused c).After-ask-v ns g p) ∙ c.in-Refused.is)) (record { reply = c.refused.ensures; memory = refl })
+pub returns-in-Err : goal.returns-in-Err
+returns-in-Err c ns g p =
+    rw (refused_run ns g _ _ _ (sym (asked (goal.at.returns-in-Err c).After-ask-v ns g p) ∙ c.in-Err.is)) (record { reply = c.refused.ensures; memory = refl })
