@@ -7,6 +7,8 @@ use Prim.Native.Nat.{ℕ, zero, suc, ◌<◌}
 use lib.ListN.{get_or}
 use Rattle.program.specs.Asking.{ask, then_ask, is_refused, in_turn, ask_each, validity_numbers, Validity}
 use Rattle.program.specs.declared.Refusal.{Refusal}
+use Rattle.std.specs.Result.{IsErrAnd}
+use Rattle.signs.proofs.Results.{raised_again}
 use Rattle.program.proofs.FirstSuch.{first_same, first_nothing, first_at, first_more, all_nothing}
 
 -- a refusal is not fit
@@ -110,3 +112,23 @@ each_same = first_same is_refused (Ok tt)
 -- the promise of an answer, as it is and in document 01's numbers
 pub numbered : {v w : Validity} → v ≡ w → record { value : v ≡ w; numbers : validity_numbers v ≡ validity_numbers w }
 numbered e = record { value = e; numbers = ap validity_numbers e }
+
+-- how code asks with `?`: the refusal x of the answer v to a question a is handed on as r, and nothing asked after it
+pub raised : {v r : Validity} {x : Refusal} (a b : Validity) → v ≡ a → IsErrAnd r (λ y. y ≡ x) → v ≡ Err x → r ≡ then_ask a b
+unfolding is_refused
+raised {v} {r} a b e h was = raised_again r h was ∙ stops a b v true e (ap is_refused (sym was)) refl
+
+-- the same in a loop, at k
+pub each_raised : {v r : Validity} {x : Refusal} (n : ℕ) (q : ℕ → Validity) (k : ℕ) → k < n → ask_each k q ≡ Ok tt → v ≡ q k → IsErrAnd r (λ y. y ≡ x) → v ≡ Err x → r ≡ ask_each n q
+unfolding is_refused
+each_raised {v} {r} n q k l e p h was = raised_again r h was ∙ each_stops n q k v true l e p (ap is_refused (sym was)) refl
+
+-- and one more where the answer is yes
+pub each_more : {v : Validity} (q : ℕ → Validity) (k : ℕ) → ask_each k q ≡ Ok tt → v ≡ q k → v ≡ Ok tt → ask_each (suc k) q ≡ Ok tt
+unfolding is_refused
+each_more {v} q k e p was = each_goes_on q k v false e p (ap is_refused (sym was)) refl
+
+-- what is handed on is no yes
+pub unanswered {ℓ} : {A : Type ℓ} (r : Validity) (P : Refusal → Type 0) → IsErrAnd r P → r ≡ Ok tt → A
+unanswered (Ok _) P h e = absurd h
+unanswered (Err y) P h e = refused_unfit y e

@@ -1,13 +1,13 @@
 -- The code and the graph of a well-formed file are its prepared program.
-use Rattle.std.specs.Prelude.{Ok}
+use Rattle.std.specs.Prelude.{Ok, Err}
 use mathlib.Core.Path.{◌≡◌, refl, sym, ◌∙◌, ap}
-use mathlib.Core.Bool.{Bool, true, false, false≢true}
+use mathlib.Core.Bool.{Bool, true, false}
 use mathlib.Core.List.{List, [], ◌∷◌}
 use Prim.Native.Nat.{ℕ, zero, suc, ◌<◌}
 use native.Mathlib.Omega.{arith}
 use borrow.Author.Tests.{lt-ltb}
 use lib.Dec.{T}
-use Rattle.program.specs.Asking.{is_refused, Validity}
+use Rattle.program.specs.Asking.{Validity}
 use Rattle.program.specs.File.{sizes}
 use Rattle.program.specs.Graph.{Action, perform, test, leave, select, selected, edge, edge_at, graph, edges, edge_count, node_count, action_kind, action_entry}
 use Rattle.program.specs.Parts.LinkingParts.{LinkedFrom}
@@ -23,6 +23,10 @@ use Rattle.program.specs.Tree.{Entries, command_at, command_made}
 use Rattle.program.specs.declared.CommandNode.{CommandNode}
 use Rattle.program.specs.declared.CommandNode.TheVariants.{Skip, Assign, Store, Sequence, Conditional, Iteration, Guarded, Choice, Jump}
 use Rattle.program.specs.declared.Construction.{Construction}
+use Rattle.signs.proofs.Results.{raised_again}
+use Rattle.std.specs.Result.{IsErrAnd}
+use Rattle.program.specs.declared.Refusal.{Refusal}
+use Rattle.program.proofs.Asking.{unanswered}
 use Rattle.program.proofs.Actions.{edge_faithful}
 use Rattle.program.proofs.Counts.{few_nodes, few_edges}
 use Rattle.program.proofs.Fit.{counts}
@@ -201,22 +205,20 @@ module _ (κ : Construction) (s : List ℕ) (fit : validity s ≡ Ok tt) (code w
         edge = edge_prepared;
       }
 
--- what preparing replies: a refusal with any two arrays, and fit with these
-pub refused_for : (κ : Construction) (s : List ℕ) {v : Validity} {r : Bool} (code words : List ℕ) → v ≡ validity s → r ≡ is_refused v → r ≡ true → PreparedFor κ s v code words
-unfolding is_refused
-refused_for κ s code words e asked refused = record { asked = e; prepared = λ fit. absurd (false≢true (sym (asked ∙ ap is_refused fit) ∙ refused)) }
+-- what preparing replies: a refusal that is handed on, with any two arrays, and fit with these
+pub refused_for : (κ : Construction) (s : List ℕ) {v r : Validity} {x : Refusal} (code words : List ℕ) → v ≡ validity s → IsErrAnd r (λ y. y ≡ x) → v ≡ Err x → PreparedFor κ s r code words
+refused_for κ s {r = r} code words e h was = record { asked = raised_again r h was ∙ e; prepared = unanswered _ _ h }
 
-pub prepared_for : (κ : Construction) (s : List ℕ) {v : Validity} (code words : List ℕ) → validity s ≡ Ok tt → v ≡ validity s → CodeIn s code → GraphIn κ s words → PreparedFor κ s v code words
-prepared_for κ s code words fit e c g = record { asked = e; prepared = λ same. prepared κ s fit code words c g }
+pub prepared_for : (κ : Construction) (s : List ℕ) (code words : List ℕ) → validity s ≡ Ok tt → CodeIn s code → GraphIn κ s words → PreparedFor κ s (Ok tt) code words
+prepared_for κ s code words fit c g = record { asked = sym fit; prepared = λ same. prepared κ s fit code words c g }
 
 -- and the reply with the links: a refusal with any two arrays, and fit with these
-pub refused_linked : (κ : Construction) (s : List ℕ) {v : Validity} {r : Bool} (code words : List ℕ) → PreparedFor κ s v code words → r ≡ is_refused v → r ≡ true → PreparedLinked κ s v code words
-unfolding is_refused
-refused_linked κ s code words p asked refused = record { prepared = p; linked = λ fit. absurd (false≢true (sym (asked ∙ ap is_refused fit) ∙ refused)) }
+pub refused_linked : (κ : Construction) (s : List ℕ) {v r : Validity} {x : Refusal} (code words : List ℕ) → PreparedFor κ s v code words → IsErrAnd r (λ y. y ≡ x) → v ≡ Err x → PreparedLinked κ s r code words
+refused_linked κ s code words p h was = record { prepared = refused_for κ s code words p.asked h was; linked = unanswered _ _ h }
 
-pub prepared_linked : (κ : Construction) (s : List ℕ) {v : Validity} (code old new : List ℕ) → PreparedFor κ s v code old → LinkedFrom old new → PreparedLinked κ s v code new
-prepared_linked κ s code old new p l =
+pub prepared_linked : (κ : Construction) (s : List ℕ) {v : Validity} (code old new : List ℕ) → PreparedFor κ s v code old → v ≡ Ok tt → LinkedFrom old new → PreparedLinked κ s (Ok tt) code new
+prepared_linked κ s code old new p was l =
     record {
-      prepared = record { asked = p.asked; prepared = λ fit. prepared_kept l.same (p.prepared fit) };
+      prepared = record { asked = sym was ∙ p.asked; prepared = λ fit. prepared_kept l.same (p.prepared was) };
       linked = λ fit. l.linked;
     }

@@ -334,14 +334,11 @@ fn fill(
     requires { (code.old ≡ replicate spec.code_length 0) × (graph.old ≡ replicate spec.graph_length 0) }
     ensures { spec.PreparedFor construction program.now result code.new graph.new }
 {
-    let v = validation::validate(program);
-    if validation::refused(v) {
-        return v;
-    }
+    validation::validate(program)?;
     let l = file::fit_layout(program);
     coding::put_code(program, l, code);
     graphing::put_graph(construction, program, l, graph);
-    v
+    Ok(())
 }
 
 // The file's questions; where they are answered yes, the program's code and graph. What clears the arrays is small and stands in its callers, where their own zeros are then
@@ -370,10 +367,7 @@ pub fn prepare_linked(
 {
     *code = [0u16; CODE];
     *graph = [0u16; GRAPH];
-    let v = fill(construction, program, code, graph);
-    if validation::refused(v) {
-        return v;
-    }
+    fill(construction, program, code, graph)?;
     linking::link(graph);
-    v
+    Ok(())
 }

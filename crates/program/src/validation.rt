@@ -54,12 +54,8 @@ fn check_found(end: usize, found: FieldHead, field: Field) -> Result<(), Refusal
     requires { 0 < field.width }
     ensures { result ≡ spec.head_validity end (Ok found) field }
 {
-    if found.tag != field.tag {
-        return ask(false, 2, found.start);
-    }
-    if !whole_entries(field, found.length) {
-        return ask(false, 3, found.start);
-    }
+    ask(found.tag == field.tag, 2, found.start)?;
+    ask(whole_entries(field, found.length), 3, found.start)?;
     ask(found.next <= end, 4, found.start)
 }
 
@@ -79,23 +75,10 @@ fn check_heads(s: &[u8], h: FieldHeads) -> Result<(), Refusal>
     requires { h ≡ Layouts.heads_of s.now }
     ensures { result ≡ spec.heads_validity s.now 0 File.program_fields }
 {
-    let first = h.names;
-    let second = h.arithmetic;
-    let third = h.boolean;
-    let fourth = h.commands;
-    let names = check_head(s.len(), first, file::names_field());
-    if refused(names) {
-        return names;
-    }
-    let arithmetic = check_head(s.len(), second, file::table_field(Table::Arithmetic));
-    if refused(arithmetic) {
-        return arithmetic;
-    }
-    let boolean = check_head(s.len(), third, file::table_field(Table::Boolean));
-    if refused(boolean) {
-        return boolean;
-    }
-    check_head(s.len(), fourth, file::table_field(Table::Commands))
+    check_head(s.len(), h.names, file::names_field())?;
+    check_head(s.len(), h.arithmetic, file::table_field(Table::Arithmetic))?;
+    check_head(s.len(), h.boolean, file::table_field(Table::Boolean))?;
+    check_head(s.len(), h.commands, file::table_field(Table::Commands))
 }
 
 // Whether a size is 0 to 64 and a cell total at most 512.
@@ -111,15 +94,10 @@ fn check_names(s: &[u8], names: u16) -> Result<(), Refusal>
     ensures { result ≡ Asking.ask_each (File.name_count s.now) (spec.name_validity s.now) }
 {
     let mut total: usize = 0;
-    let mut i: u16 = 0;
-    while i < names {
+    for i in 0..names {
         let size = file::size_at(s, i);
         total += file::cells_of(size);
-        let v = ask(in_bounds(size, total), 6, 3 + 2 * file::long(i));
-        if refused(v) {
-            return v;
-        }
-        i += 1;
+        ask(in_bounds(size, total), 6, 3 + 2 * file::long(i))?;
     }
     Ok(())
 }
@@ -131,21 +109,14 @@ fn check_table(
     l: Layout,
     table: Table,
     uses: &mut [u8; 1024],
-    jumps: &mut [u8; 1],
+    jumps: &mut bool,
 ) -> Result<(), Refusal>
     requires { Layouts.LaidOut s.now l }
     ensures { Checking.TableNoted s.now table uses.old uses.new jumps.old jumps.new result }
 {
     let span = file::span_of(l, table);
-    let start = span.start;
-    let count = span.count;
-    let mut n: u16 = 0;
-    while n < count {
-        let v = entries::check_entry(s, l, table, start, n, uses, jumps);
-        if refused(v) {
-            return v;
-        }
-        n += 1;
+    for n in 0..span.count {
+        entries::check_entry(s, l, table, span.start, n, uses, jumps)?;
     }
     Ok(())
 }
@@ -167,19 +138,10 @@ fn check_uses(s: &[u8], l: Layout, table: Table, counts: &[u8]) -> Result<(), Re
     ensures { result ≡ spec.used_validity s.now table }
 {
     let span = file::span_of(l, table);
-    let start = span.start;
     let count = to_be_used(table, span.count);
-    let mut n: u16 = 0;
-    while n < count {
-        let v = ask(
-            counts[uses::slot(table, n)] == 1,
-            10,
-            start + 7 * file::long(n),
-        );
-        if refused(v) {
-            return v;
-        }
-        n += 1;
+    for n in 0..count {
+        let used = counts[uses::slot(table, n)] == 1;
+        ask(used, 10, span.start + 7 * file::long(n))?;
     }
     Ok(())
 }
@@ -189,10 +151,8 @@ fn check_last(s: &[u8], l: Layout) -> Result<(), Refusal>
     requires { Layouts.LaidOut s.now l }
     ensures { result ≡ spec.last_validity s.now }
 {
-    let span = l.commands;
-    let start = span.start;
-    let last = to_be_used(Table::Commands, span.count);
-    let at = start + 7 * file::long(last);
+    let last = to_be_used(Table::Commands, l.commands.count);
+    let at = l.commands.start + 7 * file::long(last);
     ask(kinds::is_command(file::byte_at(s, at)), 11, at)
 }
 
@@ -201,39 +161,21 @@ fn check_all_uses(s: &[u8], l: Layout, counts: &[u8]) -> Result<(), Refusal>
     requires { Layouts.LaidOut s.now l × Counting.UsesIn s.now counts.now }
     ensures { result ≡ spec.uses_validity s.now }
 {
-    let arithmetic = check_uses(s, l, Table::Arithmetic, counts);
-    if refused(arithmetic) {
-        return arithmetic;
-    }
-    let boolean = check_uses(s, l, Table::Boolean, counts);
-    if refused(boolean) {
-        return boolean;
-    }
-    let commands = check_uses(s, l, Table::Commands, counts);
-    if refused(commands) {
-        return commands;
-    }
+    check_uses(s, l, Table::Arithmetic, counts)?;
+    check_uses(s, l, Table::Boolean, counts)?;
+    check_uses(s, l, Table::Commands, counts)?;
     check_last(s, l)
 }
 
 // Questions 7 to 11.
-fn check_entries(s: &[u8], l: Layout, jumps: &mut [u8; 1]) -> Result<(), Refusal>
+fn check_entries(s: &[u8], l: Layout, jumps: &mut bool) -> Result<(), Refusal>
     requires { Layouts.LaidOut s.now l }
     ensures { Checking.EntriesNoted s.now jumps.old jumps.new result }
 {
     let mut uses = [0u8; 1024];
-    let arithmetic = check_table(s, l, Table::Arithmetic, &mut uses, jumps);
-    if refused(arithmetic) {
-        return arithmetic;
-    }
-    let boolean = check_table(s, l, Table::Boolean, &mut uses, jumps);
-    if refused(boolean) {
-        return boolean;
-    }
-    let commands = check_table(s, l, Table::Commands, &mut uses, jumps);
-    if refused(commands) {
-        return commands;
-    }
+    check_table(s, l, Table::Arithmetic, &mut uses, jumps)?;
+    check_table(s, l, Table::Boolean, &mut uses, jumps)?;
+    check_table(s, l, Table::Commands, &mut uses, jumps)?;
     check_all_uses(s, l, &uses)
 }
 
@@ -242,17 +184,10 @@ fn check_content(s: &[u8], l: Layout) -> Result<(), Refusal>
     requires { (spec.heads_validity s.now 0 File.program_fields ≡ Ok tt) × (l ≡ File.layout_of s.now) }
     ensures { result ≡ spec.content_validity s.now }
 {
-    let spans = l.names;
-    let names = check_names(s, spans.count);
-    if refused(names) {
-        return names;
-    }
-    let mut jumps = [0u8; 1];
-    let entries = check_entries(s, l, &mut jumps);
-    if refused(entries) {
-        return entries;
-    }
-    jumps::check_jumps(s, l, jumps[0])
+    check_names(s, l.names.count)?;
+    let mut jumps = false;
+    check_entries(s, l, &mut jumps)?;
+    jumps::check_jumps(s, l, jumps)
 }
 
 // Question 5: whether a file ends after its last field, at `at`.
@@ -268,15 +203,8 @@ pub fn validate(s: &[u8]) -> Result<(), Refusal>
     ensures numbers { Asking.validity_numbers result ≡ spec.validation_row s.now }
 {
     let h = reader::heads(s);
-    let heads = check_heads(s, h);
-    if refused(heads) {
-        return heads;
-    }
-    let last = h.commands;
-    let end = check_end(s, reader::after(last));
-    if refused(end) {
-        return end;
-    }
+    check_heads(s, h)?;
+    check_end(s, reader::after(h.commands))?;
     check_content(s, file::layout_by(h))
 }
 
@@ -286,21 +214,10 @@ pub fn validate_input(s: &[u8]) -> Result<(), Refusal>
     ensures numbers { Asking.validity_numbers result ≡ spec.input_row s.now }
 {
     let h = reader::heads(s);
-    let heads = check_heads(s, h);
-    if refused(heads) {
-        return heads;
-    }
+    check_heads(s, h)?;
     let l = file::layout_by(h);
-    let spans = l.names;
-    let fifth = h.initial;
-    let initial = check_head(s.len(), fifth, file::initial_field(spans.count));
-    if refused(initial) {
-        return initial;
-    }
-    let end = check_end(s, reader::after(fifth));
-    if refused(end) {
-        return end;
-    }
+    check_head(s.len(), h.initial, file::initial_field(l.names.count))?;
+    check_end(s, reader::after(h.initial))?;
     check_content(s, l)
 }
 
@@ -309,8 +226,7 @@ pub fn program_part<'a>(s: &'a [u8]) -> &'a [u8]
     ensures { result.now ≡ spec.program_part s.now }
 {
     let h = reader::heads(s);
-    let last = h.commands;
-    part(s, 0, reader::after(last))
+    part(s, 0, reader::after(h.commands))
 }
 
 // The start list in the sheet program's input: the content of its fifth field.
@@ -318,8 +234,7 @@ pub fn initial_part<'a>(s: &'a [u8]) -> &'a [u8]
     ensures { result.now ≡ spec.initial_part s.now }
 {
     let h = reader::heads(s);
-    let fifth = h.initial;
-    match fifth {
+    match h.initial {
         Err(_) => &s[..0],
         Ok(found) => part(s, found.content, file::long(found.length)),
     }

@@ -33,7 +33,7 @@ pub record EntryChecked (s : List ℕ) (t : Table) (n : ℕ) (before after : Lis
   pub counted : v ≡ Ok tt → Counted before after (λ u k. entry_uses s u k t n)
 
 -- and whether it may be a jump is noted, for question 20
-pub record EntryNoted (s : List ℕ) (t : Table) (n : ℕ) (before after old new : List ℕ) (v : Validity) : Type 0 where
+pub record EntryNoted (s : List ℕ) (t : Table) (n : ℕ) (before after : List ℕ) (old new : Bool) (v : Validity) : Type 0 where
   pub checked : EntryChecked s t n before after v
   pub noted : Noted (may_jump s t n) old new
 
@@ -43,11 +43,11 @@ pub record TableChecked (s : List ℕ) (t : Table) (before after : List ℕ) (v 
   pub counted : v ≡ Ok tt → Counted before after (λ u k. table_uses s u k t (entry_count s t))
 
 -- with the note for question 20
-pub record TableNoted (s : List ℕ) (t : Table) (before after old new : List ℕ) (v : Validity) : Type 0 where
+pub record TableNoted (s : List ℕ) (t : Table) (before after : List ℕ) (old new : Bool) (v : Validity) : Type 0 where
   pub checked : TableChecked s t before after v
   pub noted : v ≡ Ok tt → NotedTo s t (entry_count s t) old new
 
 -- the answer v to questions 7 to 11; where they are answered yes, it is noted whether a command may be a jump
-pub record EntriesNoted (s old new : List ℕ) (v : Validity) : Type 0 where
+pub record EntriesNoted (s : List ℕ) (old new : Bool) (v : Validity) : Type 0 where
   pub valid : v ≡ in_turn (table_validity s Arithmetic ∷ table_validity s Boolean ∷ table_validity s Commands ∷ uses_validity s ∷ [])
   pub noted : v ≡ Ok tt → NotedTo s Commands (entry_count s Commands) old new

@@ -1,5 +1,5 @@
 -- What the functions that ask question 20 promise each other. No public contract cites these.
-use Rattle.std.specs.Prelude.{◌≡◌, Bool, false, List, ℕ, ◌≤◌, ◌<◌, min, leb, length, get_or}
+use Rattle.std.specs.Prelude.{◌≡◌, Bool, false, List, ℕ, ◌≤◌, ◌<◌, min, leb, length}
 use Rattle.program.specs.File.{entry_count, table_start, entry}
 use Rattle.program.specs.Syntax.{Command, skip, assign, store, sequence, conditional, iteration, guarded, choice, jump}
 use Rattle.program.specs.declared.Table.{Table}
@@ -22,13 +22,13 @@ may_jump s Arithmetic n = false
 may_jump s Boolean n = false
 may_jump s Commands n = leb 8 (entry s Commands n).kind
 
--- whether one was met is noted in a list of one number: 0 there says that none was, and that nothing was noted before
-pub record Noted (jump : Bool) (before after : List ℕ) : Type 0 where
-  pub clear : get_or after 0 0 ≡ 0 → (get_or before 0 0 ≡ 0) × (jump ≡ false)
+-- whether one was met is noted in a flag: where it is clear none was, and nothing was noted before
+pub record Noted (jump before after : Bool) : Type 0 where
+  pub clear : after ≡ false → (before ≡ false) × (jump ≡ false)
 
 -- the same of the first n entries of a table
-pub record NotedTo (s : List ℕ) (t : Table) (n : ℕ) (before after : List ℕ) : Type 0 where
-  pub clear : get_or after 0 0 ≡ 0 → (get_or before 0 0 ≡ 0) × ((k : ℕ) → k < n → may_jump s t k ≡ false)
+pub record NotedTo (s : List ℕ) (t : Table) (n : ℕ) (before after : Bool) : Type 0 where
+  pub clear : after ≡ false → (before ≡ false) × ((k : ℕ) → k < n → may_jump s t k ≡ false)
 
 -- the lowest of a number and of the jumps outside every do in a command
 unfoldable pub lowest : Command → ℕ → ℕ

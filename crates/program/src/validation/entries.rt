@@ -191,7 +191,7 @@ pub(super) fn check_entry(
     start: usize,
     n: u16,
     uses: &mut [u8; 1024],
-    jumps: &mut [u8; 1],
+    jumps: &mut bool,
 ) -> Result<(), Refusal>
     requires { Layouts.LaidOut s.now l × (start ≡ File.table_start s.now table) }
     ensures { spec.EntryNoted s.now table n uses.old uses.new jumps.old jumps.new result }

@@ -11,11 +11,11 @@ use super::ask;
 use crate::{CommandNode, Layout, Refusal, Table, decoding, file};
 
 // Notes a kind of command that may be a jump. Most programs have none, and then no tree is gone through.
-pub(super) fn note(jumps: &mut [u8; 1], kind: u8)
+pub(super) fn note(jumps: &mut bool, kind: u8)
     ensures { spec.Noted (leb 8 kind) jumps.old jumps.new }
 {
     if 8 <= kind {
-        *jumps = [1u8; 1];
+        *jumps = true;
     }
 }
 
@@ -73,14 +73,13 @@ fn check_lowest(s: &[u8], start: usize, count: u16) -> Result<(), Refusal>
 }
 
 // Question 20, where questions 1 to 4 are answered yes and it is noted whether a command may be a jump.
-pub(super) fn check_jumps(s: &[u8], l: Layout, noted: u8) -> Result<(), Refusal>
+pub(super) fn check_jumps(s: &[u8], l: Layout, noted: bool) -> Result<(), Refusal>
     requires { (Questions.heads_validity s.now 0 File.program_fields ≡ Ok tt) × (l ≡ File.layout_of s.now)
-        × (noted ≡ 0 → (n : ℕ) → n < File.entry_count s.now Table.Commands → spec.may_jump s.now Table.Commands n ≡ false) }
+        × (noted ≡ false → (n : ℕ) → n < File.entry_count s.now Table.Commands → spec.may_jump s.now Table.Commands n ≡ false) }
     ensures { result ≡ Questions.jumps_validity s.now }
 {
-    if noted == 0 {
+    if !noted {
         return Ok(());
     }
-    let span = l.commands;
-    check_lowest(s, span.start, span.count)
+    check_lowest(s, l.commands.start, l.commands.count)
 }

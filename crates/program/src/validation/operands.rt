@@ -104,8 +104,6 @@ pub(super) fn settled(p: u8, q: u8, r: u8, at: usize) -> Result<(), Refusal>
     ensures { result ≡ Asking.in_turn
         (Asking.ask (not (spec.any_answer 8 p q r)) 8 at ∷ Asking.ask (not (spec.any_answer 9 p q r)) 9 at ∷ []) }
 {
-    if any_answer(8, p, q, r) {
-        return ask(false, 8, at);
-    }
+    ask(!any_answer(8, p, q, r), 8, at)?;
     ask(!any_answer(9, p, q, r), 9, at)
 }

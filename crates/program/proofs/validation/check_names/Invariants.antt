@@ -1,6 +1,6 @@
 -- `program::validation::check_names` meets its contract.
 use Rattle.std.specs.Prelude.{Ok}
-use Prim.Native.Nat.{◌*◌, ◌≤◌, ◌-◌}
+use Prim.Native.Nat.{◌*◌, ◌≤◌}
 use mathlib.Core.Path.{◌≡◌}
 use Rattle.program.specs.Asking.{ask_each}
 use Rattle.program.specs.File.{sizes, first_cell}
@@ -9,7 +9,4 @@ use Rattle.program.proofs.validation.check_names.Given as goal
 
 abbrev pub invariant-loop-i : goal.invariant-loop-i
 invariant-loop-i l =
-    (l.i ≤ l.names) × (l.total ≡ first_cell (sizes l.s) l.i) × (l.total ≤ 65536 * l.i) × (ask_each l.i (name_validity l.s) ≡ Ok tt)
-
-abbrev pub decreases-loop-i : goal.decreases-loop-i
-decreases-loop-i l = l.names - l.i
+    (l.total ≡ first_cell (sizes l.s) l.i) × (l.total ≤ 65536 * l.i) × (ask_each l.i (name_validity l.s) ≡ Ok tt)

@@ -1,5 +1,4 @@
 -- `program::validation::check_table` meets its contract.
-use borrow.Author.Rules.{rules}
 use Prim.Native.Nat.{ℕ, ◌<◌}
 use mathlib.Core.Path.{sym, refl, ap, ◌∙◌, ◌≡◌, subst}
 use native.Mathlib.Numerals.{add-one}
@@ -11,7 +10,7 @@ use Rattle.program.specs.File.{entry_count}
 use Rattle.program.specs.Parts.Jumping.{NotedTo}
 use Rattle.program.specs.Questions.{table_validity, entry_validity, table_uses}
 use Rattle.program.specs.declared.Span.{Span}
-use Rattle.program.proofs.Asking.{each_stops, each_goes_on, not_refused, stopped}
+use Rattle.program.proofs.Asking.{each_raised, each_more, unanswered}
 use Rattle.program.proofs.Counting.{counted_none, counted_then}
 use Rattle.program.proofs.Noting.{noted_none, noted_next}
 use Rattle.program.proofs.Reading.{laid_count, laid_start}
@@ -19,36 +18,35 @@ use Rattle.program.proofs.validation.check_table.Goals as goal
 
 pub loop-n-init : goal.loop-n-init
 unfolding ask_each first_of table_uses
-loop-n-init c = (search rules, refl, counted_none _ _ (λ u n h. refl), noted_none)
+loop-n-init c = (refl, counted_none _ _ (λ u n h. refl), noted_none)
 
-pub check_entry-v-requires : goal.check_entry-v-requires
-check_entry-v-requires c =
+pub check_entry-requires : goal.check_entry-requires
+check_entry-requires c =
     (c.requires, ap (λ (x : Span). x.start) c.span_of-span.ensures ∙ laid_start _ _ c.requires.same c.args.table)
 
-pub returns-then-refused : goal.returns-then-refused
+pub returns-in_err-check_entry : goal.returns-in_err-check_entry
 unfolding table_validity
-returns-then-refused c =
+returns-in_err-check_entry c =
     let l = c.loop-n in
     let count : c.span_of-span.result.count ≡ entry_count c.args.s.now c.args.table =
     ap (λ (x : Span). x.count) c.span_of-span.ensures ∙ laid_count _ _ c.requires.same c.args.table in
     let below : l.n < entry_count c.args.s.now c.args.table = omega arith in
     record {
       checked = record {
-        valid = each_stops _ (entry_validity c.args.s.now c.args.table) l.n _ _ below l.invariant.1 c.check_entry-v.ensures.checked.valid c.refused.ensures c.if-refused.true;
-        counted = stopped refl c.refused.ensures c.if-refused.true;
+        valid = each_raised _ (entry_validity c.args.s.now c.args.table) l.n below l.invariant.0 c.check_entry.ensures.checked.valid c.from_residual.ensures.1 c.in_err-check_entry.was;
+        counted = unanswered _ _ c.from_residual.ensures.1;
       };
-      noted = stopped refl c.refused.ensures c.if-refused.true;
+      noted = unanswered _ _ c.from_residual.ensures.1;
     }
 
 pub loop-n-preserved : goal.loop-n-preserved
 unfolding table_uses
 loop-n-preserved c =
     let l = c.loop-n in
-    let told = c.check_entry-v.ensures.checked in (
-      search rules,
-      rw add-one (each_goes_on _ l.n _ _ l.invariant.1 told.valid c.refused.ensures c.if-refused.false),
-      simp add-one (counted_then _ _ _ _ _ l.invariant.2 (told.counted (not_refused _ _ c.refused.ensures c.if-refused.false))),
-      rw add-one (noted_next l.n l.invariant.3 c.check_entry-v.ensures.noted),
+    let told = c.check_entry.ensures.checked in (
+      rw add-one (each_more _ l.n l.invariant.0 told.valid c.in_ok-check_entry.was),
+      simp add-one (counted_then _ _ _ _ _ l.invariant.1 (told.counted c.in_ok-check_entry.was)),
+      rw add-one (noted_next l.n l.invariant.2 c.check_entry.ensures.noted),
     )
 
 pub returns : goal.returns
@@ -59,8 +57,8 @@ returns c =
     let all : l.n ≡ entry_count c.args.s.now c.args.table = omega arith in
     record {
       checked = record {
-        valid = sym (ap (λ n. ask_each n (entry_validity c.args.s.now c.args.table)) (sym all) ∙ l.invariant.1);
-        counted = λ fit. subst (λ (k : ℕ). Counted c.args.uses.now l.uses (λ u n. table_uses c.args.s.now u n c.args.table k)) all l.invariant.2;
+        valid = sym (ap (λ n. ask_each n (entry_validity c.args.s.now c.args.table)) (sym all) ∙ l.invariant.0);
+        counted = λ fit. subst (λ (k : ℕ). Counted c.args.uses.now l.uses (λ u n. table_uses c.args.s.now u n c.args.table k)) all l.invariant.1;
       };
-      noted = λ fit. subst (λ (k : ℕ). NotedTo c.args.s.now c.args.table k c.args.jumps.now l.jumps) all l.invariant.3;
+      noted = λ fit. subst (λ (k : ℕ). NotedTo c.args.s.now c.args.table k c.args.jumps.now l.jumps) all l.invariant.2;
     }

@@ -1,6 +1,5 @@
 -- `program::validation::check_table` meets its contract.
 use Rattle.std.specs.Prelude.{Ok}
-use Prim.Native.Nat.{◌≤◌, ◌-◌}
 use mathlib.Core.Path.{◌≡◌}
 use Rattle.program.specs.Asking.{ask_each}
 use Rattle.program.specs.Parts.Counting.{Counted}
@@ -10,7 +9,4 @@ use Rattle.program.proofs.validation.check_table.Given as goal
 
 abbrev pub invariant-loop-n : goal.invariant-loop-n
 invariant-loop-n l =
-    (l.n ≤ l.count) × (ask_each l.n (entry_validity l.s l.table) ≡ Ok tt) × Counted l.initial.uses l.uses (λ u k. table_uses l.s u k l.table l.n) × NotedTo l.s l.table l.n l.initial.jumps l.jumps
-
-abbrev pub decreases-loop-n : goal.decreases-loop-n
-decreases-loop-n l = l.count - l.n
+    (ask_each l.n (entry_validity l.s l.table) ≡ Ok tt) × Counted l.initial.uses l.uses (λ u k. table_uses l.s u k l.table l.n) × NotedTo l.s l.table l.n l.initial.jumps l.jumps

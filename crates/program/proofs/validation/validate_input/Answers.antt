@@ -1,25 +1,20 @@
 -- `program::validation::validate_input` meets its contract.
-use Rattle.std.specs.Prelude.{Ok}
 use Prim.Native.Nat.{ℕ}
 use lib.ListN.{length}
 use mathlib.Core.List.{List}
-use mathlib.Core.Path.{◌≡◌, ◌∙◌, ap}
+use mathlib.Core.Path.{◌≡◌, ◌∙◌, ap, sym}
 use native.Mathlib.Omega.{arith}
 use Rattle.program.specs.Asking.{in_turn}
 use Rattle.program.specs.Parts.Layouts.{heads_of}
-use Rattle.program.specs.File.{program_fields, field_head, initial_field, name_count}
-use Rattle.program.specs.Questions.{head_validity, heads_validity, end_validity, input_validity, input_row}
+use Rattle.program.specs.File.{field_head, initial_field, name_count}
+use Rattle.program.specs.Questions.{head_validity, end_validity, input_validity, input_row}
 use Rattle.program.specs.declared.Field.{Field}
 use Rattle.program.specs.declared.FieldHeads.{FieldHeads}
-use Rattle.program.proofs.Asking.{stops, answered, passed, last_asked, numbered}
+use Rattle.program.proofs.Asking.{raised, passed, last_asked, numbered}
 use Rattle.program.proofs.Fit.{counts_allowed}
 use Rattle.program.proofs.Reading.{laid_names, asked_head, asked_end}
 use Rattle.program.proofs.validation.validate_input.Goals as goal
-use Rattle.program.proofs.validation.validate_input.Goals.{After-check_end-end, After-check_head-initial, Else-refused}
-
--- the questions that are answered yes
-heads_fit : (c : Else-refused) → heads_validity c.args.s.now 0 program_fields ≡ Ok tt
-heads_fit c = answered c.check_heads-heads.ensures c.refused.ensures c.if-refused.false
+use Rattle.program.proofs.validation.validate_input.Goals.{After-check_end, After-check_head}
 
 -- what stands at the start list's field
 fifth : (s : List ℕ) {h : FieldHeads} → h ≡ heads_of s → h.initial ≡ field_head s 4
@@ -27,41 +22,47 @@ unfolding heads_of
 fifth s e = ap (λ (h : FieldHeads). h.initial) e
 
 -- questions 1 to 4 are asked of it
-initial : (c : After-check_head-initial) → c.check_head-initial.result ≡ head_validity (length c.args.s.now) (field_head c.args.s.now 4) (initial_field (name_count c.args.s.now))
+initial : (c : After-check_head) → c.check_head.result ≡ head_validity (length c.args.s.now) (field_head c.args.s.now 4) (initial_field (name_count c.args.s.now))
 initial c =
-    asked_head _ c.check_head-initial.ensures (fifth _ c.heads-h.ensures) (c.initial_field.ensures ∙ ap initial_field (laid_names _ _ (c.layout_by-l.ensures _ c.heads-h.ensures)))
+    asked_head _ c.check_head.ensures (fifth _ c.heads-h.ensures) (c.initial_field.ensures ∙ ap initial_field (laid_names _ _ (c.layout_by-l.ensures _ c.heads-h.ensures)))
 
 -- and question 5 after it
-ended : (c : After-check_end-end) → c.check_end-end.result ≡ end_validity c.args.s.now 5
-ended c = asked_end _ 4 c.check_end-end.ensures c.after.ensures (fifth _ c.heads-h.ensures)
+ended : (c : After-check_end) → c.check_end.result ≡ end_validity c.args.s.now 5
+ended c = asked_end _ 4 c.check_end.ensures c.after.ensures (fifth _ c.heads-h.ensures)
 
-pub returns-then-refused : goal.returns-then-refused
+pub returns-in_err-check_heads : goal.returns-in_err-check_heads
 unfolding input_validity in_turn input_row
-returns-then-refused c = numbered (stops _ _ _ _ c.check_heads-heads.ensures c.refused.ensures c.if-refused.true)
+returns-in_err-check_heads c = numbered (raised _ _ c.check_heads.ensures c.from_residual.ensures.1 c.in_err-check_heads.was)
 
-pub check_head-initial-requires : goal.check_head-initial-requires
+pub check_head-requires : goal.check_head-requires
 unfolding initial_field
-check_head-initial-requires c =
-    omega (arith, (counts_allowed _ (heads_fit (goal.at.check_head-initial-requires c).Else-refused)).some_name, laid_names _ _ (c.layout_by-l.ensures _ c.heads-h.ensures), ap (λ (x : Field). x.width) c.initial_field.ensures)
+check_head-requires c =
+    omega (arith, (counts_allowed _ (sym c.check_heads.ensures ∙ c.in_ok-check_heads.was)).some_name, laid_names _ _ (c.layout_by-l.ensures _ c.heads-h.ensures), ap (λ (x : Field). x.width) c.initial_field.ensures)
 
-pub returns-then-refused-2 : goal.returns-then-refused-2
+pub returns-in_err-check_head : goal.returns-in_err-check_head
 unfolding input_validity in_turn input_row
-returns-then-refused-2 c = numbered (passed (heads_fit (goal.at.returns-then-refused-2 c).Else-refused) (stops _ _ _ _ (initial (goal.at.returns-then-refused-2 c).After-check_head-initial) c.refused-2.ensures c.if-refused-2.true))
-
-pub returns-then-refused-3 : goal.returns-then-refused-3
-unfolding input_validity in_turn input_row
-returns-then-refused-3 c =
+returns-in_err-check_head c =
     numbered
-    (passed (heads_fit (goal.at.returns-then-refused-3 c).Else-refused)
-    (passed (answered (initial (goal.at.returns-then-refused-3 c).After-check_head-initial) c.refused-2.ensures c.if-refused-2.false) (stops _ _ _ _ (ended (goal.at.returns-then-refused-3 c).After-check_end-end) c.refused-3.ensures c.if-refused-3.true)))
+    (passed (sym c.check_heads.ensures ∙ c.in_ok-check_heads.was)
+    (raised _ _ (initial (goal.at.returns-in_err-check_head c).After-check_head) c.from_residual-in_err-check_head.ensures.1 c.in_err-check_head.was))
+
+pub returns-in_err-check_end : goal.returns-in_err-check_end
+unfolding input_validity in_turn input_row
+returns-in_err-check_end c =
+    let p = goal.at.returns-in_err-check_end c in
+    numbered
+    (passed (sym c.check_heads.ensures ∙ c.in_ok-check_heads.was)
+    (passed (sym (initial p.After-check_head) ∙ c.in_ok-check_head.was)
+    (raised _ _ (ended p.After-check_end) c.from_residual-in_err-check_end.ensures.1 c.in_err-check_end.was)))
 
 pub check_content-requires : goal.check_content-requires
-check_content-requires c = (heads_fit (goal.at.check_content-requires c).Else-refused, c.layout_by-l.ensures _ c.heads-h.ensures)
+check_content-requires c = (sym c.check_heads.ensures ∙ c.in_ok-check_heads.was, c.layout_by-l.ensures _ c.heads-h.ensures)
 
 pub returns : goal.returns
 unfolding input_validity in_turn input_row
 returns c =
+    let p = goal.at.returns c in
     numbered
-    (passed (heads_fit (goal.at.returns c).Else-refused)
-    (passed (answered (initial (goal.at.returns c).After-check_head-initial) c.refused-2.ensures c.if-refused-2.false)
-    (passed (answered (ended (goal.at.returns c).After-check_end-end) c.refused-3.ensures c.if-refused-3.false) (last_asked _ _ c.check_content.ensures))))
+    (passed (sym c.check_heads.ensures ∙ c.in_ok-check_heads.was)
+    (passed (sym (initial p.After-check_head) ∙ c.in_ok-check_head.was)
+    (passed (sym (ended p.After-check_end) ∙ c.in_ok-check_end.was) (last_asked _ _ c.check_content.ensures))))

@@ -1,12 +1,13 @@
 -- `program::validation::operands::settled` meets its contract.
-use Rattle.program.specs.Asking.{ask, then_ask, in_turn}
-use Rattle.program.proofs.Asking.{then_fit}
+use mathlib.Core.Path.{sym, ◌∙◌}
+use Rattle.program.specs.Asking.{in_turn}
+use Rattle.program.proofs.Asking.{raised, passed, last_asked}
 use Rattle.program.proofs.validation.operands.settled.Goals as goal
 
-pub returns-then-any_answer : goal.returns-then-any_answer
-unfolding in_turn then_ask ask
-returns-then-any_answer c = rw (← c.any_answer.ensures, c.if-any_answer.true) c.ask.ensures
+pub returns-in_err-ask : goal.returns-in_err-ask
+unfolding in_turn
+returns-in_err-ask c = rw (← c.any_answer.ensures) (raised _ _ c.ask.ensures c.from_residual.ensures.1 c.in_err-ask.was)
 
 pub returns : goal.returns
-unfolding in_turn then_ask ask
-returns c = rw (← c.any_answer.ensures, c.if-any_answer.false, ← c.any_answer-2.ensures, then_fit) c.ask-2.ensures
+unfolding in_turn
+returns c = rw (← c.any_answer.ensures, ← c.any_answer-2.ensures) (passed (sym c.ask.ensures ∙ c.in_ok-ask.was) (last_asked _ _ c.ask-2.ensures))
