@@ -14,7 +14,7 @@ use Rattle.program.proofs.Laws.{ask_fit, turn_fit, edge_faithful, meaning_named_
 use Rattle.program.proofs.Tests.{passed}
 use Rattle.program.specs.Meaning.{meaning}
 use Rattle.semantics.specs.Action.{effect, is_defined}
-use Rattle.semantics.specs.Budget.{Result, run_from, budgeted}
+use Rattle.semantics.specs.Budget.{Finish, run_from, budgeted}
 use Rattle.semantics.specs.Parts.Replaying.{replay, outcomes, step}
 use Rattle.semantics.specs.Step.{Configuration, fresh, begun, leaves, edge_effect, memory_validity, step_validity, outcome_by, outcome_unless_refused, outcome, along}
 use Rattle.semantics.specs.declared.Effect.{Effect}
@@ -138,7 +138,7 @@ unfolding SoundOn Sound
 sound_file κ s initial solution mark fit on m t calls budget =
     let k = on m t calls budget in
     let reached = program_replay_lem κ s fit (begun m) calls in
-    let ran = ap (λ (r : Result). r.final) (program_budgeted_lem κ s fit budget m) in
+    let ran = ap (λ (r : Finish). r.final) (program_budgeted_lem κ s fit budget m) in
     record {
       reached = rw reached k.reached;
       run_reached = rw ran k.run_reached;

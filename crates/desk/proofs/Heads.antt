@@ -62,9 +62,13 @@ unfolding validity_numbers two_told validity_head tell
 validity_two (Ok _) a b = refl
 validity_two (Err x) a b = refl
 
-pub drawn_head : (d : Drawn) → two_told (drawn_numbers d) ≡ tell (validity_head d.validity) (map pos (d.nodes ∷ d.edges ∷ []))
-unfolding drawn_numbers
-drawn_head d = validity_two d.validity d.nodes d.edges
+pub drawn_head : (d : Drawn) → two_told (drawn_numbers (Ok d)) ≡ tell (Answered 0) (map pos (d.nodes ∷ d.edges ∷ []))
+unfolding drawn_numbers two_told tell
+drawn_head d = refl
+
+pub undrawn_head : (x : Refusal) → two_told (drawn_numbers (Err x)) ≡ tell (Declined x.number x.offset) (map pos (0 ∷ 0 ∷ []))
+unfolding drawn_numbers two_told tell
+undrawn_head x = refl
 
 pub split_head : (s : Split) → two_told (split_numbers s) ≡ tell (validity_head s.validity) (map pos (s.record ∷ s.column ∷ []))
 unfolding split_numbers

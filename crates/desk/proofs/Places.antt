@@ -1,5 +1,5 @@
 -- Every answer of the engine has a number, where it is a refusal, and a place that 32 bits hold.
-use Rattle.std.specs.Prelude.{Err, Ok, None, Option, Some}
+use Rattle.std.specs.Prelude.{Err, Ok, None, Option, Some, Result}
 use mathlib.Core.Path.{◌≡◌, refl, sym, ◌∙◌, ap}
 use mathlib.Core.Bool.{Bool, true, false, cond}
 use mathlib.Core.List.{List}
@@ -26,7 +26,7 @@ use Rattle.figures.proofs.Laws.{list_placed, join_placed}
 use Rattle.figures.specs.Figures.{list_figures, join_figures}
 use Rattle.figures.specs.declared.Figures.{Figures}
 use Rattle.figures.specs.declared.Totals.{Totals}
-use Rattle.semantics.specs.Budget.{Result, ends, lowest_defined, goes_on, run_from, ends_unless_refused, budgeted, program_budgeted, budget_reply}
+use Rattle.semantics.specs.Budget.{Finish, ends, lowest_defined, goes_on, run_from, ends_unless_refused, budgeted, program_budgeted, budget_reply}
 use Rattle.semantics.specs.Step.{Configuration, begun, along, memory_validity, step_validity, outcome_by, outcome_unless_refused, outcome, program_outcome, step_reply}
 use Rattle.semantics.specs.declared.Effect.{Effect}
 use Rattle.semantics.specs.declared.Effect.TheVariants.{Undefined as Fails, Unchanged, Stored}
@@ -59,13 +59,9 @@ use Rattle.program.proofs.Never.{never}
 
 -- ---- Drawing and splitting
 
-pub drawn_placed : (κ : Construction) (s buffer : List ℕ) → Placed 7244 (drawn κ s buffer).validity
-unfolding drawn draw_validity drawn_by
-drawn_placed κ s buffer = by (draw_validity κ s buffer) (placed_then _ _ (validity_placed s) (λ _. placed_ask _ 13 0 tt (omega arith)))
-  where
-    by : (v : Validity) → Placed 7244 v → Placed 7244 (drawn_by κ s v).validity
-    by (Ok _) p = p
-    by (Err x) p = p
+pub drawn_placed : (κ : Construction) (s buffer : List ℕ) → Placed 7244 (draw_validity κ s buffer)
+unfolding draw_validity
+drawn_placed κ s buffer = placed_then _ _ (validity_placed s) (λ _. placed_ask _ 13 0 tt (omega arith))
 
 pub split_placed : (s : List ℕ) (place : ℕ) → Placed 7244 (split s place).validity
 unfolding split split_by
@@ -104,11 +100,11 @@ step_told κ s c e = outcome_unless _ _ (validity_placed s) (outcome_unless _ _ 
 abbrev EndingTold : Ending → Type 0
 EndingTold e = (x : Refusal) → e ≡ Halts x → Told 7244 x
 
-arrived_or : (b : Bool) (c : Configuration) (r : Result) → EndingTold r.ending → EndingTold (cond b (ends Arrived c) r).ending
+arrived_or : (b : Bool) (c : Configuration) (r : Finish) → EndingTold r.ending → EndingTold (cond b (ends Arrived c) r).ending
 arrived_or true c r p = λ x e. never (cc)
 arrived_or false c r p = p
 
-goes_told : (further : ℕ → Result) (c : Configuration) (f : Option ℕ) → ((e : ℕ) → EndingTold (further e).ending) → EndingTold (goes_on further c f).ending
+goes_told : (further : ℕ → Finish) (c : Configuration) (f : Option ℕ) → ((e : ℕ) → EndingTold (further e).ending) → EndingTold (goes_on further c f).ending
 unfolding goes_on
 goes_told further c (Some e) p = p e
 goes_told further c None p = λ x e. never (cc)
@@ -117,11 +113,11 @@ run_told : (budget : ℕ) (ns : List ℕ) (g : Graph) (c : Configuration) → En
 unfolding run_from
 run_told zero ns g c = arrived_or (eqb c.run.node 1) c (ends Spent c) (λ x e. never (cc))
 run_told (suc budget) ns g c =
-    let on : ℕ → Result = λ e. run_from budget ns g (along ns g c e) in
+    let on : ℕ → Finish = λ e. run_from budget ns g (along ns g c e) in
     let lowest = lowest_defined ns g c.run.node c.memory in
     arrived_or (eqb c.run.node 1) c (goes_on on c lowest) (goes_told on c lowest (λ e. run_told budget ns g (along ns g c e)))
 
-ends_told : (v : Validity) (m : List ℤ) (r : Result) → Placed 7244 v → EndingTold r.ending → EndingTold (ends_unless_refused v m r).ending
+ends_told : (v : Validity) (m : List ℤ) (r : Finish) → Placed 7244 v → EndingTold r.ending → EndingTold (ends_unless_refused v m r).ending
 unfolding ends_unless_refused
 ends_told (Ok _) m r p q = q
 ends_told (Err y) m r p q = λ x e. let same : y ≡ x = cc in p x (ap Err same)
@@ -290,8 +286,13 @@ program_narrow s = validity_narrow (omega arith) (validity_placed s)
 pub input_narrow : (s : List ℕ) {v : Validity} → v ≡ input_validity s → (x : Refusal) → v ≡ Err x → Narrow x.offset
 input_narrow s = validity_narrow (omega arith) (input_placed s)
 
-pub drawn_narrow : (κ : Construction) (s buffer : List ℕ) {d : Drawn} → d ≡ drawn κ s buffer → (x : Refusal) → d.validity ≡ Err x → Narrow x.offset
-drawn_narrow κ s buffer same = validity_narrow (omega arith) (drawn_placed κ s buffer) (ap (λ (d : Drawn). d.validity) same)
+pub drawn_narrow : (κ : Construction) (s buffer : List ℕ) {d : Result Drawn Refusal} → d ≡ drawn κ s buffer → (x : Refusal) → d ≡ Err x → Narrow x.offset
+unfolding drawn drawn_by
+drawn_narrow κ s buffer same x e = by (draw_validity κ s buffer) (drawn_placed κ s buffer) (sym same ∙ e)
+  where
+    by : (v : Validity) → Placed 7244 v → drawn_by κ s v ≡ Err x → Narrow x.offset
+    by (Ok _) p e = never (cc)
+    by (Err y) p e = omega (arith, (p y refl).near, ap (λ (z : Refusal). z.offset) (let same : y ≡ x = cc in same))
 
 pub split_narrow : (s : List ℕ) (place : ℕ) {r : Split} → r ≡ split s place → (x : Refusal) → r.validity ≡ Err x → Narrow x.offset
 split_narrow s place same = validity_narrow (omega arith) (split_placed s place) (ap (λ (r : Split). r.validity) same)

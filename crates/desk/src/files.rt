@@ -18,6 +18,14 @@ const PARTS: usize = 6;
 
 const DRAWING: usize = 5;
 
+// A refusal: its question's number and its place.
+pub(crate) fn refused(x: Refusal) -> Head
+    requires { spec.Narrow x.offset }
+    ensures { result ≡ Head.Refused x.number x.offset }
+{
+    Head::Refused(x.number, x.offset as u32)
+}
+
 // What the questions answered.
 pub(crate) fn of_validity(v: Result<(), Refusal>) -> Head
     requires { (x : Refusal) → v ≡ Err x → spec.Narrow x.offset }
@@ -25,7 +33,7 @@ pub(crate) fn of_validity(v: Result<(), Refusal>) -> Head
 {
     match v {
         Ok(()) => Head::Answered(0),
-        Err(x) => Head::Refused(x.number, x.offset as u32),
+        Err(x) => refused(x),
     }
 }
 
@@ -61,14 +69,13 @@ pub extern "C" fn pizwoter_input_parts(input: &[u8], reply: &mut [i64]) -> i32
     if reply.len() < PARTS {
         return reply::SHORT;
     }
-    let v = validation::validate_input(input);
-    match v {
+    match validation::validate_input(input) {
         Ok(()) => {
             let program = validation::program_part(input).len() as u32;
             let initial = validation::initial_part(input).len() as u32;
             reply::put(Head::Answered(0), &[program, program + 3, initial], reply)
         }
-        Err(x) => reply::put(Head::Refused(x.number, x.offset as u32), &[0, 0, 0], reply),
+        Err(x) => reply::put(refused(x), &[0, 0, 0], reply),
     }
 }
 
@@ -87,11 +94,12 @@ pub extern "C" fn pizwoter_draw(
     if reply.len() < DRAWING {
         return reply::SHORT;
     }
-    let drawn = drawing::draw_on(drawing::named(construction), program, buffer);
-    let v = drawn.validity;
-    reply::put(
-        of_validity(v),
-        &[drawn.nodes as u32, drawn.edges as u32],
-        reply,
-    )
+    match drawing::draw_on(drawing::named(construction), program, buffer) {
+        Ok(drawn) => reply::put(
+            Head::Answered(0),
+            &[drawn.nodes as u32, drawn.edges as u32],
+            reply,
+        ),
+        Err(x) => reply::put(refused(x), &[0, 0], reply),
+    }
 }

@@ -1,5 +1,5 @@
 -- The text for an input, by the answers to the questions: what the solver, the drawing and the index mark reply gives the lines.
-use Rattle.std.specs.Prelude.{Err, Ok}
+use Rattle.std.specs.Prelude.{Err, Ok, Result}
 use mathlib.Core.Path.{◌≡◌, refl, sym, ap, ◌∙◌}
 use mathlib.Core.Bool.{Bool, true, false, not}
 use mathlib.Core.List.{List, append-nil, flat_map, flatten}
@@ -40,9 +40,23 @@ use Rattle.listing.proofs.Listings.{front_is, listing_read}
 -- ---- Counts and index line
 
 -- the counts as the drawing replies them
-pub drawn_counts : (s buffer : List ℕ) (count : ℕ) → validity s ≡ Ok tt → length buffer ≡ 1785 → {d : Drawn} → d ≡ drawn Nondeterministic s buffer → counts_line d.nodes d.edges count ≡ counts_of s count
-unfolding drawn drawn_by draw_validity then_ask ask counts_of node_count edge_count edges
-drawn_counts s buffer count fit long e = rw (e, fit, le-leb (7 * length (graph Nondeterministic s).edges) (length buffer) (omega (arith, few_edges s fit Nondeterministic)))
+module _ (s buffer : List ℕ) (count : ℕ) (fit : validity s ≡ Ok tt) (long : length buffer ≡ 1785) where
+  drawn_all : drawn Nondeterministic s buffer ≡ Ok (record { nodes = node_count Nondeterministic s; edges = edge_count Nondeterministic s })
+  unfolding drawn drawn_by draw_validity then_ask ask edge_count edges
+  drawn_all = rw (fit, le-leb (7 * length (graph Nondeterministic s).edges) (length buffer) (omega (arith, few_edges s fit Nondeterministic)))
+
+  pub drawn_counts : {d : Drawn} → Ok d ≡ drawn Nondeterministic s buffer → counts_line d.nodes d.edges count ≡ counts_of s count
+  unfolding counts_of node_count edge_count edges
+  drawn_counts {d} e = ap (λ (d : Drawn). counts_line d.nodes d.edges count) (by d (e ∙ drawn_all))
+    where
+      by : (d : Drawn) {all : Drawn} → ◌≡◌ {A = Result Drawn Refusal} (Ok d) (Ok all) → d ≡ all
+      by d e = cc
+
+  pub never_undrawn : {A : Type 0} {x : Refusal} → Err x ≡ drawn Nondeterministic s buffer → A
+  never_undrawn e = by (e ∙ drawn_all)
+    where
+      by : {A : Type 0} {x : Refusal} {d : Drawn} → ◌≡◌ {A = Result Drawn Refusal} (Err x) (Ok d) → A
+      by e = never (cc)
 
 -- the mark that comes back
 pub mark_told_lem : (s bytes : List ℕ) {m : Marking} {mark : Mark} → WellMarked s bytes → m ≡ marking s bytes → m ≡ Marked mark → mark ≡ index_mark (sizes s) (graph Nondeterministic s) bytes

@@ -22,14 +22,16 @@ use std::io::{Read, Write};
 // line's end), and the counts and the index line have less than a hundred each.
 pub const TEXT: usize = 300000;
 
-// The line of counts for a list of so many records.
+// The line of counts for a list of so many records. The graph of a fit program is never refused: the array holds the most edges.
 fn put_counts_of(program: &[u8], count: u16, out: &mut [u8]) -> usize
     requires { (Questions.validity program.now ≡ Ok tt) × parts.Room 0 (spec.line_text (parts.counts_of program.now count)) out.old }
     ensures { parts.Put 0 (spec.line_text (parts.counts_of program.now count)) out.old out.new result }
 {
     let mut edges = [0u8; drawing::BYTES];
-    let d = drawing::draw_on(Construction::Nondeterministic, program, &mut edges);
-    lines::put_counts(d.nodes, d.edges, count, 0, out)
+    match drawing::draw_on(Construction::Nondeterministic, program, &mut edges) {
+        Ok(d) => lines::put_counts(d.nodes, d.edges, count, 0, out),
+        Err(_) => 0,
+    }
 }
 
 // The index line of a list that is well formed, so that neither refusal comes up.

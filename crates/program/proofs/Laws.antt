@@ -1,5 +1,5 @@
 -- The theorems on programs and their graphs for the crates above, on one page. Their proofs are in the modules that they cite.
-use Rattle.std.specs.Prelude.{Ok, None, Some}
+use Rattle.std.specs.Prelude.{Ok, None, Some, Result}
 use mathlib.Core.Path.{◌≡◌, refl}
 use mathlib.Core.Bool.{Bool, true, false, ◌&&◌, ◌||◌}
 use mathlib.Core.List.{List, foldl}
@@ -291,7 +291,7 @@ refusal_read = Readback.refusal_read
 pub validity_row : (v w : Validity) → validity_numbers v ≡ validity_numbers w → v ≡ w
 validity_row = Readback.validity_row
 
-pub drawn_row : (c d : Drawn) → drawn_numbers c ≡ drawn_numbers d → c ≡ d
+pub drawn_row : (c d : Result Drawn Refusal) → drawn_numbers c ≡ drawn_numbers d → c ≡ d
 drawn_row = Readback.drawn_row
 
 -- ---- First such

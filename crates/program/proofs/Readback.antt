@@ -1,5 +1,5 @@
 -- A row of numbers read back: two answers with the same row are the same, so the `numbers` clause of an operation alone fixes its reply.
-use Rattle.std.specs.Prelude.{Err, Ok}
+use Rattle.std.specs.Prelude.{Err, Ok, Result}
 use mathlib.Core.Path.{◌≡◌, refl, sym, ap, ◌∙◌}
 use mathlib.Core.Bool.{cond}
 use mathlib.Core.List.{List}
@@ -30,17 +30,16 @@ validity_back (Err x) = refl
 pub validity_row : (v w : Validity) → validity_numbers v ≡ validity_numbers w → v ≡ w
 validity_row v w = same_row validity_numbers (λ l. validity_read l) (validity_back v) (validity_back w)
 
-abbrev drawn_read : List ℕ → Drawn
+abbrev drawn_read : List ℕ → Result Drawn Refusal
 drawn_read l =
     cond (eqb (length l) 3)
-    (record { validity = Ok tt; nodes = get_or l 1 0; edges = get_or l 2 0 })
-    (record { validity = Err (refusal_read l); nodes = get_or l 2 0; edges = get_or l 3 0 })
+    (Ok (record { nodes = get_or l 1 0; edges = get_or l 2 0 }))
+    (Err (refusal_read l))
 
-drawn_back : (v : Validity) (n e : ℕ) → let d : Drawn = record { validity = v; nodes = n; edges = e } in drawn_read (drawn_numbers d) ≡ d
-unfolding drawn_numbers validity_numbers
-drawn_back (Ok _) n e = refl
-drawn_back (Err x) n e = refl
+drawn_back : (d : Result Drawn Refusal) → drawn_read (drawn_numbers d) ≡ d
+unfolding drawn_numbers
+drawn_back (Ok d) = refl
+drawn_back (Err x) = refl
 
-pub drawn_row : (c d : Drawn) → drawn_numbers c ≡ drawn_numbers d → c ≡ d
-drawn_row c d =
-    same_row drawn_numbers (λ l. drawn_read l) (drawn_back c.validity c.nodes c.edges) (drawn_back d.validity d.nodes d.edges)
+pub drawn_row : (c d : Result Drawn Refusal) → drawn_numbers c ≡ drawn_numbers d → c ≡ d
+drawn_row c d = same_row drawn_numbers (λ l. drawn_read l) (drawn_back c) (drawn_back d)

@@ -51,16 +51,6 @@ fn put_edge(buffer: &mut [u8], at: usize, source: u16, target: u16, kind: u8, en
     put_word(buffer, at + 5, entry);
 }
 
-fn refused(x: Refusal) -> Drawn
-    ensures { result ≡ record { validity = Err x; nodes = 0; edges = 0 } }
-{
-    Drawn {
-        validity: Err(x),
-        nodes: 0,
-        edges: 0,
-    }
-}
-
 // The bytes of a prepared graph's edges, seven for each, over the start of a buffer.
 fn put_bytes(graph: &[u16; GRAPH], buffer: &mut [u8])
     requires { 7 * get_or graph.now Prepared.edge_count_place 0 ≤ length buffer.old }
@@ -79,7 +69,7 @@ fn put_bytes(graph: &[u16; GRAPH], buffer: &mut [u8])
 }
 
 // Question 13 of a well-formed program. Its graph is drawn aside first: a buffer that is too short stays as it is.
-fn draw_fit(construction: Construction, s: &[u8], buffer: &mut [u8]) -> Drawn
+fn draw_fit(construction: Construction, s: &[u8], buffer: &mut [u8]) -> Result<Drawn, Refusal>
     requires { Questions.validity s.now ≡ Ok tt }
     ensures { (result ≡ spec.drawn construction s.now buffer.old)
         × (buffer.new ≡ spec.drawn_buffer construction s.now buffer.old) }
@@ -89,45 +79,22 @@ fn draw_fit(construction: Construction, s: &[u8], buffer: &mut [u8]) -> Drawn
     graphing::put_graph(construction, s, l, &mut graph);
     let edges = prepared::edge_count(&graph);
     let end = 7 * file::long(edges);
-    if buffer.len() < end {
-        return refused(Refusal {
-            number: 13,
-            offset: 0,
-        });
-    }
+    validation::ask(end <= buffer.len(), 13, 0)?;
     put_bytes(&graph, buffer);
-    Drawn {
-        validity: Ok(()),
+    Ok(Drawn {
         nodes: prepared::node_count(&graph),
         edges,
-    }
-}
-
-// The graph of a file of known validity, drawn into a buffer.
-fn draw_valid(
-    construction: Construction,
-    s: &[u8],
-    buffer: &mut [u8],
-    v: Result<(), Refusal>,
-) -> Drawn
-    requires { v ≡ Questions.validity s.now }
-    ensures { (result ≡ spec.drawn construction s.now buffer.old)
-        × (buffer.new ≡ spec.drawn_buffer construction s.now buffer.old) }
-{
-    match v {
-        Ok(()) => draw_fit(construction, s, buffer),
-        Err(x) => refused(x),
-    }
+    })
 }
 
 // Draws the graph of a program file by a construction: the edges' bytes over the start of the buffer.
-pub fn draw_on(construction: Construction, s: &[u8], buffer: &mut [u8]) -> Drawn
+pub fn draw_on(construction: Construction, s: &[u8], buffer: &mut [u8]) -> Result<Drawn, Refusal>
     ensures value { (result ≡ spec.drawn construction s.now buffer.old)
         × (buffer.new ≡ spec.drawn_buffer construction s.now buffer.old) }
     ensures numbers { spec.drawn_numbers result ≡ spec.drawing_row construction s.now buffer.old }
 {
-    let v = validation::validate(s);
-    draw_valid(construction, s, buffer, v)
+    validation::validate(s)?;
+    draw_fit(construction, s, buffer)
 }
 
 // The construction where the caller names none.
@@ -149,7 +116,7 @@ pub fn named(number: u32) -> Construction
 }
 
 // Draws the graph of a program file, where the caller names no construction.
-pub fn draw(s: &[u8], buffer: &mut [u8]) -> Drawn
+pub fn draw(s: &[u8], buffer: &mut [u8]) -> Result<Drawn, Refusal>
     ensures value { (result ≡ spec.drawn Graph.unnamed s.now buffer.old)
         × (buffer.new ≡ spec.drawn_buffer Graph.unnamed s.now buffer.old) }
     ensures numbers { spec.drawn_numbers result ≡ spec.drawing_row Graph.unnamed s.now buffer.old }

@@ -60,10 +60,9 @@ pub struct Refusal {
     pub offset: usize,
 }
 
-// What drawing the graph replies: the counts are zero where it is refused.
+// What drawing the graph replies: how many nodes and edges it has.
 #[derive(Clone, Copy)]
 pub struct Drawn {
-    pub validity: Result<(), Refusal>,
     pub nodes: u16,
     pub edges: u16,
 }

@@ -6,7 +6,9 @@
 // asks for document 01's graph by name, 32 more for the deterministic one.
 #![tactic(auto)]
 
-use program::{Drawn, EdgeBytes, Entry, FieldHead, Table, drawing, file, reader, validation};
+use program::{
+    Drawn, EdgeBytes, Entry, FieldHead, Refusal, Table, drawing, file, reader, validation,
+};
 use std::io::{BufWriter, Read, Write};
 use std::{fs, io};
 
@@ -33,10 +35,9 @@ fn print_counts<W: Write>(out: &mut W, d: Drawn) -> io::Result<()> {
     printing::word(out, d.edges)
 }
 
-fn print_drawn<W: Write>(out: &mut W, d: Drawn) -> io::Result<()> {
-    let v = d.validity;
-    match v {
-        Ok(()) => print_counts(out, d),
+fn print_drawn<W: Write>(out: &mut W, drawn: Result<Drawn, Refusal>) -> io::Result<()> {
+    match drawn {
+        Ok(d) => print_counts(out, d),
         Err(x) => printing::refusal(out, x),
     }
 }
@@ -64,7 +65,7 @@ fn number(x: u8) -> u32 {
 }
 
 // The graph by the construction that a number names; 0 names none.
-fn draw_by(on: u8, s: &[u8], buffer: &mut [u8]) -> Drawn {
+fn draw_by(on: u8, s: &[u8], buffer: &mut [u8]) -> Result<Drawn, Refusal> {
     if on == 0 {
         drawing::draw(s, buffer)
     } else {
@@ -75,13 +76,16 @@ fn draw_by(on: u8, s: &[u8], buffer: &mut [u8]) -> Drawn {
 // Mode 1: the graph, a line for each edge.
 fn answer_edges<W: Write>(out: &mut W, on: u8, s: &[u8]) -> io::Result<()> {
     let mut edges = [0u8; drawing::BYTES];
-    let d = draw_by(on, s, &mut edges);
-    print_drawn(out, d)?;
+    let drawn = draw_by(on, s, &mut edges);
+    print_drawn(out, drawn)?;
     printing::text(out, b"\n")?;
-    print_edges(out, &edges, d.edges)
+    match drawn {
+        Ok(d) => print_edges(out, &edges, d.edges),
+        Err(_) => Ok(()),
+    }
 }
 
-fn draw_front(on: u8, s: &[u8], buffer: &mut [u8], room: usize) -> Drawn {
+fn draw_front(on: u8, s: &[u8], buffer: &mut [u8], room: usize) -> Result<Drawn, Refusal> {
     if room <= buffer.len() {
         draw_by(on, s, &mut buffer[..room])
     } else {
@@ -92,8 +96,8 @@ fn draw_front(on: u8, s: &[u8], buffer: &mut [u8], room: usize) -> Drawn {
 // Mode 2: the graph drawn into the first bytes of a buffer, and a checksum of the whole buffer.
 fn answer_sum<W: Write>(out: &mut W, on: u8, s: &[u8], room: usize) -> io::Result<()> {
     let mut buffer = [170u8; 2000];
-    let d = draw_front(on, s, &mut buffer, room);
-    print_drawn(out, d)?;
+    let drawn = draw_front(on, s, &mut buffer, room);
+    print_drawn(out, drawn)?;
     printing::text(out, b" sum ")?;
     printing::number(out, cases::mix_bytes(&buffer))?;
     printing::text(out, b"\n")

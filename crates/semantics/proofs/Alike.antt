@@ -15,7 +15,7 @@ use Rattle.program.specs.Graph.{Graph, edge_at}
 use Rattle.program.specs.Parts.Prepared.{Prepared}
 use Rattle.program.proofs.Laws.{such_same}
 use Rattle.semantics.specs.Action.{after, is_defined}
-use Rattle.semantics.specs.Budget.{lowest_defined, Result, ends, goes_on, run_from}
+use Rattle.semantics.specs.Budget.{lowest_defined, Finish, ends, goes_on, run_from}
 use Rattle.semantics.specs.Parts.Cells.{front, Placed}
 use Rattle.semantics.specs.Expression.{cell_value}
 use Rattle.semantics.specs.Parts.Running.{EndsAs}
@@ -37,7 +37,7 @@ record Alike (ns : List ℕ) (m m' : List ℤ) : Type 0 where
   pub same : (k : ℕ) → k < cell_count ns → cell_value m k ≡ cell_value m' k
 
 -- results of runs in them
-record Matching (ns : List ℕ) (r r' : Result) : Type 0 where
+record Matching (ns : List ℕ) (r r' : Finish) : Type 0 where
   pub run : r.final.run ≡ r'.final.run
   pub ending : r.ending ≡ r'.ending
   pub memory : Alike ns r.final.memory r'.final.memory

@@ -21,7 +21,7 @@ use Rattle.program.specs.declared.Construction.TheVariants.{Deterministic}
 use Rattle.program.specs.declared.Refusal.{Refusal}
 use Rattle.program.specs.Meaning.{Meaning}
 use Rattle.semantics.specs.Action.{effect, after, is_defined}
-use Rattle.semantics.specs.Budget.{lowest_defined, Result, ends, run_from, budgeted, program_budgeted, ended_numbers}
+use Rattle.semantics.specs.Budget.{lowest_defined, Finish, ends, run_from, budgeted, program_budgeted, ended_numbers}
 use Rattle.semantics.specs.Expression.{cell_value, at, place_of, value, truth_in, Evaluation}
 use Rattle.semantics.specs.Parts.Replaying.{replay, outcomes, step}
 use Rattle.semantics.specs.Replay.{program_replay, program_outcomes}
@@ -103,7 +103,7 @@ module _ (ns : List ℕ) (g : Graph) where
   lowest_none = Runs.lowest_none ns g
 
   -- what holds where a run starts and is kept by each edge taken gives what holds where it ends
-  pub run_ends : (I : Configuration → Type 0) (P : Result → Type 0)
+  pub run_ends : (I : Configuration → Type 0) (P : Finish → Type 0)
       → ((c : Configuration) (e : ℕ) → lowest_defined ns g c.run.node c.memory ≡ Some e → I c → I (along ns g c e))
       → ((c : Configuration) → I c → c.run.node ≡ 1 → P (ends Arrived c))
       → ((c : Configuration) → I c → c.run.node ≢ 1 → P (ends Spent c))
@@ -141,11 +141,11 @@ module _ (ns : List ℕ) (g : Graph) where
       → (replay ns g c es).run.count ≡ min (c.run.count + length es) 65535
   replay_count = Runs.replay_count ns g
 
-  pub run_count : (budget : ℕ) (r : Result) (c : Configuration) → c.run.count ≤ 65535 → (p : Replayed ns g budget c r)
+  pub run_count : (budget : ℕ) (r : Finish) (c : Configuration) → c.run.count ≤ 65535 → (p : Replayed ns g budget c r)
       → r.final.run.count ≡ min (c.run.count + length p.calls) 65535
   run_count = Runs.run_count ns g
 
-  pub fresh_count : (budget : ℕ) (r : Result) (m : List ℤ) → budget ≤ 65535 → (p : Replayed ns g budget (begun m) r)
+  pub fresh_count : (budget : ℕ) (r : Finish) (m : List ℤ) → budget ≤ 65535 → (p : Replayed ns g budget (begun m) r)
       → r.final.run.count ≡ length p.calls
   fresh_count = Runs.fresh_count ns g
 

@@ -20,7 +20,7 @@ use Rattle.program.specs.declared.Refusal.{Refusal}
 use Rattle.program.proofs.Laws.{such_first, such_none, two_nodes, edge_inside}
 use Rattle.program.proofs.Tests.{passed}
 use Rattle.semantics.specs.Action.{is_defined}
-use Rattle.semantics.specs.Budget.{lowest_defined, Result, ends, goes_on, run_from, ends_unless_refused, budgeted, program_budgeted}
+use Rattle.semantics.specs.Budget.{lowest_defined, Finish, ends, goes_on, run_from, ends_unless_refused, budgeted, program_budgeted}
 use Rattle.semantics.specs.Parts.Replaying.{replay, outcomes, step}
 use Rattle.semantics.specs.Step.{Configuration, fresh, begun, leaves, edge_effect, memory_validity, outcome, along}
 use Rattle.semantics.specs.declared.Ending.{Ending}
@@ -29,7 +29,7 @@ use Rattle.semantics.specs.declared.Outcome.TheVariants.{Taken}
 use Rattle.semantics.proofs.Steps.{Takable, memory_fit, leaves_below, takable_taken, taken_step, along_length}
 
 -- a result r, reached from c within a budget, as a list of calls that are all taken
-pub record Replayed (ns : List ℕ) (g : Graph) (budget : ℕ) (c : Configuration) (r : Result) : Type 0 where
+pub record Replayed (ns : List ℕ) (g : Graph) (budget : ℕ) (c : Configuration) (r : Finish) : Type 0 where
   pub calls : List ℕ
   pub few : length calls ≤ budget
   pub reached : r.final ≡ replay ns g c calls
@@ -37,7 +37,7 @@ pub record Replayed (ns : List ℕ) (g : Graph) (budget : ℕ) (c : Configuratio
   pub all_spent : r.ending ≡ Spent → length calls ≡ budget
 
 -- how a result r ends: at node 1 or not, and stuck only where no edge out of the node is defined
-pub record Stops (ns : List ℕ) (g : Graph) (r : Result) : Type 0 where
+pub record Stops (ns : List ℕ) (g : Graph) (r : Finish) : Type 0 where
   pub arrived : r.ending ≡ Arrived → r.final.run.node ≡ 1
   pub at_end : r.final.run.node ≡ 1 → r.ending ≡ Arrived
   pub stuck : r.ending ≡ Stuck → (e : ℕ) → T (leaves g e r.final.run.node) → is_defined (edge_effect ns g r.final.memory e) ≡ false
@@ -69,12 +69,12 @@ module _ (ns : List ℕ) (g : Graph) where
       omega (arith, replay_count (step ns g c e) es (omega arith) later)
 
   -- what holds where a run starts and is kept by each edge taken gives what holds where it ends
-  module _ (I : Configuration → Type 0) (P : Result → Type 0)
+  module _ (I : Configuration → Type 0) (P : Finish → Type 0)
       (keeps : (c : Configuration) (e : ℕ) → lowest_defined ns g c.run.node c.memory ≡ Some e → I c → I (along ns g c e))
       (arrives : (c : Configuration) → I c → c.run.node ≡ 1 → P (ends Arrived c))
       (spends : (c : Configuration) → I c → c.run.node ≢ 1 → P (ends Spent c))
       (sticks : (c : Configuration) → I c → c.run.node ≢ 1 → lowest_defined ns g c.run.node c.memory ≡ None → P (ends Stuck c)) where
-    either : (c : Configuration) (r : Result) → I c → (c.run.node ≢ 1 → P r) → (b : Bool) → eqb c.run.node 1 ≡ b → P (cond b (ends Arrived c) r)
+    either : (c : Configuration) (r : Finish) → I c → (c.run.node ≢ 1 → P r) → (b : Bool) → eqb c.run.node 1 ≡ b → P (cond b (ends Arrived c) r)
     either c r i other true p = arrives c i (eqb-true c.run.node 1 p)
     either c r i other false p = other (eqb-false c.run.node 1 p)
 
@@ -100,7 +100,7 @@ module _ (ns : List ℕ) (g : Graph) where
 
   pub run_length : (budget : ℕ) (c : Configuration) → length (run_from budget ns g c).final.memory ≡ length c.memory
   run_length budget c =
-      run_ends (λ (d : Configuration). length d.memory ≡ length c.memory) (λ (r : Result). length r.final.memory ≡ length c.memory)
+      run_ends (λ (d : Configuration). length d.memory ≡ length c.memory) (λ (r : Finish). length r.final.memory ≡ length c.memory)
       (λ d e p i. along_length ns g d e ∙ i) (λ d i h. i) (λ d i h. i) (λ d i h none. i)
       budget c refl
 
@@ -110,7 +110,7 @@ module _ (ns : List ℕ) (g : Graph) where
   stays budget c x spent = record { calls = []; few = omega arith; reached = refl; all_taken = refl; all_spent = spent }
 
   -- a run along an edge that can be taken, and what follows
-  moves : (budget : ℕ) (c : Configuration) (e : ℕ) (r : Result) → Takable ns g c e → Replayed ns g budget (along ns g c e) r → Replayed ns g (suc budget) c r
+  moves : (budget : ℕ) (c : Configuration) (e : ℕ) (r : Finish) → Takable ns g c e → Replayed ns g budget (along ns g c e) r → Replayed ns g (suc budget) c r
   unfolding replay outcomes
   moves budget c e r can p =
       let taken = takable_taken ns g c e can in
@@ -177,7 +177,7 @@ module _ (ns : List ℕ) (g : Graph) where
     budgeted_replayed budget m some fit = rw (budgeted_run budget m fit) (run_replayed budget (begun m) (memory_fit ns m fit) some)
 
 -- the count of a run is the number of its calls, up to 65,535
-module _ (ns : List ℕ) (g : Graph) (budget : ℕ) (r : Result) where
+module _ (ns : List ℕ) (g : Graph) (budget : ℕ) (r : Finish) where
   pub run_count : (c : Configuration) → c.run.count ≤ 65535 → (p : Replayed ns g budget c r) → r.final.run.count ≡ min (c.run.count + length p.calls) 65535
   run_count c small p = ap (λ (d : Configuration). d.run.count) p.reached ∙ replay_count ns g c p.calls small p.all_taken
 

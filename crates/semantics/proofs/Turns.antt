@@ -13,7 +13,7 @@ use lib.ListN.{length}
 use Rattle.program.specs.Graph.{Graph, edge_at}
 use Rattle.program.specs.Parts.Prepared.{target_in, Prepared}
 use Rattle.semantics.specs.Action.{after}
-use Rattle.semantics.specs.Budget.{lowest_defined, Result, ends, goes_on, run_from}
+use Rattle.semantics.specs.Budget.{lowest_defined, Finish, ends, goes_on, run_from}
 use Rattle.semantics.specs.Parts.Cells.{NumbersIn}
 use Rattle.semantics.specs.Parts.Running.{Lowest, ending_at, Reached, EndsAs}
 use Rattle.semantics.specs.Step.{Configuration, fresh, begun, edge_effect, along}
@@ -60,8 +60,8 @@ ends_as : (ns : List ℕ) (g : Graph) (code : List ℕ) (budget left : ℕ) (sta
 ends_as ns g code budget left start run m x r p =
     let whole = r.same ∙ p in
     record {
-      reply = ap (λ (y : Result). record { run = y.final.run; ending = y.ending }) (sym whole);
-      memory = ap (λ (y : Result). y.final.memory) (sym whole);
+      reply = ap (λ (y : Finish). record { run = y.final.run; ending = y.ending }) (sym whole);
+      memory = ap (λ (y : Finish). y.final.memory) (sym whole);
     }
 
 pub stops_as : (ns : List ℕ) (g : Graph) (code : List ℕ) (budget left : ℕ) (start : List ℤ) (run : Run) (m : List ℤ) (x : Ended) → Reached ns g code budget left start run m

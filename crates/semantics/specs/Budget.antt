@@ -17,21 +17,21 @@ unfoldable pub lowest_defined : List ℕ → Graph → ℕ → List ℤ → Opti
 lowest_defined ns g node m = first_such (length g.edges) (λ e. leaves g e node && is_defined (edge_effect ns g m e))
 
 -- where a run ends, and how
-pub record Result : Type 0 where
+pub record Finish : Type 0 where
   pub ending : Ending
   pub final : Configuration
 
-abbrev pub ends : Ending → Configuration → Result
+abbrev pub ends : Ending → Configuration → Finish
 ends x c = record { ending = x; final = c }
 
 -- a run goes on along an edge, or is stuck where there is none
-unfoldable pub goes_on : (ℕ → Result) → Configuration → Option ℕ → Result
+unfoldable pub goes_on : (ℕ → Finish) → Configuration → Option ℕ → Finish
 goes_on further c (Some e) = further e
 goes_on further c None = ends Stuck c
 
 -- "takes the lowest-numbered defined arrow each time. It answers 0 at node 1, else 1 if the budget is used up, else 2 if no arrow is defined, in
 -- that order of asking"
-unfoldable pub run_from : ℕ → List ℕ → Graph → Configuration → Result
+unfoldable pub run_from : ℕ → List ℕ → Graph → Configuration → Finish
 run_from zero ns g c = cond (eqb c.run.node 1) (ends Arrived c) (ends Spent c)
 run_from (suc budget) ns g c =
     cond (eqb c.run.node 1)
@@ -39,16 +39,16 @@ run_from (suc budget) ns g c =
     (goes_on (λ e. run_from budget ns g (along ns g c e)) c (lowest_defined ns g c.run.node c.memory))
 
 -- where a question is refused, the run is at node 0 with no edge taken: "other counts and nodes come back as zero"
-unfoldable pub ends_unless_refused : Validity → List ℤ → Result → Result
+unfoldable pub ends_unless_refused : Validity → List ℤ → Finish → Finish
 ends_unless_refused (Ok _) m r = r
 ends_unless_refused (Err x) m r = ends (Refuses x) (begun m)
 
 -- "A run from node 0 with a budget", over a memory of which question 12 is asked
-unfoldable pub budgeted : List ℕ → Graph → ℕ → List ℤ → Result
+unfoldable pub budgeted : List ℕ → Graph → ℕ → List ℤ → Finish
 budgeted ns g budget m = ends_unless_refused (memory_validity ns m) m (run_from budget ns g (begun m))
 
 -- the same of a program file on its graph by a construction κ; the file's questions are asked first; the reply "with node and count"
-unfoldable pub program_budgeted : Construction → List ℕ → ℕ → List ℤ → Result
+unfoldable pub program_budgeted : Construction → List ℕ → ℕ → List ℤ → Finish
 program_budgeted κ s budget m = ends_unless_refused (validity s) m (budgeted (sizes s) (graph κ s) budget m)
 
 unfoldable pub budget_reply : Construction → List ℕ → ℕ → List ℤ → Ended

@@ -2,7 +2,7 @@
 use Rattle.std.specs.Prelude.{◌≡◌, cond, List, ℕ, ◌<◌, eqb, ltb, ℤ, None, Some}
 use Rattle.program.specs.Graph.{Graph}
 use Rattle.semantics.specs.Action.{after}
-use Rattle.semantics.specs.Budget.{lowest_defined, Result, run_from}
+use Rattle.semantics.specs.Budget.{lowest_defined, Finish, run_from}
 use Rattle.semantics.specs.Parts.Cells.{NumbersIn}
 use Rattle.semantics.specs.Step.{begun, edge_effect}
 use Rattle.semantics.specs.declared.Ended.{Ended}
@@ -26,6 +26,6 @@ pub record Reached (ns : List ℕ) (g : Graph) (code : List ℕ) (budget left : 
   pub numbers : NumbersIn code m
 
 -- a reply and a memory that say where a run ended
-pub record EndsAs (r : Result) (m : List ℤ) (x : Ended) : Type 0 where
+pub record EndsAs (r : Finish) (m : List ℤ) (x : Ended) : Type 0 where
   pub reply : x ≡ record { run = r.final.run; ending = r.ending }
   pub memory : m ≡ r.final.memory

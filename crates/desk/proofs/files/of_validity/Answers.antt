@@ -2,8 +2,8 @@
 use Rattle.desk.specs.Parts.Heads.{validity_head}
 use Rattle.desk.proofs.files.of_validity.Goals as goal
 
-pub overflow_cast-result : goal.overflow_cast-result
-overflow_cast-result c = record { fits = c.requires _ c.in-Err.is }
+pub refused-requires : goal.refused-requires
+refused-requires c = c.requires _ c.in-Err.is
 
 pub returns-in-Ok : goal.returns-in-Ok
 unfolding validity_head
@@ -11,4 +11,4 @@ returns-in-Ok c = rw c.in-Ok.is
 
 pub returns-in-Err : goal.returns-in-Err
 unfolding validity_head
-returns-in-Err c = rw c.in-Err.is
+returns-in-Err c = rw (c.in-Err.is) c.refused.ensures

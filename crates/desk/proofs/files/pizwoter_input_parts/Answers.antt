@@ -20,7 +20,7 @@ returns-then-reply-lt-PARTS c = short_told _ _ (omega (arith, c.if-reply-lt-PART
 
 -- the input is fit
 fit : (c : In-Ok) → input_validity c.args.input.now ≡ Ok tt
-fit c = sym c.validate_input-v.ensures.value ∙ c.in-Ok.is
+fit c = sym c.validate_input.ensures.value ∙ c.in-Ok.is
 
 pub overflow_cast-program : goal.overflow_cast-program
 overflow_cast-program c = record { fits = omega (arith, program_short _ (fit (goal.at.overflow_cast-program c).In-Ok) c.program_part.ensures) }
@@ -31,8 +31,8 @@ overflow_cast-initial c = record { fits = omega (arith, initial_short _ (fit (go
 pub overflow_add-program : goal.overflow_add-program
 overflow_add-program c = record { fits = omega (arith, program_short _ (fit (goal.at.overflow_add-program c).In-Ok) c.program_part.ensures) }
 
-pub overflow_cast-x : goal.overflow_cast-x
-overflow_cast-x c = record { fits = input_narrow _ c.validate_input-v.ensures.value _ c.in-Err.is }
+pub refused-requires : goal.refused-requires
+refused-requires c = input_narrow _ c.validate_input.ensures.value _ c.in-Err.is
 
 pub returns-in-Ok : goal.returns-in-Ok
 unfolding parts input_row
@@ -44,4 +44,4 @@ pub returns-in-Err : goal.returns-in-Err
 unfolding parts input_row
 returns-in-Err c =
     told_by (omega (arith, c.if-reply-lt-PARTS.false)) (map pos (0 ∷ 0 ∷ 0 ∷ [])) c.put-in-Err.type_inv
-    (rw (sym c.validate_input-v.ensures.value ∙ c.in-Err.is) (parts_head _ _ _)) refl c.put-in-Err.ensures
+    (rw (sym c.validate_input.ensures.value ∙ c.in-Err.is) (parts_head _ _ _)) c.refused.ensures c.put-in-Err.ensures

@@ -1,14 +1,20 @@
 -- `program::drawing::draw_fit` meets its contract.
 use Prim.Native.Nat.{ℕ}
 use mathlib.Core.List.{List}
-use mathlib.Core.Path.{◌≡◌, refl, ◌∙◌, ap}
+use mathlib.Core.Path.{◌≡◌, refl, sym, ◌∙◌, ap}
 use native.Mathlib.Omega.{arith}
-use Rattle.program.specs.Drawing.{drawn, drawn_by, drawn_buffer, drawn_buffer_by, over}
+use Rattle.std.specs.Prelude.{Ok, Err, ◌*◌, leb, length}
+use Rattle.program.specs.Asking.{ask}
+use Rattle.program.specs.Drawing.{drawn, drawn_by, drawn_buffer, drawn_buffer_by, draw_validity, over}
+use Rattle.program.specs.Questions.{validity}
+use Rattle.signs.proofs.Results.{handed_on}
+use borrow.Author.Tests.{leb-true}
+use Rattle.program.proofs.Asking.{ask_fit, passed}
 use Rattle.program.specs.Parts.DrawingParts.{rows_in}
 use Rattle.program.specs.Graph.{edge_count}
 use Rattle.program.proofs.Drawings.{rows_all, too_short, long_enough}
 use Rattle.program.proofs.drawing.draw_fit.Goals as goal
-use Rattle.program.proofs.drawing.draw_fit.Goals.{After-long-end}
+use Rattle.program.proofs.drawing.draw_fit.Goals.{After-ask, After-long-end}
 
 -- how many edges were drawn
 edges : (c : After-long-end) → c.edge_count-edges.result ≡ edge_count c.args.construction c.args.s.now
@@ -20,15 +26,22 @@ count c = c.long-end.ensures ∙ (edges c)
 pub put_graph-requires : goal.put_graph-requires
 put_graph-requires c = (c.requires, c.fit_layout-l.ensures, refl)
 
-pub returns-then-buffer-end : goal.returns-then-buffer-end
+-- question 13 is all that is left to ask
+asked : (c : After-ask) → validity c.args.s.now ≡ Ok tt → c.long-end.result ≡ edge_count c.args.construction c.args.s.now → c.ask.result ≡ draw_validity c.args.construction c.args.s.now c.args.buffer.now
+unfolding draw_validity
+asked c fit e = passed fit (c.ask.ensures ∙ ap (λ (n : ℕ). ask (leb (7 * n) (length c.args.buffer.now)) 13 0) e)
+
+pub returns-in_err-ask : goal.returns-in_err-ask
 unfolding drawn drawn_by drawn_buffer drawn_buffer_by
-returns-then-buffer-end c =
-    rw (too_short c.args.construction c.args.s.now c.args.buffer.now c.requires (omega (arith, c.if-buffer-end.true, count (goal.at.returns-then-buffer-end c).After-long-end)))
-    (c.refused.ensures, refl)
+returns-in_err-ask c =
+    let p = goal.at.returns-in_err-ask c in
+    let no : draw_validity c.args.construction c.args.s.now c.args.buffer.now ≡ Err _ = sym (asked p.After-ask c.requires (count p.After-long-end)) ∙ c.in_err-ask.was in
+    rw no (handed_on _ c.from_residual.ensures.1, refl)
 
 pub put_bytes-requires : goal.put_bytes-requires
 put_bytes-requires c =
-    omega (arith, c.if-buffer-end.false, c.long-end.ensures, c.edge_count-edges.ensures)
+    let long = leb-true _ _ (ask_fit _ 13 0 (sym c.ask.ensures ∙ c.in_ok-ask.was)) in
+    omega (arith, long, c.long-end.ensures, c.edge_count-edges.ensures)
 
 pub returns : goal.returns
 unfolding drawn drawn_by drawn_buffer drawn_buffer_by
@@ -36,5 +49,7 @@ returns c =
     let s = c.args.s.now in
     let b = c.args.buffer.now in
     let g = c.put_graph.ensures in
-    rw (long_enough c.args.construction s b c.requires (omega (arith, c.if-buffer-end.false, count (goal.at.returns c).After-long-end)))
-    (rw (c.node_count.ensures ∙ g.nodes, edges (goal.at.returns c).After-long-end), c.put_bytes.ensures ∙ ap (λ (x : List ℕ). over x b) (ap (rows_in _) g.edges ∙ rows_all _ s _ g))
+    let p = goal.at.returns c in
+    let yes : draw_validity c.args.construction s b ≡ Ok tt = sym (asked p.After-ask c.requires (count p.After-long-end)) ∙ c.in_ok-ask.was in
+    rw yes
+    (rw (c.node_count.ensures ∙ g.nodes, edges p.After-long-end), c.put_bytes.ensures ∙ ap (λ (x : List ℕ). over x b) (ap (rows_in _) g.edges ∙ rows_all _ s _ g))
