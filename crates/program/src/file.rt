@@ -266,10 +266,8 @@ pub fn first_cell(s: &[u8], i: u16) -> usize
 {
     let end = least(name_count(s), i);
     let mut total: usize = 0;
-    let mut k: u16 = 0;
-    while k < end {
+    for k in 0..end {
         total += cells_of(size_at(s, k));
-        k += 1;
     }
     total
 }
