@@ -32,10 +32,8 @@ pub(crate) fn put_table(program: &[u8], span: Span, out: &mut [u16], place: usiz
 {
     let start = span.start;
     let count = file::long(span.count);
-    let mut n: usize = 0;
-    while n < count {
+    for n in 0..count {
         put_entry(program, start + 7 * n, out, place + 4 * n);
-        n += 1;
     }
 }
 
@@ -52,13 +50,11 @@ fn put_names(program: &[u8], names: u16, code: &mut [u16; CODE])
     ensures { spec.NamesDone program.now code.old code.new }
 {
     let mut total: u16 = 0;
-    let mut i: u16 = 0;
-    while i < names {
+    for i in 0..names {
         let size = file::size_at(program, i);
         code[prepared::SIZES + i as usize] = size;
         code[prepared::CELLS + i as usize] = total;
         total += cells(size);
-        i += 1;
     }
     code[prepared::CELLS_END] = total;
     code[prepared::NAMES] = names;
@@ -89,11 +85,8 @@ fn put_cells(code: &mut [u16; CODE], count: u16)
     requires { (count ≤ expressions_most) × (length code.old ≡ code_length) }
     ensures { spec.CellsPut count code.old code.new }
 {
-    let mut n: u16 = 0;
-    while n < count {
-        let cell = fourth(code, n);
-        code[4 * n as usize + 3] = cell;
-        n += 1;
+    for n in 0..count {
+        code[4 * n as usize + 3] = fourth(code, n);
     }
 }
 
