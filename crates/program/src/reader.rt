@@ -40,11 +40,9 @@ pub(crate) fn after(head: Head) -> usize
 pub fn place_after(s: &[u8], at: usize, k: u8) -> usize
     ensures { result ≡ spec.place_after s.now at k }
 {
-    let mut place: usize = at;
-    let mut i: u8 = 0;
-    while i < k {
+    let mut place = at;
+    for _ in 0..k {
         place = after(head_at(s, place));
-        i += 1;
     }
     place
 }
