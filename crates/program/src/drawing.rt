@@ -67,14 +67,12 @@ fn put_bytes(graph: &[u16; GRAPH], buffer: &mut [u8])
     ensures { buffer.new ≡ spec.over (parts.rows_in graph.now (get_or graph.now Prepared.edge_count_place 0)) buffer.old }
 {
     let count = prepared::edge_count(graph);
-    let mut e: u16 = 0;
-    while e < count {
+    for e in 0..count {
         let source = prepared::edge_word(graph, e, 0);
         let target = prepared::edge_word(graph, e, 1);
         let kind = low(prepared::edge_word(graph, e, 2));
         let entry = prepared::edge_word(graph, e, 3);
         put_edge(buffer, 7 * file::long(e), source, target, kind, entry);
-        e += 1;
     }
 }
 
