@@ -18,11 +18,7 @@ pub fn joined(p: u16, q: u16) -> u32
 pub fn signed(x: u32) -> i32
     ensures { result ≡ File.signed32 x }
 {
-    if x < 2147483648 {
-        x as i32
-    } else {
-        -1 - (4294967295 - x) as i32
-    }
+    x.cast_signed()
 }
 
 // What an arithmetic entry of these numbers is.
