@@ -7,12 +7,6 @@ ghost use Rattle.program.specs.Questions;
 
 use crate::{Entry, Field, FieldHeads, Head, Layout, Span, Table, Validity, reader};
 
-pub(crate) fn wide(b: u8) -> u16
-    ensures { result ≡ b }
-{
-    b as u16
-}
-
 // The byte at `i`.
 pub fn byte_at(s: &[u8], i: usize) -> u8
     ensures { result ≡ spec.byte_at s.now i }
@@ -25,7 +19,7 @@ pub fn word_at(s: &[u8], i: usize) -> u16
     ensures { result ≡ spec.word_at s.now i }
 {
     if i < s.len() {
-        wide(byte_at(s, i)) * 256 + wide(byte_at(s, i + 1))
+        u16::from_be_bytes([byte_at(s, i), byte_at(s, i + 1)])
     } else {
         0
     }
@@ -36,7 +30,7 @@ pub(crate) fn whole_word(s: &[u8], i: usize) -> u16
     requires { i + 1 < length s.now }
     ensures { result ≡ spec.word_at s.now i }
 {
-    wide(s[i]) * 256 + wide(s[i + 1])
+    u16::from_be_bytes([s[i], s[i + 1]])
 }
 
 // The entry whose kind byte is at `at`. Where all of it is there, which is nearly always, one test serves its seven bytes.

@@ -19,7 +19,7 @@ fn put_entry(program: &[u8], at: usize, out: &mut [u16], place: usize)
         (place + 2) (File.word_at program.now (at + 3)))
         (place + 3) (File.word_at program.now (at + 5)) }
 {
-    out[place] = file::wide(program[at]);
+    out[place] = u16::from(program[at]);
     out[place + 1] = file::whole_word(program, at + 1);
     out[place + 2] = file::whole_word(program, at + 3);
     out[place + 3] = file::whole_word(program, at + 5);

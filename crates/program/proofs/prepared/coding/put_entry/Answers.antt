@@ -15,4 +15,4 @@ bounds-out-place-4 c = rw (length-set, length-set, length-set) (omega arith)
 
 pub returns : goal.returns
 unfolding byte_at
-returns c = rw (c.wide.ensures, c.whole_word.ensures, c.whole_word-2.ensures, c.whole_word-3.ensures)
+returns c = rw (c.from.ensures, c.whole_word.ensures, c.whole_word-2.ensures, c.whole_word-3.ensures)
