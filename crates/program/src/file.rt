@@ -242,23 +242,18 @@ pub fn entry(s: &[u8], table: Table, n: u16) -> Entry
     }
 }
 
-pub(crate) fn least(a: u16, b: u16) -> u16
-    ensures { result ≡ min a b }
-{
-    if a < b { a } else { b }
-}
-
+// The number of cells of a name of this size.
 pub(crate) fn cells_of(size: u16) -> usize
     ensures { result ≡ spec.cells_of size }
 {
-    if size == 0 { 1 } else { long(size) }
+    size.max(1) as usize
 }
 
 // The number of cells of the names before name `i`, or of all where there are no more.
 pub fn first_cell(s: &[u8], i: u16) -> usize
     ensures { result ≡ spec.first_cell (spec.sizes s.now) i }
 {
-    let end = least(name_count(s), i);
+    let end = name_count(s).min(i);
     let mut total: usize = 0;
     for k in 0..end {
         total += cells_of(size_at(s, k));

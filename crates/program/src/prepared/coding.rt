@@ -37,26 +37,19 @@ pub(crate) fn put_table(program: &[u8], span: Span, out: &mut [u16], place: usiz
     }
 }
 
-// The number of cells of a name of this size.
-fn cells(size: u16) -> u16
-    ensures { result ≡ File.cells_of size }
-{
-    if size == 0 { 1 } else { size }
-}
-
 // The sizes and first cells of the names, the number of all cells, and that of the names.
 fn put_names(program: &[u8], names: u16, code: &mut [u16; CODE])
     requires { (validity program.now ≡ Fit) × (names ≡ File.name_count program.now) × (length code.old ≡ code_length) }
     ensures { spec.NamesDone program.now code.old code.new }
 {
-    let mut total: u16 = 0;
+    let mut total: usize = 0;
     for i in 0..names {
         let size = file::size_at(program, i);
         code[prepared::SIZES + i as usize] = size;
-        code[prepared::CELLS + i as usize] = total;
-        total += cells(size);
+        code[prepared::CELLS + i as usize] = total as u16;
+        total += file::cells_of(size);
     }
-    code[prepared::CELLS_END] = total;
+    code[prepared::CELLS_END] = total as u16;
     code[prepared::NAMES] = names;
 }
 
