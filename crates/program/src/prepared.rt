@@ -156,15 +156,9 @@ fn performed(node: CommandNode) -> ActionNode
     ensures { result ≡ spec.performed node }
 {
     match node {
-        CommandNode::Skip => ActionNode::Nothing,
         CommandNode::Assign(x, a) => ActionNode::Assign(x, a),
         CommandNode::Store(x, i, a) => ActionNode::Store(x, i, a),
-        CommandNode::Sequence(_, _) => ActionNode::Nothing,
-        CommandNode::Conditional(_) => ActionNode::Nothing,
-        CommandNode::Iteration(_) => ActionNode::Nothing,
-        CommandNode::Guarded(_, _) => ActionNode::Nothing,
-        CommandNode::Choice(_, _) => ActionNode::Nothing,
-        CommandNode::Jump(_) => ActionNode::Nothing,
+        _ => ActionNode::Nothing,
     }
 }
 
@@ -173,15 +167,8 @@ fn guard_of(node: CommandNode) -> ActionNode
     ensures { result ≡ spec.guard_form node }
 {
     match node {
-        CommandNode::Skip => ActionNode::Nothing,
-        CommandNode::Assign(_, _) => ActionNode::Nothing,
-        CommandNode::Store(_, _, _) => ActionNode::Nothing,
-        CommandNode::Sequence(_, _) => ActionNode::Nothing,
-        CommandNode::Conditional(_) => ActionNode::Nothing,
-        CommandNode::Iteration(_) => ActionNode::Nothing,
         CommandNode::Guarded(g, _) => ActionNode::Guard(g),
-        CommandNode::Choice(_, _) => ActionNode::Nothing,
-        CommandNode::Jump(_) => ActionNode::Nothing,
+        _ => ActionNode::Nothing,
     }
 }
 
@@ -215,14 +202,7 @@ pub fn action(graph: &[u16; GRAPH], e: u16) -> ActionNode
 pub fn is_guard(action: ActionNode) -> bool
     ensures { result ≡ spec.is_guard_node action }
 {
-    match action {
-        ActionNode::Nothing => false,
-        ActionNode::Assign(_, _) => false,
-        ActionNode::Store(_, _, _) => false,
-        ActionNode::Holds(_) => false,
-        ActionNode::Exit(_) => false,
-        ActionNode::Guard(_) => true,
-    }
+    matches!(action, ActionNode::Guard(_))
 }
 
 // Whether an edge is a guard's of the deterministic graph: its kind is looked at first, and tells of every other edge.
@@ -315,12 +295,9 @@ pub fn number_at(code: &[u16; CODE], n: u16) -> i32
     if EXPRESSIONS <= n {
         return 0;
     }
-    let node = arith_at(code, n);
-    match node {
+    match arith_at(code, n) {
         ArithNode::Number(z) => z,
-        ArithNode::Variable(_) => 0,
-        ArithNode::Element(_, _) => 0,
-        ArithNode::Operator(_, _, _) => 0,
+        _ => 0,
     }
 }
 
