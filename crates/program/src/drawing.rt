@@ -52,7 +52,7 @@ fn put_bytes(graph: &[u16; GRAPH], buffer: &mut [u8])
         let target = prepared::edge_word(graph, e, 1);
         let kind = (prepared::edge_word(graph, e, 2) % 256) as u8;
         let entry = prepared::edge_word(graph, e, 3);
-        put_edge(buffer, 7 * file::long(e), source, target, kind, entry);
+        put_edge(buffer, 7 * e as usize, source, target, kind, entry);
     }
 }
 
@@ -66,7 +66,7 @@ fn draw_fit(construction: Construction, s: &[u8], buffer: &mut [u8]) -> Drawn
     let l = file::fit_layout(s);
     graphing::put_graph(construction, s, l, &mut graph);
     let edges = prepared::edge_count(&graph);
-    let end = 7 * file::long(edges);
+    let end = 7 * edges as usize;
     if buffer.len() < end {
         return refused(Refusal {
             number: 13,
@@ -134,7 +134,7 @@ pub fn draw(s: &[u8], buffer: &mut [u8]) -> Drawn
 pub fn edge_at(bytes: &[u8], k: u16) -> EdgeBytes
     ensures { result ≡ spec.edge_read bytes.now k }
 {
-    let at = 7 * file::long(k);
+    let at = 7 * k as usize;
     if at + 7 <= bytes.len() {
         return EdgeBytes {
             source: file::whole_word(bytes, at),

@@ -1,6 +1,6 @@
 // Reading a program file. All of it is total: a byte past the end is 0.
 
-ghost use Rattle.std.specs.Prelude.{◌≡◌, List, ℕ, ◌<◌, ◌+◌, ◌*◌, min, length};
+ghost use Rattle.std.specs.Prelude.{◌≡◌, List, ℕ, ◌<◌, ◌+◌, length};
 ghost use Rattle.program.specs.File as spec;
 ghost use Rattle.program.specs.Parts.Layouts;
 ghost use Rattle.program.specs.Questions;
@@ -164,11 +164,11 @@ pub(crate) fn fit_layout(s: &[u8]) -> Layout
     ensures { result ≡ spec.layout_of s.now }
 {
     let names = whole_word(s, 1);
-    let second = 3 + long(names);
+    let second = 3 + names as usize;
     let arithmetic = whole_word(s, second + 1);
-    let third = second + 3 + long(arithmetic);
+    let third = second + 3 + arithmetic as usize;
     let boolean = whole_word(s, third + 1);
-    let fourth = third + 3 + long(boolean);
+    let fourth = third + 3 + boolean as usize;
     let commands = whole_word(s, fourth + 1);
     Layout {
         names: Span {
@@ -213,7 +213,7 @@ pub fn name_count(s: &[u8]) -> u16
 pub fn size_at(s: &[u8], i: u16) -> u16
     ensures { result ≡ spec.size_at s.now i }
 {
-    word_at(s, 3 + 2 * long(i))
+    word_at(s, 3 + 2 * i as usize)
 }
 
 // The number of entries of a table.
@@ -231,7 +231,7 @@ pub fn entry(s: &[u8], table: Table, n: u16) -> Entry
     let span = span_of(layout(s), table);
     let start = span.start;
     if start <= s.len() {
-        entry_at(s, start + 7 * long(n))
+        entry_at(s, start + 7 * n as usize)
     } else {
         Entry {
             kind: 0,

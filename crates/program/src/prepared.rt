@@ -72,7 +72,7 @@ pub const NO_CELL: u16 = 1024;
 pub fn name_count(code: &[u16; CODE]) -> usize
     ensures { result ≡ get_or code.now spec.name_count_place 0 }
 {
-    file::long(code[NAMES])
+    code[NAMES] as usize
 }
 
 // The size of a name: 0 for a variable.
@@ -91,7 +91,7 @@ pub fn first_cell(code: &[u16; CODE], x: u16) -> usize
     ensures { result ≡ spec.cell_in code.now x }
 {
     if x < NAMES_MOST {
-        file::long(code[CELLS + x as usize])
+        code[CELLS + x as usize] as usize
     } else {
         0
     }
@@ -101,7 +101,7 @@ pub fn first_cell(code: &[u16; CODE], x: u16) -> usize
 pub fn cell_count(code: &[u16; CODE]) -> usize
     ensures { result ≡ get_or code.now (spec.cell_place + spec.names_most) 0 }
 {
-    file::long(code[CELLS_END])
+    code[CELLS_END] as usize
 }
 
 // The number of arithmetic entries.

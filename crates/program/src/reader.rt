@@ -22,7 +22,7 @@ pub fn head_at(s: &[u8], at: usize) -> Head
         tag: file::byte_at(s, at),
         length,
         content: at + 3,
-        next: at + 3 + file::long(length),
+        next: at + 3 + length as usize,
     })
 }
 

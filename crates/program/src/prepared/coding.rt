@@ -31,7 +31,7 @@ pub(crate) fn put_table(program: &[u8], span: Span, out: &mut [u16], place: usiz
     ensures { spec.Copied program.now span.start place span.count out.old out.new }
 {
     let start = span.start;
-    let count = file::long(span.count);
+    let count = span.count as usize;
     for n in 0..count {
         put_entry(program, start + 7 * n, out, place + 4 * n);
     }

@@ -8,14 +8,11 @@ use Rattle.program.specs.Parts.DrawingParts.{rows_in}
 use Rattle.program.specs.Graph.{edge_count}
 use Rattle.program.proofs.Drawings.{rows_all, too_short, long_enough}
 use Rattle.program.proofs.drawing.draw_fit.Goals as goal
-use Rattle.program.proofs.drawing.draw_fit.Goals.{After-long-end}
+use Rattle.program.proofs.drawing.draw_fit.Goals.{After-edge_count-edges}
 
 -- how many edges were drawn
-edges : (c : After-long-end) → c.edge_count-edges.result ≡ edge_count c.args.construction c.args.s.now
+edges : (c : After-edge_count-edges) → c.edge_count-edges.result ≡ edge_count c.args.construction c.args.s.now
 edges c = c.edge_count-edges.ensures ∙ c.put_graph.ensures.edges
-
-count : (c : After-long-end) → c.long-end.result ≡ edge_count c.args.construction c.args.s.now
-count c = c.long-end.ensures ∙ (edges c)
 
 pub put_graph-requires : goal.put_graph-requires
 put_graph-requires c = (c.requires, c.fit_layout-l.ensures, refl)
@@ -23,12 +20,12 @@ put_graph-requires c = (c.requires, c.fit_layout-l.ensures, refl)
 pub returns-then-buffer-end : goal.returns-then-buffer-end
 unfolding drawn drawn_by drawn_buffer drawn_buffer_by
 returns-then-buffer-end c =
-    rw (too_short c.args.construction c.args.s.now c.args.buffer.now c.requires (omega (arith, c.if-buffer-end.true, count (goal.at.returns-then-buffer-end c).After-long-end)))
+    rw (too_short c.args.construction c.args.s.now c.args.buffer.now c.requires (omega (arith, c.if-buffer-end.true, edges (goal.at.returns-then-buffer-end c).After-edge_count-edges)))
     (c.refused.ensures, refl)
 
 pub put_bytes-requires : goal.put_bytes-requires
 put_bytes-requires c =
-    omega (arith, c.if-buffer-end.false, c.long-end.ensures, c.edge_count-edges.ensures)
+    omega (arith, c.if-buffer-end.false, c.edge_count-edges.ensures)
 
 pub returns : goal.returns
 unfolding drawn drawn_by drawn_buffer drawn_buffer_by
@@ -36,5 +33,5 @@ returns c =
     let s = c.args.s.now in
     let b = c.args.buffer.now in
     let g = c.put_graph.ensures in
-    rw (long_enough c.args.construction s b c.requires (omega (arith, c.if-buffer-end.false, count (goal.at.returns c).After-long-end)))
-    (rw (c.node_count.ensures ∙ g.nodes, edges (goal.at.returns c).After-long-end), c.put_bytes.ensures ∙ ap (λ (x : List ℕ). over x b) (ap (rows_in _) g.edges ∙ rows_all _ s _ g))
+    rw (long_enough c.args.construction s b c.requires (omega (arith, c.if-buffer-end.false, edges (goal.at.returns c).After-edge_count-edges)))
+    (rw (c.node_count.ensures ∙ g.nodes, edges (goal.at.returns c).After-edge_count-edges), c.put_bytes.ensures ∙ ap (λ (x : List ℕ). over x b) (ap (rows_in _) g.edges ∙ rows_all _ s _ g))

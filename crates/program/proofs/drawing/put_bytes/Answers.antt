@@ -16,5 +16,5 @@ loop-e-preserved c =
     let a = c.args in
     let count = c.edge_count-count.ensures in
     rows_next a.graph.now a.buffer.now l.e (omega arith) l.invariant
-    c.edge_word-source.ensures c.edge_word-target.ensures c.edge_word.ensures refl c.edge_word-entry.ensures
-    c.long.ensures c.put_edge.ensures
+    c.edge_word-source.ensures c.edge_word-target.ensures c.edge_word.ensures c.edge_word-entry.ensures
+    c.put_edge.ensures

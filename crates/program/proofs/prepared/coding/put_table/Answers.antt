@@ -7,5 +7,4 @@ use Rattle.program.proofs.prepared.coding.put_table.Goals as goal
 pub loop-n-preserved : goal.loop-n-preserved
 loop-n-preserved c =
     let l = c.loop-n in
-    let count = c.long-count.ensures in
     rw c.put_entry.ensures (copied_next _ _ _ _ l.n _ _ refl refl refl (omega arith) l.invariant)
