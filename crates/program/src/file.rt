@@ -53,12 +53,7 @@ pub fn entry_at(s: &[u8], at: usize) -> Entry
             r: word_at(s, at + 5),
         }
     } else {
-        Entry {
-            kind: 0,
-            p: 0,
-            q: 0,
-            r: 0,
-        }
+        Entry::default()
     }
 }
 
@@ -233,12 +228,7 @@ pub fn entry(s: &[u8], table: Table, n: u16) -> Entry
     if start <= s.len() {
         entry_at(s, start + 7 * n as usize)
     } else {
-        Entry {
-            kind: 0,
-            p: 0,
-            q: 0,
-            r: 0,
-        }
+        Entry::default()
     }
 }
 

@@ -152,6 +152,7 @@ pub fn edge_target(graph: &[u16; GRAPH], e: u16) -> u16
 }
 
 // What a command does on an edge.
+#[tactic(auto, unfolding(crate::specs::Parts::Prepared::performed))]
 fn performed(node: CommandNode) -> ActionNode
     ensures { result ≡ spec.performed node }
 {
@@ -163,6 +164,7 @@ fn performed(node: CommandNode) -> ActionNode
 }
 
 // The guard of a guarded command, on an edge.
+#[tactic(auto, unfolding(crate::specs::Parts::Prepared::guard_form))]
 fn guard_of(node: CommandNode) -> ActionNode
     ensures { result ≡ spec.guard_form node }
 {
@@ -199,6 +201,7 @@ pub fn action(graph: &[u16; GRAPH], e: u16) -> ActionNode
 }
 
 // Whether an action is a guard's of the deterministic graph.
+#[tactic(auto, unfolding(crate::specs::Parts::Prepared::is_guard_node))]
 pub fn is_guard(action: ActionNode) -> bool
     ensures { result ≡ spec.is_guard_node action }
 {
@@ -209,11 +212,7 @@ pub fn is_guard(action: ActionNode) -> bool
 pub fn guards(graph: &[u16; GRAPH], e: u16) -> bool
     ensures { result ≡ spec.is_guard_node (spec.action_in graph.now e) }
 {
-    let kind = edge_word(graph, e, 2);
-    if kind == 4 {
-        return is_guard(action(graph, e));
-    }
-    false
+    edge_word(graph, e, 2) == 4 && is_guard(action(graph, e))
 }
 
 // The lowest edge out of a node; NONE, where there is none.

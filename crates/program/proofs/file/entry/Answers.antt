@@ -20,4 +20,4 @@ unfolding entry entry_offset table_start
 returns-else-start-s c =
     let a = c.args in
     let start : c.span_of-span.result.start ≡ (span_of (layout_of a.s.now) a.table).start = ap (λ (x : Span). x.start) (c.span_of-span.ensures ∙ ap (λ (l : Layout). span_of l a.table) c.layout.ensures) in
-    entry_past _ _ (omega arith)
+    entry_past _ _ (omega arith) c.default.ensures
