@@ -22,6 +22,7 @@ pub fn signed(x: u32) -> i32
 }
 
 // What an arithmetic entry of these numbers is.
+#[tactic(auto, unfolding(crate::specs::Kind::arith_kind))]
 pub fn arith_kind(kind: u16, p: u16, q: u16) -> ArithNode
     ensures { result ≡ Kind.arith_kind (record { kind = kind; p = p; q = q; r = 0 }) }
 {
@@ -39,6 +40,7 @@ pub fn arith_kind(kind: u16, p: u16, q: u16) -> ArithNode
 }
 
 // A boolean one.
+#[tactic(auto, unfolding(crate::specs::Kind::boolean_kind))]
 pub(crate) fn boolean_kind(kind: u16, p: u16, q: u16) -> BooleanNode
     ensures { result ≡ Kind.boolean_kind (record { kind = kind; p = p; q = q; r = 0 }) }
 {
@@ -55,6 +57,7 @@ pub(crate) fn boolean_kind(kind: u16, p: u16, q: u16) -> BooleanNode
 }
 
 // A command.
+#[tactic(auto, unfolding(crate::specs::Kind::command_kind))]
 pub(crate) fn command_kind(kind: u16, p: u16, q: u16, r: u16) -> CommandNode
     ensures { result ≡ Kind.command_kind (record { kind = kind; p = p; q = q; r = r }) }
 {

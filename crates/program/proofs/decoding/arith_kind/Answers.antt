@@ -15,38 +15,3 @@ returns-in-0 c = rw c.in-0.is (ap Number (to_z-of_z w32 _ (record { sfits = c.si
 
 pub returns-in_default : goal.returns-in_default
 returns-in_default c = arith_other _ _ _ _ (search rules)
-
-pub returns-in-1 : goal.returns-in-1
-unfolding arith_kind
-returns-in-1 c =
-    rw c.in-1.is
-
-pub returns-in-2 : goal.returns-in-2
-unfolding arith_kind
-returns-in-2 c =
-    rw c.in-2.is
-
-pub returns-in-3 : goal.returns-in-3
-unfolding arith_kind
-returns-in-3 c =
-    rw c.in-3.is
-
-pub returns-in-4 : goal.returns-in-4
-unfolding arith_kind
-returns-in-4 c =
-    rw c.in-4.is
-
-pub returns-in-5 : goal.returns-in-5
-unfolding arith_kind
-returns-in-5 c =
-    rw c.in-5.is
-
-pub returns-in-6 : goal.returns-in-6
-unfolding arith_kind
-returns-in-6 c =
-    rw c.in-6.is
-
-pub returns-in-7 : goal.returns-in-7
-unfolding arith_kind
-returns-in-7 c =
-    rw c.in-7.is
