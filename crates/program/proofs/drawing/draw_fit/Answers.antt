@@ -14,18 +14,11 @@ use Rattle.program.proofs.drawing.draw_fit.Goals.{After-edge_count-edges}
 edges : (c : After-edge_count-edges) → c.edge_count-edges.result ≡ edge_count c.args.construction c.args.s.now
 edges c = c.edge_count-edges.ensures ∙ c.put_graph.ensures.edges
 
-pub put_graph-requires : goal.put_graph-requires
-put_graph-requires c = (c.requires, c.fit_layout-l.ensures, refl)
-
 pub returns-then-buffer-end : goal.returns-then-buffer-end
 unfolding drawn drawn_by drawn_buffer drawn_buffer_by
 returns-then-buffer-end c =
     rw (too_short c.args.construction c.args.s.now c.args.buffer.now c.requires (omega (arith, c.if-buffer-end.true, edges (goal.at.returns-then-buffer-end c).After-edge_count-edges)))
     (c.refused.ensures, refl)
-
-pub put_bytes-requires : goal.put_bytes-requires
-put_bytes-requires c =
-    omega (arith, c.if-buffer-end.false, c.edge_count-edges.ensures)
 
 pub returns : goal.returns
 unfolding drawn drawn_by drawn_buffer drawn_buffer_by

@@ -6,9 +6,6 @@ use Rattle.program.specs.declared.Validity.TheVariants.{Refused}
 use Rattle.program.proofs.Drawings.{unfit}
 use Rattle.program.proofs.drawing.draw_valid.Goals as goal
 
-pub draw_fit-requires : goal.draw_fit-requires
-draw_fit-requires c = sym c.requires ∙ c.in-Fit.is
-
 pub returns-in-Refused : goal.returns-in-Refused
 unfolding drawn drawn_by drawn_buffer drawn_buffer_by
 returns-in-Refused c =
