@@ -11,7 +11,7 @@ use crate::{Entry, Field, FieldHeads, Head, Layout, Span, Table, Validity, reade
 pub fn byte_at(s: &[u8], i: usize) -> u8
     ensures { result ≡ spec.byte_at s.now i }
 {
-    if i < s.len() { s[i] } else { 0 }
+    s.get(i).copied().unwrap_or(0)
 }
 
 // The number at `i`, its high byte first.
