@@ -92,11 +92,8 @@ pub fourth_told : (code : List ℕ) (n : ℕ) {x k : ArithNode} → x ≡ arith_
 unfolding fourth_in
 fourth_told code n e told = ap (leaf_cell (cell_in code) n) (sym e ∙ told)
 
--- the fourth numbers of the arithmetic entries: none yet, and one more
+-- the fourth numbers of the arithmetic entries: one more
 module _ (old : List ℕ) where
-  pub cells_none : length old ≡ code_length → CellsPut 0 old old
-  cells_none len = record { long = len; fourth = λ n h. absurd (omega arith); others = λ i h. refl; after = λ i h. refl }
-
   -- what an entry is does not depend on its fourth number, nor do the names' first cells
   kind_kept : (k : ℕ) {code : List ℕ} → CellsPut k old code → (n : ℕ) → arith_in code n ≡ arith_in old n
   unfolding arith_in arith_kind numbers_at

@@ -1,5 +1,5 @@
 -- Laws of an array into which the entries of a file are put, four numbers each.
-use mathlib.Core.Path.{◌≡◌, refl, ◌∙◌}
+use mathlib.Core.Path.{◌≡◌, ◌∙◌}
 use mathlib.Core.List.{List}
 use Prim.Native.Nat.{ℕ, ◌+◌, ◌*◌, ◌≤◌, ◌<◌}
 use native.Mathlib.Decide.{ℕ_discrete}
@@ -52,16 +52,6 @@ unfolding numbers_at
 numbers_same xs ys i j a b c d = λ k. record { kind = a k; p = b k; q = c k; r = d k }
 
 module _ (s : List ℕ) (start place : ℕ) (old : List ℕ) where
-  -- no entry yet
-  pub copied_none : Copied s start place 0 old old
-  copied_none =
-      record {
-        size = refl;
-        copied = λ n h. absurd (omega arith);
-        before = λ i h. refl;
-        after = λ i h. refl;
-      }
-
   -- one more
   pub copied_next : (n at j : ℕ) {m : ℕ} {out : List ℕ} → at ≡ start + 7 * n → j ≡ place + 4 * n → m ≡ n + 1 → j + 4 ≤ length old → Copied s start place n old out
       → Copied s start place m old (set (set (set (set out j (byte_at s at)) (j + 1) (word_at s (at + 1))) (j + 2) (word_at s (at + 3))) (j + 3) (word_at s (at + 5)))

@@ -28,13 +28,13 @@ rows_length g (suc n) =
     length-append (rows_in g n) _ ∙ omega (arith, rows_length g n)
 
 -- one edge more over the start of a buffer
-pub rows_next : (g a : List ℕ) (e : ℕ) {b c : List ℕ} {source target word kind entry at : ℕ} → 7 * e ≤ length a → b ≡ over (rows_in g e) a
-    → source ≡ edge_in g e 0 → target ≡ edge_in g e 1 → word ≡ edge_in g e 2 → kind ≡ word % 256 → entry ≡ edge_in g e 3 → at ≡ e
-    → c ≡ over_at (7 * at) (edge_row source target kind entry) b → c ≡ over (rows_in g (e + 1)) a
+pub rows_next : (g a : List ℕ) (e : ℕ) {b c : List ℕ} {source target word entry : ℕ} → 7 * e ≤ length a → b ≡ over (rows_in g e) a
+    → source ≡ edge_in g e 0 → target ≡ edge_in g e 1 → word ≡ edge_in g e 2 → entry ≡ edge_in g e 3
+    → c ≡ over_at (7 * e) (edge_row source target (word % 256) entry) b → c ≡ over (rows_in g (e + 1)) a
 unfolding rows_in over_at
-rows_next g a e h first p q m k r t second =
+rows_next g a e h first p q m r second =
     let long : 7 * e ≡ 0 + length (rows_in g e) = omega (arith, rows_length g e) in
-    rw add-one (over_then a 0 (rows_in g e) _ (omega arith) first long (second ∙ rw (p, q, k, m, r, t)))
+    rw add-one (over_then a 0 (rows_in g e) _ (omega arith) first long (second ∙ rw (p, q, m, r)))
 
 small_kind : (x : Action) → action_kind x % 256 ≡ action_kind x
 unfolding action_kind

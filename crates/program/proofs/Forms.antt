@@ -1,11 +1,10 @@
 -- The tree at an entry, by what the entry is; and an entry that has parts in its own table is lower than the one that it is a part of.
-use mathlib.Core.Path.{◌≡◌, refl, sym, ◌∙◌, ap}
+use mathlib.Core.Path.{◌≡◌, sym, ◌∙◌, ap}
 use Prim.Native.Nat.{ℕ, ◌≤◌, ◌<◌}
 use native.Mathlib.Decide.{dec_le}
 use native.Mathlib.Omega.{arith}
-use lib.IntN.{pos}
 use borrow.Author.Tests.{lt-ltb, le-ltb}
-use Rattle.program.specs.Kind.{arith_kind, boolean_kind, command_kind}
+use Rattle.program.specs.Kind.{command_kind}
 use Rattle.program.specs.Parts.Node.{arith_form, arith_tree, boolean_form, boolean_tree, command_form, command_tree}
 use Rattle.program.specs.Syntax.{Command, skip}
 use Rattle.program.specs.Tree.{Entries, arith_below, arith_trees, arith_at, boolean_below, boolean_trees, boolean_at, command_below, command_trees, command_at, arith_made, boolean_made, command_made}
@@ -16,7 +15,7 @@ use Rattle.program.specs.declared.BooleanNode.TheVariants.{True, Comparison, Bot
 use Rattle.program.specs.declared.CommandNode.{CommandNode}
 use Rattle.program.specs.declared.CommandNode.TheVariants.{Skip, Assign, Store, Sequence, Conditional, Iteration, Guarded, Choice, Jump}
 use Rattle.program.specs.declared.Table.TheVariants.{Commands}
-use Rattle.program.proofs.Induction.{from_below, by_kind, from_seven, from_eight, from_ten}
+use Rattle.program.proofs.Induction.{from_below}
 use Rattle.program.proofs.Trees.{arith_below_lem, arith_past, boolean_below_lem, boolean_past, command_at_lem, command_below_lem, command_past}
 
 -- it has parts in its own table
@@ -43,43 +42,6 @@ CommandParts (Iteration p) = Unit
 CommandParts (Guarded g p) = Unit
 CommandParts (Choice p q) = Unit
 CommandParts (Jump j) = ⊥
-
--- a kind that is none of the first seven, eight or ten
-abbrev NoneOfSeven : ℕ → Type 0
-NoneOfSeven k =
-    ((((((Unit {0} × (k ≡ 0 → ⊥)) × (k ≡ 1 → ⊥)) × (k ≡ 2 → ⊥)) × (k ≡ 3 → ⊥)) × (k ≡ 4 → ⊥)) × (k ≡ 5 → ⊥)) × (k ≡ 6 → ⊥)
-
-from_seven_on : (k : ℕ) → NoneOfSeven k → 7 ≤ k
-from_seven_on =
-    by_kind (λ (k : ℕ). NoneOfSeven k → 7 ≤ k)
-    (λ h. absurd (h.0.0.0.0.0.0.1 refl)) (λ h. absurd (h.0.0.0.0.0.1 refl)) (λ h. absurd (h.0.0.0.0.1 refl)) (λ h. absurd (h.0.0.0.1 refl))
-    (λ h. absurd (h.0.0.1 refl)) (λ h. absurd (h.0.1 refl)) (λ h. absurd (h.1 refl)) (λ h. omega arith)
-    (λ k h. omega arith)
-
-from_eight_on : (k : ℕ) → NoneOfSeven k × (k ≡ 7 → ⊥) → 8 ≤ k
-from_eight_on k h = more (from_seven_on k h.0) h.1
-  where
-    more : 7 ≤ k → (k ≡ 7 → ⊥) → 8 ≤ k
-    more l f = omega arith
-
-from_ten_on : (k : ℕ) → ((NoneOfSeven k × (k ≡ 7 → ⊥)) × (k ≡ 8 → ⊥)) × (k ≡ 9 → ⊥) → 10 ≤ k
-from_ten_on k h = more (from_eight_on k h.0.0) h.0.1 h.1
-  where
-    more : 8 ≤ k → (k ≡ 8 → ⊥) → (k ≡ 9 → ⊥) → 10 ≤ k
-    more l f g = omega arith
-
-module _ (k p q r : ℕ) where
-  pub arith_other : NoneOfSeven k × (k ≡ 7 → ⊥) → Number (pos 0) ≡ arith_kind (record { kind = k; p = p; q = q; r = r })
-  unfolding arith_kind
-  arith_other h = from_eight (λ (k : ℕ). Number (pos 0) ≡ arith_kind (record { kind = k; p = p; q = q; r = r })) (λ k. refl) k (from_eight_on k h)
-
-  pub boolean_other : NoneOfSeven k → True ≡ boolean_kind (record { kind = k; p = p; q = q; r = r })
-  unfolding boolean_kind
-  boolean_other h = from_seven (λ (k : ℕ). True ≡ boolean_kind (record { kind = k; p = p; q = q; r = r })) (λ k. refl) k (from_seven_on k h)
-
-  pub command_other : ((NoneOfSeven k × (k ≡ 7 → ⊥)) × (k ≡ 8 → ⊥)) × (k ≡ 9 → ⊥) → Skip ≡ command_kind (record { kind = k; p = p; q = q; r = r })
-  unfolding command_kind
-  command_other h = from_ten (λ (k : ℕ). Skip ≡ command_kind (record { kind = k; p = p; q = q; r = r })) (λ k. refl) k (from_ten_on k h)
 
 module _ (es : Entries) where
   module _ (bound n : ℕ) where

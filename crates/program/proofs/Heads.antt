@@ -102,8 +102,8 @@ module _ {s : List ℕ} {k at : ℕ} (starts : StartsAt s k at) where
   pub span_from : {n : ℕ} (f : Field) → n ≡ word_at s (at + 1) → record { start = at + 3; count = n / f.width } ≡ head_span (field_head s k) f
   span_from f e = rw (e, starts.same, field_span s starts.fit k starts.few f)
 
-  pub next_from : {n m : ℕ} → suc k < 4 → n ≡ word_at s (at + 1) → m ≡ n → StartsAt s (suc k) (at + 3 + m)
-  next_from h e f =
+  pub next_from : {n : ℕ} → suc k < 4 → n ≡ word_at s (at + 1) → StartsAt s (suc k) (at + 3 + n)
+  next_from h e =
       record {
         fit = starts.fit;
         few = h;

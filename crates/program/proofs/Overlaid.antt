@@ -1,7 +1,8 @@
 -- Laws of numbers over a list from a place on.
 use mathlib.Core.Path.{◌≡◌, sym, ◌∙◌, ap}
 use mathlib.Core.List.{List, [], ◌∷◌, ◌++◌, append_assoc}
-use Prim.Native.Nat.{ℕ, ◌+◌, ◌≤◌, ◌<◌}
+use Prim.Native.Nat.{ℕ, ◌+◌, ◌-◌, ◌≤◌, ◌<◌}
+use borrow.Rule.Slice.PartMut.{put_mid}
 use native.Mathlib.Numerals.{add-one}
 use native.Mathlib.Omega.{arith}
 use lib.ListN.{length, take, drop, set, get_or, length-append, length-drop, get_or-append}
@@ -34,6 +35,11 @@ over_then a at x y h first next second = second ∙ rw (next, first) (over_two a
 pub over_sets : (xs buffer : List ℕ) (at : ℕ) → at + length xs ≤ length buffer → sets buffer at xs ≡ over_at at xs buffer
 unfolding over over_at
 over_sets xs buffer at h = sets-eq xs buffer at h ∙ rw drop-drop (append_assoc (take at buffer) xs (drop (at + length xs) buffer))
+
+-- numbers written over a part of a slice
+pub over_part : (at end : ℕ) (xs ys buffer : List ℕ) → ys ≡ xs → end - at ≡ length xs → put_mid at (end - at) buffer ys ≡ over_at at xs buffer
+unfolding over over_at
+over_part at end xs ys buffer e h = rw (e, h)
 
 -- what is before them stays
 pub over_before : (at : ℕ) (xs buffer : List ℕ) (i : ℕ) → i < at → at ≤ length buffer → get_or (over_at at xs buffer) i 0 ≡ get_or buffer i 0

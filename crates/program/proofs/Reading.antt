@@ -27,10 +27,11 @@ pub word_past : (s : List ℕ) (i : ℕ) → length s ≤ i → word_at s i ≡ 
 unfolding word_at
 word_past s i h = omega (arith, byte_past s i h, byte_past s (i + 1) (omega arith))
 
-pub entry_past : (s : List ℕ) (i : ℕ) → length s ≤ i → record { kind = 0; p = 0; q = 0; r = 0 } ≡ entry_at s i
+pub entry_past : (s : List ℕ) (i : ℕ) {e : Entry} → length s ≤ i → (e.kind ≡ 0) × ((e.p ≡ 0) × ((e.q ≡ 0) × (e.r ≡ 0))) → e ≡ entry_at s i
 unfolding entry_at
-entry_past s i h =
+entry_past s i h (kind, (p, (q, r))) =
     rw (byte_past s i h, word_past s (i + 1) (omega arith), word_past s (i + 3) (omega arith), word_past s (i + 5) (omega arith))
+    (λ k. record { kind = kind k; p = p k; q = q k; r = r k })
 
 -- bytes that begin with a part of a file: what is read there
 module _ (s bytes : List ℕ) (start end : ℕ) (front : take end bytes ≡ take end (drop start s)) where

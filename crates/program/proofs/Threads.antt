@@ -5,7 +5,10 @@ use Prim.Native.Nat.{ℕ, suc, ◌+◌, ◌-◌, ◌<◌, ◌≤◌}
 use native.Mathlib.Decide.{ℕ_discrete, dec_le}
 use native.Mathlib.Omega.{arith}
 use borrow.Author.Tests.{lt-ltb, le-ltb}
-use lib.ListN.{length, get_or, set, length-set}
+use borrow.Author.Rules.{rules}
+use borrow.Rule.Slice.PartMut.{put_mid}
+use lib.ListN.{length, get_or, set, take, drop, replicate, length-set, length-take, length-drop}
+use Rattle.std.proofs.lemmas.List.{places, length-replicate}
 use lib.Seq.{get_or-set_same, get_or-set_other}
 use Rattle.program.specs.Graph.{Graph}
 use Rattle.program.specs.Parts.Prepared.{lowest_from, first_place, next_place, node_count_place, edge_count_place, graph_length, edge_in, source_in, target_in, action_in, first_in, next_in, PreparedEdge, Prepared}
@@ -48,33 +51,37 @@ module _ {old new : List ℕ} (same : SameButLinks old new) where
         after = λ i p. same.after i p ∙ earlier.after i p;
       }
 
--- a graph whose links up to place i are cleared
-pub record Cleared (old : List ℕ) (i : ℕ) (new : List ℕ) : Type 0 where
-  pub size : length new ≡ graph_length
-  pub same : SameButLinks old new
-  pub none : (j : ℕ) → first_place ≤ j → j < i → get_or new j 0 ≡ 255
+-- a part of a list filled with one number
+module _ (at n x : ℕ) (old filled : List ℕ) (room : at + n ≤ length old) (all : filled ≡ replicate n x) where
+  abbrev new : List ℕ
+  new = put_mid at n old filled
 
-pub cleared_none : (old : List ℕ) → length old ≡ graph_length → Cleared old first_place old
-cleared_none old h = record { size = h; same = record { before = λ i p. refl; after = λ i p. refl }; none = λ j a b. absurd (omega arith) }
+  long : length filled ≡ n
+  long = rw (all, length-replicate)
 
--- one more
-pub cleared_next : (old new : List ℕ) (i : ℕ) → first_place ≤ i → i < next_place → Cleared old i new → Cleared old (i + 1) (set new i 255)
-cleared_next old new i a b l =
+  filled_length : length new ≡ length old
+  filled_length = search (rules, places, long)
+
+  filled_before : (i : ℕ) → i < at → get_or new i 0 ≡ get_or old i 0
+  filled_before i h = search (rules, places, long)
+
+  filled_inside : (j : ℕ) → j < n → get_or new (at + j) 0 ≡ x
+  filled_inside j h = rw all (search (rules, places, long))
+
+  filled_after : (i : ℕ) → at + n ≤ i → get_or new i 0 ≡ get_or old i 0
+  filled_after i h = search (rules, places, long)
+
+-- a graph whose 129 first links are 255
+pub cleared : (old filled : List ℕ) → length old ≡ graph_length → filled ≡ replicate (length (take 129 (drop first_place old))) 255 → Unlinked old (put_mid first_place 129 old filled)
+cleared old filled room e =
+    let long : length (take 129 (drop first_place old)) ≡ 129 = simp (length-take, length-drop) (omega arith) in
+    let fits : first_place + 129 ≤ length old = omega arith in
+    let all : filled ≡ replicate 129 255 = e ∙ ap (λ n. replicate n 255) long in
     record {
-      size = length-set new i 255 ∙ l.size;
-      same = record {
-        before = λ j p. get_or-set_other new i j 255 0 (λ q. omega arith) ∙ l.same.before j p;
-        after = λ j p. get_or-set_other new i j 255 0 (λ q. omega arith) ∙ l.same.after j p;
-      };
-      none = λ j c d.
-          elim (ℕ_discrete j i) [
-            | yes p ↦ ap (λ (k : ℕ). get_or (set new i 255) k 0) p ∙ get_or-set_same new i 255 0 (omega (arith, l.size))
-            | no q ↦ get_or-set_other new i j 255 0 q ∙ l.none j c (omega arith)
-          ];
+      size = filled_length first_place 129 255 old filled fits all ∙ room;
+      same = record { before = filled_before first_place 129 255 old filled fits all; after = λ i h. filled_after first_place 129 255 old filled fits all i (omega arith) };
+      none = filled_inside first_place 129 255 old filled fits all;
     }
-
-pub cleared_all : (old new : List ℕ) (i : ℕ) → next_place ≤ i → Cleared old i new → Unlinked old new
-cleared_all old new i h l = record { size = l.size; same = l.same; none = λ node k. l.none (first_place + node) (omega arith) (omega arith) }
 
 -- a graph with the links of the edges from i on
 pub record Held (old : List ℕ) (i : ℕ) (new : List ℕ) : Type 0 where

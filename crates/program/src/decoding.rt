@@ -18,14 +18,11 @@ pub fn joined(p: u16, q: u16) -> u32
 pub fn signed(x: u32) -> i32
     ensures { result ≡ File.signed32 x }
 {
-    if x < 2147483648 {
-        x as i32
-    } else {
-        -1 - (4294967295 - x) as i32
-    }
+    x.cast_signed()
 }
 
 // What an arithmetic entry of these numbers is.
+#[tactic(auto, unfolding(crate::specs::Kind::arith_kind))]
 pub fn arith_kind(kind: u16, p: u16, q: u16) -> ArithNode
     ensures { result ≡ Kind.arith_kind (record { kind = kind; p = p; q = q; r = 0 }) }
 {
@@ -43,6 +40,7 @@ pub fn arith_kind(kind: u16, p: u16, q: u16) -> ArithNode
 }
 
 // A boolean one.
+#[tactic(auto, unfolding(crate::specs::Kind::boolean_kind))]
 pub(crate) fn boolean_kind(kind: u16, p: u16, q: u16) -> BooleanNode
     ensures { result ≡ Kind.boolean_kind (record { kind = kind; p = p; q = q; r = 0 }) }
 {
@@ -59,6 +57,7 @@ pub(crate) fn boolean_kind(kind: u16, p: u16, q: u16) -> BooleanNode
 }
 
 // A command.
+#[tactic(auto, unfolding(crate::specs::Kind::command_kind))]
 pub(crate) fn command_kind(kind: u16, p: u16, q: u16, r: u16) -> CommandNode
     ensures { result ≡ Kind.command_kind (record { kind = kind; p = p; q = q; r = r }) }
 {

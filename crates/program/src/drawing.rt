@@ -1,6 +1,6 @@
 // The program graph written as bytes, seven for each edge.
 
-ghost use Rattle.std.specs.Prelude.{◌≡◌, ◌∷◌, [], ◌≤◌, ◌+◌, ◌*◌, ◌/◌, ◌%◌, length, get_or};
+ghost use Rattle.std.specs.Prelude.{◌≡◌, ◌≤◌, ◌+◌, ◌*◌, length, get_or};
 ghost use Rattle.program.specs.Drawing as spec;
 ghost use Rattle.program.specs.Parts.DrawingParts as parts;
 ghost use Rattle.program.specs.Graph;
@@ -13,31 +13,11 @@ use crate::{Construction, Drawn, EdgeBytes, Refusal, file, prepared, validation}
 // The bytes of the most edges, seven for each of 255.
 pub const BYTES: usize = 1785;
 
-fn high(x: u16) -> u8
-    ensures { result ≡ x / 256 % 256 }
-{
-    (x / 256 % 256) as u8
-}
-
-fn low(x: u16) -> u8
-    ensures { result ≡ x % 256 }
-{
-    (x % 256) as u8
-}
-
-fn put_byte(buffer: &mut [u8], at: usize, x: u8)
-    requires { at + 1 ≤ length buffer.old }
-    ensures { buffer.new ≡ parts.over_at at (x ∷ []) buffer.old }
-{
-    buffer[at] = x;
-}
-
 fn put_word(buffer: &mut [u8], at: usize, x: u16)
     requires { at + 2 ≤ length buffer.old }
     ensures { buffer.new ≡ parts.over_at at (Graph.word_bytes x) buffer.old }
 {
-    put_byte(buffer, at, high(x));
-    put_byte(buffer, at + 1, low(x));
+    buffer[at..at + 2].copy_from_slice(&x.to_be_bytes());
 }
 
 // An edge's seven bytes, at a place that has room for them.
@@ -47,7 +27,7 @@ fn put_edge(buffer: &mut [u8], at: usize, source: u16, target: u16, kind: u8, en
 {
     put_word(buffer, at, source);
     put_word(buffer, at + 2, target);
-    put_byte(buffer, at + 4, kind);
+    buffer[at + 4] = kind;
     put_word(buffer, at + 5, entry);
 }
 
@@ -57,14 +37,12 @@ fn put_bytes(graph: &[u16; GRAPH], buffer: &mut [u8])
     ensures { buffer.new ≡ spec.over (parts.rows_in graph.now (get_or graph.now Prepared.edge_count_place 0)) buffer.old }
 {
     let count = prepared::edge_count(graph);
-    let mut e: u16 = 0;
-    while e < count {
+    for e in 0..count {
         let source = prepared::edge_word(graph, e, 0);
         let target = prepared::edge_word(graph, e, 1);
-        let kind = low(prepared::edge_word(graph, e, 2));
+        let kind = (prepared::edge_word(graph, e, 2) % 256) as u8;
         let entry = prepared::edge_word(graph, e, 3);
-        put_edge(buffer, 7 * file::long(e), source, target, kind, entry);
-        e += 1;
+        put_edge(buffer, 7 * e as usize, source, target, kind, entry);
     }
 }
 
@@ -78,7 +56,7 @@ fn draw_fit(construction: Construction, s: &[u8], buffer: &mut [u8]) -> Result<D
     let l = file::fit_layout(s);
     graphing::put_graph(construction, s, l, &mut graph);
     let edges = prepared::edge_count(&graph);
-    let end = 7 * file::long(edges);
+    let end = 7 * edges as usize;
     validation::ask(end <= buffer.len(), 13, 0)?;
     put_bytes(&graph, buffer);
     Ok(Drawn {
@@ -128,7 +106,7 @@ pub fn draw(s: &[u8], buffer: &mut [u8]) -> Result<Drawn, Refusal>
 pub fn edge_at(bytes: &[u8], k: u16) -> EdgeBytes
     ensures { result ≡ spec.edge_read bytes.now k }
 {
-    let at = 7 * file::long(k);
+    let at = 7 * k as usize;
     if at + 7 <= bytes.len() {
         return EdgeBytes {
             source: file::whole_word(bytes, at),

@@ -1,23 +1,17 @@
 // Reading a program file. All of it is total: a byte past the end is 0.
 
-ghost use Rattle.std.specs.Prelude.{◌≡◌, List, ℕ, ◌<◌, ◌+◌, ◌*◌, min, length};
+ghost use Rattle.std.specs.Prelude.{◌≡◌, List, ℕ, ◌<◌, ◌+◌, length};
 ghost use Rattle.program.specs.File as spec;
 ghost use Rattle.program.specs.Parts.Layouts;
 ghost use Rattle.program.specs.Questions;
 
 use crate::{Entry, Field, FieldHead, FieldHeads, Layout, Span, Table, reader};
 
-pub(crate) fn wide(b: u8) -> u16
-    ensures { result ≡ b }
-{
-    b as u16
-}
-
 // The byte at `i`.
 pub fn byte_at(s: &[u8], i: usize) -> u8
     ensures { result ≡ spec.byte_at s.now i }
 {
-    if i < s.len() { s[i] } else { 0 }
+    s.get(i).copied().unwrap_or(0)
 }
 
 // The number at `i`, its high byte first.
@@ -25,7 +19,7 @@ pub fn word_at(s: &[u8], i: usize) -> u16
     ensures { result ≡ spec.word_at s.now i }
 {
     if i < s.len() {
-        wide(byte_at(s, i)) * 256 + wide(byte_at(s, i + 1))
+        u16::from_be_bytes([byte_at(s, i), byte_at(s, i + 1)])
     } else {
         0
     }
@@ -36,7 +30,7 @@ pub(crate) fn whole_word(s: &[u8], i: usize) -> u16
     requires { i + 1 < length s.now }
     ensures { result ≡ spec.word_at s.now i }
 {
-    wide(s[i]) * 256 + wide(s[i + 1])
+    u16::from_be_bytes([s[i], s[i + 1]])
 }
 
 // The entry whose kind byte is at `at`. Where all of it is there, which is nearly always, one test serves its seven bytes.
@@ -59,12 +53,7 @@ pub fn entry_at(s: &[u8], at: usize) -> Entry
             r: word_at(s, at + 5),
         }
     } else {
-        Entry {
-            kind: 0,
-            p: 0,
-            q: 0,
-            r: 0,
-        }
+        Entry::default()
     }
 }
 
@@ -170,11 +159,11 @@ pub(crate) fn fit_layout(s: &[u8]) -> Layout
     ensures { result ≡ spec.layout_of s.now }
 {
     let names = whole_word(s, 1);
-    let second = 3 + long(names);
+    let second = 3 + names as usize;
     let arithmetic = whole_word(s, second + 1);
-    let third = second + 3 + long(arithmetic);
+    let third = second + 3 + arithmetic as usize;
     let boolean = whole_word(s, third + 1);
-    let fourth = third + 3 + long(boolean);
+    let fourth = third + 3 + boolean as usize;
     let commands = whole_word(s, fourth + 1);
     Layout {
         names: Span {
@@ -219,7 +208,7 @@ pub fn name_count(s: &[u8]) -> u16
 pub fn size_at(s: &[u8], i: u16) -> u16
     ensures { result ≡ spec.size_at s.now i }
 {
-    word_at(s, 3 + 2 * long(i))
+    word_at(s, 3 + 2 * i as usize)
 }
 
 // The number of entries of a table.
@@ -237,39 +226,27 @@ pub fn entry(s: &[u8], table: Table, n: u16) -> Entry
     let span = span_of(layout(s), table);
     let start = span.start;
     if start <= s.len() {
-        entry_at(s, start + 7 * long(n))
+        entry_at(s, start + 7 * n as usize)
     } else {
-        Entry {
-            kind: 0,
-            p: 0,
-            q: 0,
-            r: 0,
-        }
+        Entry::default()
     }
 }
 
-pub(crate) fn least(a: u16, b: u16) -> u16
-    ensures { result ≡ min a b }
-{
-    if a < b { a } else { b }
-}
-
+// The number of cells of a name of this size.
 pub(crate) fn cells_of(size: u16) -> usize
     ensures { result ≡ spec.cells_of size }
 {
-    if size == 0 { 1 } else { long(size) }
+    size.max(1) as usize
 }
 
 // The number of cells of the names before name `i`, or of all where there are no more.
 pub fn first_cell(s: &[u8], i: u16) -> usize
     ensures { result ≡ spec.first_cell (spec.sizes s.now) i }
 {
-    let end = least(name_count(s), i);
+    let end = name_count(s).min(i);
     let mut total: usize = 0;
-    let mut k: u16 = 0;
-    while k < end {
+    for k in 0..end {
         total += cells_of(size_at(s, k));
-        k += 1;
     }
     total
 }

@@ -6,30 +6,29 @@ ghost use Rattle.program.specs.Kind as spec;
 use crate::{Sort, Table};
 
 // The table that a sort's entries stand in.
+#[tactic(auto, unfolding(crate::specs::Kind::table_of))]
 pub fn table_of(sort: Sort) -> Table
     ensures { result ≡ spec.table_of sort }
 {
     match sort {
         Sort::Expression => Table::Arithmetic,
         Sort::Condition => Table::Boolean,
-        Sort::Command => Table::Commands,
-        Sort::Guarded => Table::Commands,
+        Sort::Command | Sort::Guarded => Table::Commands,
     }
 }
 
 // Whether a kind of command entry is a command.
+#[tactic(auto, unfolding(crate::specs::Kind::is_command))]
 pub fn is_command(kind: u8) -> bool
     ensures { result ≡ spec.is_command kind }
 {
-    if kind <= 5 {
-        return true;
-    }
-    8 <= kind && kind <= 9
+    matches!(kind, 0..=5 | 8..=9)
 }
 
 // Whether a kind of command entry is a guarded command.
+#[tactic(auto, unfolding(crate::specs::Kind::is_guarded))]
 pub fn is_guarded(kind: u8) -> bool
     ensures { result ≡ spec.is_guarded kind }
 {
-    6 <= kind && kind <= 7
+    matches!(kind, 6..=7)
 }

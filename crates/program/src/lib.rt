@@ -20,7 +20,7 @@ pub enum Table {
 }
 
 // An entry of a table: its kind and three operands.
-#[derive(Clone, Copy)]
+#[derive(Clone, Copy, Default)]
 pub struct Entry {
     pub kind: u8,
     pub p: u16,

@@ -72,7 +72,7 @@ pub const NO_CELL: u16 = 1024;
 pub fn name_count(code: &[u16; CODE]) -> usize
     ensures { result ≡ get_or code.now spec.name_count_place 0 }
 {
-    file::long(code[NAMES])
+    code[NAMES] as usize
 }
 
 // The size of a name: 0 for a variable.
@@ -91,7 +91,7 @@ pub fn first_cell(code: &[u16; CODE], x: u16) -> usize
     ensures { result ≡ spec.cell_in code.now x }
 {
     if x < NAMES_MOST {
-        file::long(code[CELLS + x as usize])
+        code[CELLS + x as usize] as usize
     } else {
         0
     }
@@ -101,7 +101,7 @@ pub fn first_cell(code: &[u16; CODE], x: u16) -> usize
 pub fn cell_count(code: &[u16; CODE]) -> usize
     ensures { result ≡ get_or code.now (spec.cell_place + spec.names_most) 0 }
 {
-    file::long(code[CELLS_END])
+    code[CELLS_END] as usize
 }
 
 // The number of arithmetic entries.
@@ -152,36 +152,25 @@ pub fn edge_target(graph: &[u16; GRAPH], e: u16) -> u16
 }
 
 // What a command does on an edge.
+#[tactic(auto, unfolding(crate::specs::Parts::Prepared::performed))]
 fn performed(node: CommandNode) -> ActionNode
     ensures { result ≡ spec.performed node }
 {
     match node {
-        CommandNode::Skip => ActionNode::Nothing,
         CommandNode::Assign(x, a) => ActionNode::Assign(x, a),
         CommandNode::Store(x, i, a) => ActionNode::Store(x, i, a),
-        CommandNode::Sequence(_, _) => ActionNode::Nothing,
-        CommandNode::Conditional(_) => ActionNode::Nothing,
-        CommandNode::Iteration(_) => ActionNode::Nothing,
-        CommandNode::Guarded(_, _) => ActionNode::Nothing,
-        CommandNode::Choice(_, _) => ActionNode::Nothing,
-        CommandNode::Jump(_) => ActionNode::Nothing,
+        _ => ActionNode::Nothing,
     }
 }
 
 // The guard of a guarded command, on an edge.
+#[tactic(auto, unfolding(crate::specs::Parts::Prepared::guard_form))]
 fn guard_of(node: CommandNode) -> ActionNode
     ensures { result ≡ spec.guard_form node }
 {
     match node {
-        CommandNode::Skip => ActionNode::Nothing,
-        CommandNode::Assign(_, _) => ActionNode::Nothing,
-        CommandNode::Store(_, _, _) => ActionNode::Nothing,
-        CommandNode::Sequence(_, _) => ActionNode::Nothing,
-        CommandNode::Conditional(_) => ActionNode::Nothing,
-        CommandNode::Iteration(_) => ActionNode::Nothing,
         CommandNode::Guarded(g, _) => ActionNode::Guard(g),
-        CommandNode::Choice(_, _) => ActionNode::Nothing,
-        CommandNode::Jump(_) => ActionNode::Nothing,
+        _ => ActionNode::Nothing,
     }
 }
 
@@ -212,28 +201,18 @@ pub fn action(graph: &[u16; GRAPH], e: u16) -> ActionNode
 }
 
 // Whether an action is a guard's of the deterministic graph.
+#[tactic(auto, unfolding(crate::specs::Parts::Prepared::is_guard_node))]
 pub fn is_guard(action: ActionNode) -> bool
     ensures { result ≡ spec.is_guard_node action }
 {
-    match action {
-        ActionNode::Nothing => false,
-        ActionNode::Assign(_, _) => false,
-        ActionNode::Store(_, _, _) => false,
-        ActionNode::Holds(_) => false,
-        ActionNode::Exit(_) => false,
-        ActionNode::Guard(_) => true,
-    }
+    matches!(action, ActionNode::Guard(_))
 }
 
 // Whether an edge is a guard's of the deterministic graph: its kind is looked at first, and tells of every other edge.
 pub fn guards(graph: &[u16; GRAPH], e: u16) -> bool
     ensures { result ≡ spec.is_guard_node (spec.action_in graph.now e) }
 {
-    let kind = edge_word(graph, e, 2);
-    if kind == 4 {
-        return is_guard(action(graph, e));
-    }
-    false
+    edge_word(graph, e, 2) == 4 && is_guard(action(graph, e))
 }
 
 // The lowest edge out of a node; NONE, where there is none.
@@ -315,12 +294,9 @@ pub fn number_at(code: &[u16; CODE], n: u16) -> i32
     if EXPRESSIONS <= n {
         return 0;
     }
-    let node = arith_at(code, n);
-    match node {
+    match arith_at(code, n) {
         ArithNode::Number(z) => z,
-        ArithNode::Variable(_) => 0,
-        ArithNode::Element(_, _) => 0,
-        ArithNode::Operator(_, _, _) => 0,
+        _ => 0,
     }
 }
 

@@ -22,7 +22,7 @@ pub fn head_at(s: &[u8], at: usize) -> Result<FieldHead, usize>
         tag: file::byte_at(s, at),
         length,
         content: at + 3,
-        next: at + 3 + file::long(length),
+        next: at + 3 + length as usize,
     })
 }
 
@@ -40,11 +40,9 @@ pub(crate) fn after(head: Result<FieldHead, usize>) -> usize
 pub fn place_after(s: &[u8], at: usize, k: u8) -> usize
     ensures { result ≡ spec.place_after s.now at k }
 {
-    let mut place: usize = at;
-    let mut i: u8 = 0;
-    while i < k {
+    let mut place = at;
+    for _ in 0..k {
         place = after(head_at(s, place));
-        i += 1;
     }
     place
 }

@@ -18,7 +18,7 @@ fn put_entry(program: &[u8], at: usize, out: &mut [u16], place: usize)
         (place + 2) (File.word_at program.now (at + 3)))
         (place + 3) (File.word_at program.now (at + 5)) }
 {
-    out[place] = file::wide(program[at]);
+    out[place] = u16::from(program[at]);
     out[place + 1] = file::whole_word(program, at + 1);
     out[place + 2] = file::whole_word(program, at + 3);
     out[place + 3] = file::whole_word(program, at + 5);
@@ -30,19 +30,10 @@ pub(crate) fn put_table(program: &[u8], span: Span, out: &mut [u16], place: usiz
     ensures { spec.Copied program.now span.start place span.count out.old out.new }
 {
     let start = span.start;
-    let count = file::long(span.count);
-    let mut n: usize = 0;
-    while n < count {
+    let count = span.count as usize;
+    for n in 0..count {
         put_entry(program, start + 7 * n, out, place + 4 * n);
-        n += 1;
     }
-}
-
-// The number of cells of a name of this size.
-fn cells(size: u16) -> u16
-    ensures { result ≡ File.cells_of size }
-{
-    if size == 0 { 1 } else { size }
 }
 
 // The sizes and first cells of the names, the number of all cells, and that of the names.
@@ -50,16 +41,14 @@ fn put_names(program: &[u8], names: u16, code: &mut [u16; CODE])
     requires { (validity program.now ≡ Ok tt) × (names ≡ File.name_count program.now) × (length code.old ≡ code_length) }
     ensures { spec.NamesDone program.now code.old code.new }
 {
-    let mut total: u16 = 0;
-    let mut i: u16 = 0;
-    while i < names {
+    let mut total: usize = 0;
+    for i in 0..names {
         let size = file::size_at(program, i);
         code[prepared::SIZES + i as usize] = size;
-        code[prepared::CELLS + i as usize] = total;
-        total += cells(size);
-        i += 1;
+        code[prepared::CELLS + i as usize] = total as u16;
+        total += file::cells_of(size);
     }
-    code[prepared::CELLS_END] = total;
+    code[prepared::CELLS_END] = total as u16;
     code[prepared::NAMES] = names;
 }
 
@@ -88,11 +77,8 @@ fn put_cells(code: &mut [u16; CODE], count: u16)
     requires { (count ≤ expressions_most) × (length code.old ≡ code_length) }
     ensures { spec.CellsPut count code.old code.new }
 {
-    let mut n: u16 = 0;
-    while n < count {
-        let cell = fourth(code, n);
-        code[4 * n as usize + 3] = cell;
-        n += 1;
+    for n in 0..count {
+        code[4 * n as usize + 3] = fourth(code, n);
     }
 }
 

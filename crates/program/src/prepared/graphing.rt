@@ -15,7 +15,7 @@ use crate::{CommandNode, Construction, Jump, Layout, prepared};
 // What a pen's part that counts edges is counted in: above it the next edge, below it the next fresh node.
 const PEN: u32 = 65536;
 
-// An edge's four words, at a place that has room for them.
+// An edge's four words, at a place that has room for them. One copy of an array of the four was tried: it goes through the stack, and is slower than four stores.
 fn put_edge(words: &mut [u16], at: usize, source: u16, target: u16, kind: u16, entry: u16)
     requires { at + 4 ≤ length words.old }
     ensures { words.new ≡ over_at at (source ∷ target ∷ kind ∷ entry ∷ []) words.old }

@@ -12,11 +12,7 @@ fn clear(graph: &mut [u16])
     requires { length graph.old ≡ graph_length }
     ensures { parts.Unlinked graph.old graph.new }
 {
-    let mut i: usize = FIRST;
-    while i < NEXT {
-        graph[i] = NONE;
-        i += 1;
-    }
+    graph[FIRST..NEXT].fill(NONE);
 }
 
 // An edge put before those of its node.
@@ -36,10 +32,7 @@ pub(crate) fn link(graph: &mut [u16; GRAPH])
 {
     clear(graph);
     let n = prepared::edge_count(graph);
-    let mut k: u16 = 0;
-    while k < n {
-        let e = n - 1 - k;
+    for e in (0..n).rev() {
         link_edge(graph, e);
-        k += 1;
     }
 }

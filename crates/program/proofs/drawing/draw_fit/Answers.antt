@@ -12,22 +12,19 @@ use borrow.Author.Tests.{leb-true}
 use Rattle.program.proofs.Asking.{ask_fit, passed}
 use Rattle.program.specs.Parts.DrawingParts.{rows_in}
 use Rattle.program.specs.Graph.{edge_count}
-use Rattle.program.proofs.Drawings.{rows_all, too_short, long_enough}
+use Rattle.program.proofs.Drawings.{rows_all}
 use Rattle.program.proofs.drawing.draw_fit.Goals as goal
-use Rattle.program.proofs.drawing.draw_fit.Goals.{After-ask, After-long-end}
+use Rattle.program.proofs.drawing.draw_fit.Goals.{After-ask, After-edge_count-edges}
 
 -- how many edges were drawn
-edges : (c : After-long-end) → c.edge_count-edges.result ≡ edge_count c.args.construction c.args.s.now
+edges : (c : After-edge_count-edges) → c.edge_count-edges.result ≡ edge_count c.args.construction c.args.s.now
 edges c = c.edge_count-edges.ensures ∙ c.put_graph.ensures.edges
-
-count : (c : After-long-end) → c.long-end.result ≡ edge_count c.args.construction c.args.s.now
-count c = c.long-end.ensures ∙ (edges c)
 
 pub put_graph-requires : goal.put_graph-requires
 put_graph-requires c = (c.requires, c.fit_layout-l.ensures, refl)
 
 -- question 13 is all that is left to ask
-asked : (c : After-ask) → validity c.args.s.now ≡ Ok tt → c.long-end.result ≡ edge_count c.args.construction c.args.s.now → c.ask.result ≡ draw_validity c.args.construction c.args.s.now c.args.buffer.now
+asked : (c : After-ask) → validity c.args.s.now ≡ Ok tt → c.edge_count-edges.result ≡ edge_count c.args.construction c.args.s.now → c.ask.result ≡ draw_validity c.args.construction c.args.s.now c.args.buffer.now
 unfolding draw_validity
 asked c fit e = passed fit (c.ask.ensures ∙ ap (λ (n : ℕ). ask (leb (7 * n) (length c.args.buffer.now)) 13 0) e)
 
@@ -35,13 +32,13 @@ pub returns-in_err-ask : goal.returns-in_err-ask
 unfolding drawn drawn_by drawn_buffer drawn_buffer_by
 returns-in_err-ask c =
     let p = goal.at.returns-in_err-ask c in
-    let no : draw_validity c.args.construction c.args.s.now c.args.buffer.now ≡ Err _ = sym (asked p.After-ask c.requires (count p.After-long-end)) ∙ c.in_err-ask.was in
+    let no : draw_validity c.args.construction c.args.s.now c.args.buffer.now ≡ Err _ = sym (asked p.After-ask c.requires (edges p.After-edge_count-edges)) ∙ c.in_err-ask.was in
     rw no (handed_on _ c.from_residual.ensures.1, refl)
 
 pub put_bytes-requires : goal.put_bytes-requires
 put_bytes-requires c =
     let long = leb-true _ _ (ask_fit _ 13 0 (sym c.ask.ensures ∙ c.in_ok-ask.was)) in
-    omega (arith, long, c.long-end.ensures, c.edge_count-edges.ensures)
+    omega (arith, long, c.edge_count-edges.ensures)
 
 pub returns : goal.returns
 unfolding drawn drawn_by drawn_buffer drawn_buffer_by
@@ -50,6 +47,6 @@ returns c =
     let b = c.args.buffer.now in
     let g = c.put_graph.ensures in
     let p = goal.at.returns c in
-    let yes : draw_validity c.args.construction s b ≡ Ok tt = sym (asked p.After-ask c.requires (count p.After-long-end)) ∙ c.in_ok-ask.was in
+    let yes : draw_validity c.args.construction s b ≡ Ok tt = sym (asked p.After-ask c.requires (edges p.After-edge_count-edges)) ∙ c.in_ok-ask.was in
     rw yes
-    (rw (c.node_count.ensures ∙ g.nodes, edges p.After-long-end), c.put_bytes.ensures ∙ ap (λ (x : List ℕ). over x b) (ap (rows_in _) g.edges ∙ rows_all _ s _ g))
+    (rw (c.node_count.ensures ∙ g.nodes, edges p.After-edge_count-edges), c.put_bytes.ensures ∙ ap (λ (x : List ℕ). over x b) (ap (rows_in _) g.edges ∙ rows_all _ s _ g))

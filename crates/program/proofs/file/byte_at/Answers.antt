@@ -1,12 +1,9 @@
 -- `program::file::byte_at` meets its contract.
-use mathlib.Core.Path.{refl, sym}
+use native.Mathlib.Omega.{arith}
+use Rattle.std.proofs.lemmas.Grind.{common_steps}
 use Rattle.program.specs.File.{byte_at}
-use Rattle.program.proofs.Reading.{byte_past}
 use Rattle.program.proofs.file.byte_at.Goals as goal
 
-pub returns-then-i-s : goal.returns-then-i-s
+pub returns : goal.returns
 unfolding byte_at
-returns-then-i-s c = refl
-
-pub returns-else-i-s : goal.returns-else-i-s
-returns-else-i-s c = sym (byte_past _ _ c.if-i-s.false)
+returns c = grind (arith, common_steps)

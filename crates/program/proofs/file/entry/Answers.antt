@@ -1,5 +1,5 @@
 -- `program::file::entry` meets its contract.
-use Prim.Native.Nat.{◌+◌, ◌*◌}
+use Prim.Native.Nat.{ℕ, ◌+◌, ◌*◌}
 use mathlib.Core.Path.{ap, ◌∙◌, ◌≡◌}
 use native.Mathlib.Omega.{arith}
 use Rattle.program.specs.File.{entry_at, layout_of, span_of, entry, table_start, entry_offset}
@@ -13,11 +13,11 @@ unfolding entry entry_offset table_start
 returns-then-start-s c =
     let a = c.args in
     let start : c.span_of-span.result.start ≡ (span_of (layout_of a.s.now) a.table).start = ap (λ (x : Span). x.start) (c.span_of-span.ensures ∙ ap (λ (l : Layout). span_of l a.table) c.layout.ensures) in
-    c.entry_at.ensures ∙ (λ i. entry_at a.s.now (start i + 7 * c.long.ensures i))
+    c.entry_at.ensures ∙ ap (λ (k : ℕ). entry_at a.s.now (k + 7 * a.n)) start
 
 pub returns-else-start-s : goal.returns-else-start-s
 unfolding entry entry_offset table_start
 returns-else-start-s c =
     let a = c.args in
     let start : c.span_of-span.result.start ≡ (span_of (layout_of a.s.now) a.table).start = ap (λ (x : Span). x.start) (c.span_of-span.ensures ∙ ap (λ (l : Layout). span_of l a.table) c.layout.ensures) in
-    entry_past _ _ (omega arith)
+    entry_past _ _ (omega arith) c.default.ensures

@@ -12,4 +12,4 @@ unfolding entry_at
 returns-else-s-at-ge7 c = λ i. record { kind = c.byte_at.ensures i; p = c.word_at.ensures i; q = c.word_at-then-at-s.ensures i; r = c.word_at-then-at-s-2.ensures i }
 
 pub returns-else-at-s : goal.returns-else-at-s
-returns-else-at-s c = entry_past _ _ c.if-at-s.false
+returns-else-at-s c = entry_past _ _ c.if-at-s.false c.default.ensures

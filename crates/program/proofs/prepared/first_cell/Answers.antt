@@ -5,7 +5,7 @@ use Rattle.program.proofs.prepared.first_cell.Goals as goal
 
 pub returns-then-x-lt-NAMES_MOST : goal.returns-then-x-lt-NAMES_MOST
 unfolding cell_in
-returns-then-x-lt-NAMES_MOST c = rw (lt-ltb _ _ c.if-x-lt-NAMES_MOST.true) c.long.ensures
+returns-then-x-lt-NAMES_MOST c = rw (lt-ltb _ _ c.if-x-lt-NAMES_MOST.true)
 
 pub returns-else-x-lt-NAMES_MOST : goal.returns-else-x-lt-NAMES_MOST
 unfolding cell_in

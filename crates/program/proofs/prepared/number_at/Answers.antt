@@ -2,6 +2,7 @@
 use borrow.Author.Rules.{rules}
 use borrow.Author.Tests.{le-ltb}
 use mathlib.Core.Path.{sym, ◌∙◌}
+use native.Mathlib.Omega.{arith}
 use mir.Syntax.{w32}
 use mir.ValLaws.{to_z-of_z}
 use Rattle.program.specs.Parts.Prepared.{number_of, number_in}
@@ -15,16 +16,8 @@ returns-then-n-ge-EXPRESSIONS c = rw (le-ltb _ _ c.if-n-ge-EXPRESSIONS.true)
 pub returns-in-Number : goal.returns-in-Number
 unfolding number_of
 returns-in-Number c =
-    to_z-of_z w32 _ (search rules) ∙ sym (number_told _ _ c.if-n-ge-EXPRESSIONS.false c.arith_at-node.ensures c.in-Number.is)
+    to_z-of_z w32 _ (search rules) ∙ sym (number_told _ _ c.if-n-ge-EXPRESSIONS.false c.arith_at.ensures c.in-Number.is)
 
-pub returns-in-Variable : goal.returns-in-Variable
-unfolding number_of
-returns-in-Variable c = sym (number_told _ _ c.if-n-ge-EXPRESSIONS.false c.arith_at-node.ensures c.in-Variable.is)
-
-pub returns-in-Element : goal.returns-in-Element
-unfolding number_of
-returns-in-Element c = sym (number_told _ _ c.if-n-ge-EXPRESSIONS.false c.arith_at-node.ensures c.in-Element.is)
-
-pub returns-in-Operator : goal.returns-in-Operator
-unfolding number_of
-returns-in-Operator c = sym (number_told _ _ c.if-n-ge-EXPRESSIONS.false c.arith_at-node.ensures c.in-Operator.is)
+pub returns-in_default : goal.returns-in_default
+unfolding number_in number_of
+returns-in_default c = grind (arith, c.arith_at.ensures)

@@ -15,4 +15,4 @@ pub returns : goal.returns
 unfolding head_found
 returns c =
     let args = c.args in
-    rw (head_there args.s.now args.at (search rules), c.long.ensures, c.byte_at.ensures, c.word_at-length.ensures)
+    rw (head_there args.s.now args.at (search rules), c.byte_at.ensures, c.word_at-length.ensures)

@@ -1,5 +1,5 @@
 -- `program::prepared::linking::link`: from the last edge on, each is put before those of its node.
-use Prim.Native.Nat.{suc, ◌+◌, ◌-◌}
+use Prim.Native.Nat.{suc, ◌-◌}
 use mathlib.Core.Path.{◌≡◌}
 use native.Mathlib.Omega.{arith}
 use Rattle.program.specs.Parts.LinkingParts.{Linkable}
@@ -11,30 +11,28 @@ use Rattle.program.proofs.prepared.linking.link.Goals.{After-clear}
 linkable : (c : After-clear) → Linkable c.clear.new.graph
 linkable c = linkable_kept c.clear.ensures.same c.requires
 
-pub loop-k-init : goal.loop-k-init
-loop-k-init c =
-    let none : c.edge_count-n.result - 0 ≡ c.edge_count-n.result = omega arith in
-    (omega arith, rw (none, c.edge_count-n.ensures) (held_none c.clear.ensures))
+pub loop-e-init : goal.loop-e-init
+loop-e-init c = (omega arith, rw c.edge_count-n.ensures (held_none c.clear.ensures))
 
 pub link_edge-requires : goal.link_edge-requires
 link_edge-requires c =
-    let l = c.loop-k in
+    let l = c.loop-e in
     let count = c.edge_count-n in
     let able = linkable (goal.at.link_edge-requires c).After-clear in
+    let here : l.e ≡ suc (l.e - 1) = omega arith in
     (omega (arith, able.few, count.ensures), held_inside l.invariant.1 able _ (omega (arith, count.ensures)))
 
-pub loop-k-preserved : goal.loop-k-preserved
-loop-k-preserved c =
-    let l = c.loop-k in
+pub loop-e-preserved : goal.loop-e-preserved
+loop-e-preserved c =
+    let l = c.loop-e in
     let count = c.edge_count-n in
-    let able = linkable (goal.at.loop-k-preserved c).After-clear in
-    let e = count.result - 1 - l.k in
-    let here : count.result - l.k ≡ suc e = omega arith in
-    let there : count.result - (l.k + 1) ≡ e = omega arith in
-    (omega arith, rw (c.link_edge.ensures, there) (held_more _ able.few l.graph e (omega (arith, count.ensures)) (able.inside e (omega (arith, count.ensures))) (rw here at l.invariant.1)))
+    let able = linkable (goal.at.loop-e-preserved c).After-clear in
+    let e = l.e - 1 in
+    let here : l.e ≡ suc e = omega arith in
+    (omega arith, rw c.link_edge.ensures (held_more _ able.few l.graph e (omega (arith, count.ensures)) (able.inside e (omega (arith, count.ensures))) (rw here at l.invariant.1)))
 
 pub returns : goal.returns
 returns c =
-    let l = c.loop-k in
-    let none : c.edge_count-n.result - l.k ≡ 0 = omega arith in
+    let l = c.loop-e in
+    let none : l.e ≡ 0 = omega arith in
     held_all _ (linkable (goal.at.returns c).After-clear).few _ _ c.clear.ensures.same (rw none at l.invariant.1)
