@@ -27,11 +27,9 @@ pub(crate) fn put_factors(index: &mut [u16; INDEX])
     ensures { (width : ℕ) (bytes : List ℕ) → spec.Indexed width bytes 0 index.new }
 {
     let mut factor: u32 = 1;
-    let mut i: usize = 0;
-    while i < COLUMNS {
-        index[i] = factor as u16;
+    for entry in index[..COLUMNS].iter_mut() {
+        *entry = factor as u16;
         factor = factor * 31821 % 65536;
-        i += 1;
     }
 }
 

@@ -1,7 +1,6 @@
 -- `solver::offer`: an offer in the order of its questions.
 use Rattle.std.proofs.Common.{◌≡◌, ℕ, ◌+◌, ◌<◌, List, length, set, sym, ◌∙◌, arith}
 use Rattle.analysis.specs.Parts.Judging.{ReadInto}
-use Rattle.analysis.specs.Parts.Membership.{changed}
 use Rattle.analysis.specs.Records.{listed}
 use Rattle.analysis.specs.Parts.Solving.{found_in}
 use Rattle.analysis.proofs.Chains.{bucket_small}
