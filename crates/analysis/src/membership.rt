@@ -55,10 +55,8 @@ pub(crate) fn weight(index: &[u16; INDEX], bytes: &[u8], at: usize, names: usize
     ensures { spec.Weighed names (parts.padded bytes.now at names) result }
 {
     let mut sum: u32 = 0;
-    let mut i: usize = 0;
-    while i < names {
-        sum += term(index, 2 + i, bytes[at + i]);
-        i += 1;
+    for (i, byte) in bytes[at..at + names].iter().enumerate() {
+        sum += term(index, 2 + i, *byte);
     }
     sum
 }
