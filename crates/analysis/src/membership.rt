@@ -116,10 +116,8 @@ fn agreeing(bytes: &[u8], at: usize, names: usize, rho: &[u8; 32]) -> u8
     ensures { result ≡ spec.agreeing (take names (drop at bytes.now)) rho.now names }
 {
     let mut count: u8 = 0;
-    let mut i: usize = 0;
-    while i < names {
-        count += (bytes[at + i] == rho[i]) as u8;
-        i += 1;
+    for (i, byte) in bytes[at..at + names].iter().enumerate() {
+        count += (*byte == rho[i]) as u8;
     }
     count
 }
