@@ -203,10 +203,8 @@ pub(crate) fn put_index(index: &mut [u16; INDEX], bytes: &[u8], names: usize)
 {
     put_factors(index);
     let count = bytes.len() / (2 + names);
-    let mut k: usize = 0;
-    while k < count {
+    for k in 0..count {
         let h = hash_at(index, bytes, (2 + names) * k, names);
         enter(index, k, h);
-        k += 1;
     }
 }
