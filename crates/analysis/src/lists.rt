@@ -33,29 +33,16 @@ fn byte_formed(size: u16, b: u8) -> bool
     one | ((size != 0) & some)
 }
 
-// A number of names, which is then seen to be at most 32: so that a loop over them needs no test for each, and many go at once.
-fn at_most(names: usize) -> usize
-    requires { names ≤ 32 }
-    ensures { result ≡ names }
-{
-    if names < NAMES_MOST as usize {
-        names
-    } else {
-        NAMES_MOST as usize
-    }
-}
-
 // Whether question 17 of the memory at a place is answered yes: most are, and then the first wrong byte need not be looked for.
 fn all_formed(code: &[u16; CODE], names: usize, bytes: &[u8], at: usize) -> bool
     requires { (names ≤ 32) × (at + names ≤ length bytes.now) }
     ensures { (ns : List ℕ) → parts.SizesIn ns code.now names → result ≡ true → spec.memory_formed ns bytes.now at ≡ Validity.Fit }
 {
-    let end = at_most(names);
+    // the same number, which is then seen to be at most 32: so that the loop needs no test for each name, and many go at once
+    let count = names.min(NAMES_MOST as usize);
     let mut formed = true;
-    let mut i: usize = 0;
-    while i < end {
-        formed = formed & byte_formed(prepared::size_of(code, i as u16), bytes[at + i]);
-        i += 1;
+    for (i, byte) in bytes[at..at + count].iter().enumerate() {
+        formed &= byte_formed(prepared::size_of(code, i as u16), *byte);
     }
     formed
 }
