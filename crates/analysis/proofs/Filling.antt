@@ -1,6 +1,6 @@
 -- An array that is filled with the numbers of a list from the front.
-use Rattle.std.proofs.Common.{◌≡◌, ℕ, ◌+◌, ◌<◌, ◌≤◌, List, length, get_or, set, replicate, sym, ◌∙◌, arith, length-set, get_or-set_other, get_or-set_same, ext_get_or}
-use native.Mathlib.Decide.{ℕ_discrete, dec_le}
+use Rattle.std.proofs.Common.{◌≡◌, ℕ, ◌+◌, ◌<◌, ◌≤◌, List, length, get_or, set, replicate, sym, ◌∙◌, arith, length-set, get_or-set_other, get_or-set_same}
+use native.Mathlib.Decide.{ℕ_discrete}
 use lib.ListN.{length-replicate}
 use Rattle.program.proofs.Lists.{get_or_same}
 
@@ -31,19 +31,3 @@ module _ (xs : List ℕ) where
             ];
         zeros = λ i l. get_or-set_other out k i x 0 (λ p. omega arith) ∙ f.zeros i (omega arith);
       }
-
-  -- zeros need not be written
-  pub filled_rest : (k n : ℕ) {out : List ℕ} → k ≤ n → ((i : ℕ) → k ≤ i → i < n → get_or xs i 0 ≡ 0) → Filled xs k out → Filled xs n out
-  filled_rest k n h none f =
-      record {
-        size = f.size;
-        same =
-            λ i l. elim (dec_le k i) [
-              | yes p ↦ f.zeros i p ∙ sym (none i p l)
-              | no q ↦ f.same i (omega arith)
-            ];
-        zeros = λ i l. f.zeros i (omega arith);
-      }
-
-  pub filled_all : (n : ℕ) {out : List ℕ} → length xs ≡ n → Filled xs n out → out ≡ xs
-  filled_all n {out} h f = ext_get_or 0 out xs f.size (λ i l. f.same i (omega (arith, f.size)))

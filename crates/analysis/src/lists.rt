@@ -125,11 +125,7 @@ pub(crate) fn read_memory(out: &mut [u8; 32], bytes: &[u8], at: usize, names: us
     ensures { out.new ≡ parts.padded bytes.now at names }
 {
     *out = [0u8; 32];
-    let mut i: usize = 0;
-    while i < names {
-        out[i] = bytes[at + i];
-        i += 1;
-    }
+    out[..names].copy_from_slice(&bytes[at..at + names]);
 }
 
 // An abstract memory's bytes over a buffer from a place on.
@@ -137,11 +133,7 @@ fn put_memory(buffer: &mut [u8], at: usize, names: usize, rho: &[u8; 32])
     requires { Front names rho.now × (at + names ≤ length buffer.old) }
     ensures { buffer.new ≡ DrawingParts.over_at at (take names rho.now) buffer.old }
 {
-    let mut i: usize = 0;
-    while i < names {
-        buffer[at + i] = rho[i];
-        i += 1;
-    }
+    buffer[at..at + names].copy_from_slice(&rho[..names]);
 }
 
 // A node's two bytes over a buffer from a place on.
@@ -149,8 +141,7 @@ fn put_node(buffer: &mut [u8], at: usize, node: u16)
     requires { at + 2 ≤ length buffer.old }
     ensures { buffer.new ≡ DrawingParts.over_at at (Graph.word_bytes node) buffer.old }
 {
-    buffer[at] = (node / 256 % 256) as u8;
-    buffer[at + 1] = (node % 256) as u8;
+    buffer[at..at + 2].copy_from_slice(&node.to_be_bytes());
 }
 
 // A changed record over a buffer from a place on.

@@ -1,17 +1,12 @@
 -- `lists::all_formed`: while it is true, each byte passed is right.
-use Rattle.std.proofs.Common.{◌≡◌, ◌+◌, ◌<◌, Bool, true, false, ◌&&◌, sym, refl, ◌∙◌, add-one, arith}
+use Rattle.std.proofs.Common.{◌≡◌, ◌+◌, ◌<◌, sym, refl, ◌∙◌, add-one, arith}
+use Rattle.std.proofs.lemmas.Bool.{and_parts}
 use Rattle.std.proofs.lemmas.List.Edits.{length-between, get_or-between}
-use mathlib.Core.Bool.{false≢true}
 use Rattle.program.specs.Asking.{ask_each}
 use Rattle.program.specs.File.{byte_at}
 use Rattle.program.specs.FirstSuch.{first_of}
 use Rattle.analysis.proofs.Laid.{memory_asked, byte_passed}
 use Rattle.analysis.proofs.lists.all_formed.Goals as goal
-
-both_true : (a b : Bool) → (a && b) ≡ true → (a ≡ true) × (b ≡ true)
-both_true true true p = (refl, refl)
-both_true true false p = absurd (false≢true p)
-both_true false b p = absurd (false≢true p)
 
 pub loop-i-init : goal.loop-i-init
 unfolding ask_each first_of
@@ -24,7 +19,7 @@ loop-i-preserved c p =
     let l = c.loop-i in
     let end = a.at + c.min-count.result in
     let inside : l.i < c.min-count.result = omega (arith, length-between a.bytes.now a.at end (omega arith)) in
-    let two = both_true _ _ p in
+    let two = and_parts _ _ p in
     rw add-one
     (byte_passed a.code.now a.bytes.now a.at l.i (l.invariant two.0)
     (sym (c.byte_formed-formed.ensures ∙ rw (c.size_of.ensures, get_or-between a.bytes.now a.at end l.i 0 (omega arith))) ∙ two.1))
