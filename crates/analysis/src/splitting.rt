@@ -43,12 +43,10 @@ fn split_by(width: u32, place: u32) -> Split
     let count = double(width, place, &mut widths);
     let mut record: u32 = 0;
     let mut rest = place;
-    let mut left = count;
-    while 0 < left {
-        let doubled = widths[left - 1];
+    for k in (0..count).rev() {
+        let doubled = widths[k];
         record = record + record + (doubled <= rest) as u32;
         rest = take_off(rest, doubled);
-        left -= 1;
     }
     Split {
         validity: Validity::Fit,
