@@ -14,9 +14,9 @@ fn double(width: u32, place: u32, widths: &mut [u32; 32]) -> usize
     requires { 0 < width }
     ensures { doubling.Doublings width place widths.new result }
 {
-    *widths = [0u32; 32];
     let mut doubled = width as u64;
     let mut count: usize = 0;
+    // no `for` over the widths: it would end at two places, where a doubling is past the place and where the widths end
     while doubled <= place as u64 {
         widths[count] = doubled as u32;
         doubled += doubled;
