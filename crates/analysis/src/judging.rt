@@ -326,13 +326,11 @@ fn ever_negative(code: &[u16; CODE], graph: &[u16; GRAPH]) -> bool
 {
     let widest = [7u8; 32];
     let count = prepared::edge_count(graph);
-    let mut e: u16 = 0;
-    while e < count {
+    for e in 0..count {
         let action = prepared::action(graph, e);
         if indices::may_be_negative(code, graph, &widest, action) {
             return true;
         }
-        e += 1;
     }
     false
 }
