@@ -285,8 +285,7 @@ fn offer_initial(
 {
     let count = initial.len() / names;
     let mut progress = p;
-    let mut k: usize = 0;
-    while k < count {
+    for k in 0..count {
         let at = names * k;
         let mut rho = [0u8; 32];
         lists::read_memory(&mut rho, initial, at, names);
@@ -297,7 +296,6 @@ fn offer_initial(
             set: 0,
         };
         progress = offer(index, buffer, names, &rho, weight, change, progress);
-        k += 1;
     }
     progress
 }
