@@ -135,19 +135,12 @@ fn memory_changed(bytes: &[u8], at: usize, names: usize, rho: &[u8; 32], x: usiz
     count == names as u8
 }
 
-// The number of two bytes.
-fn word(high: u8, low: u8) -> u16
-    ensures { result ≡ high * 256 + low }
-{
-    high as u16 * 256 + low as u16
-}
-
 // Whether the record at a place is a changed one.
 fn is_changed(bytes: &[u8], at: usize, names: usize, rho: &[u8; 32], change: Change) -> bool
     requires { spec.Front names rho.now × (at + (2 + names) ≤ length bytes.now) }
     ensures { result ≡ Records.same_signs (take (2 + names) (drop at bytes.now)) (spec.changed names rho.now change) }
 {
-    let node = word(bytes[at], bytes[at + 1]);
+    let node = u16::from_be_bytes([bytes[at], bytes[at + 1]]);
     (node == change.node)
         & memory_changed(bytes, at + 2, names, rho, change.name as usize, change.set)
 }
@@ -192,7 +185,7 @@ fn hash_at(index: &[u16; INDEX], bytes: &[u8], at: usize, names: usize) -> usize
     requires { spec.Factored index.now × (names ≤ 32) × (at + (2 + names) ≤ length bytes.now) }
     ensures { result ≡ spec.bucket (take (2 + names) (drop at bytes.now)) }
 {
-    let node = word(bytes[at], bytes[at + 1]);
+    let node = u16::from_be_bytes([bytes[at], bytes[at + 1]]);
     hash(index, node, weight(index, bytes, at + 2, names))
 }
 
