@@ -262,6 +262,7 @@ fn descend(
 {
     let mut progress = p;
     let mut k: usize = 0;
+    // no `for` over the records: the list grows on the way, so their count is asked for at each turn
     while k < progress.count && !progress.full {
         progress = offer_from(code, graph, index, buffer, k, progress);
         k += 1;
@@ -306,14 +307,9 @@ fn nothing_in(bytes: usize, names: usize) -> Progress
     ensures { result ≡ record { count = 0; room = min 4096 (bytes / (2 + names)); full = false } }
 {
     let whole = bytes / (2 + names);
-    let room = if whole < lists::MOST {
-        whole
-    } else {
-        lists::MOST
-    };
     Progress {
         count: 0,
-        room,
+        room: whole.min(lists::MOST),
         full: false,
     }
 }
