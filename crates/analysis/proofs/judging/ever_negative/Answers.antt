@@ -1,20 +1,23 @@
--- `judging::ever_negative`: edge by edge, up to the first.
-use Rattle.std.proofs.Common.{sym, ◌∙◌, arith, below_more}
-use mathlib.Core.Bool.{false≢true}
+-- `judging::ever_negative`: where the answer is no, it was no for each edge.
+use Rattle.std.proofs.Common.{◌≡◌, ℕ, ◌<◌, get_or, refl, ◌∙◌, subst, arith, rules}
+use Rattle.std.specs.List.{range_with_len}
+use Rattle.std.proofs.lemmas.Iterator.{YieldsList-from_range, cases_from_any}
+use Rattle.std.proofs.lemmas.List.FromFn.{length-range_with_len, get_or-range_with_len}
 use Rattle.analysis.specs.Parts.Judging.{widest, NeverNegative}
 use Rattle.analysis.proofs.judging.ever_negative.Goals as goal
 
-pub loop-e-init : goal.loop-e-init
-loop-e-init c k h = absurd (omega arith)
-
-pub loop-e-preserved : goal.loop-e-preserved
-unfolding NeverNegative widest
-loop-e-preserved c = below_more _ _ c.loop-e.invariant (rw (← c.action-action.ensures) (sym c.may_be_negative.ensures ∙ c.if-may_be_negative.false))
-
-pub returns-then-may_be_negative : goal.returns-then-may_be_negative
-returns-then-may_be_negative c p =
-    absurd (false≢true (sym p))
-
 pub returns : goal.returns
+unfolding NeverNegative widest
 returns c p e h =
-    c.loop-e.invariant e (omega (arith, c.edge_count-count.ensures))
+    let a = c.args in
+    let n = c.edge_count.result in
+    let by =
+    cases_from_any _ _ c.any.result (λ (k : ℕ). Unit {0}) (λ (k : ℕ). NeverNegative a.code.now a.graph.now k) c.any.ensures.ran
+    (YieldsList-from_range 0 n n refl (omega arith))
+    (λ x q k. tt)
+    (λ x q k. (search rules, cc))
+    in
+    let no = rw p at by in
+    let inside : e < n = omega (arith, c.edge_count.ensures) in
+    let here : get_or (range_with_len 0 n) e 0 ≡ e = get_or-range_with_len 0 n e 0 inside ∙ omega arith in
+    subst (λ (k : ℕ). NeverNegative a.code.now a.graph.now k) here (no e 0 (omega arith) (omega (arith, length-range_with_len 0 n)))
