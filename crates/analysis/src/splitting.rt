@@ -7,7 +7,6 @@ ghost use Rattle.program.specs.declared.Validity.TheVariants.{Fit};
 
 use crate::Split;
 use program::{Validity, file, validation};
-use std::num;
 
 // Writes a width, its double, the double of that and so on, as many as are at most the place; how many. In 64 bits no sum overflows.
 fn double(width: u32, place: u32, widths: &mut [u32; 32]) -> usize
@@ -30,8 +29,7 @@ fn double(width: u32, place: u32, widths: &mut [u32; 32]) -> usize
 fn take_off(rest: u32, width: u32) -> u32
     ensures { result ≡ doubling.taken_off rest width }
 {
-    let less = num::wrapping_sub_u32(rest, width);
-    if less <= rest { less } else { rest }
+    rest.wrapping_sub(width).min(rest)
 }
 
 // The record and the column of a place by the width of a record: doubled widths are taken off, the largest first.
