@@ -66,9 +66,8 @@ fn hash(index: &[u16; INDEX], node: u16, weight: u32) -> usize
     requires { weight ≤ spec.changed_most }
     ensures { result ≡ spec.spread (weight + node / 256 % 256 * slice_index index.now 0 + node % 256 * slice_index index.now 1) }
 {
-    let sum = weight
-        + term(index, 0, (node / 256 % 256) as u8)
-        + term(index, 1, (node % 256) as u8);
+    let [high, low] = node.to_be_bytes();
+    let sum = weight + term(index, 0, high) + term(index, 1, low);
     sum as usize * SPREAD / 524288 % CHAINS
 }
 
