@@ -52,11 +52,7 @@ fn offer(
         return p;
     }
     if p.count == p.room {
-        return Progress {
-            count: p.count,
-            room: p.room,
-            full: true,
-        };
+        return Progress { full: true, ..p };
     }
     lists::put_changed(buffer, (2 + names) * p.count, names, rho, change);
     membership::enter(index, p.count, h);
