@@ -55,8 +55,9 @@ pub(crate) fn weight(index: &[u16; INDEX], bytes: &[u8], at: usize, names: usize
     ensures { spec.Weighed names (parts.padded bytes.now at names) result }
 {
     let mut sum: u32 = 0;
-    for (i, byte) in bytes[at..at + names].iter().enumerate() {
-        sum += term(index, 2 + i, *byte);
+    // by number: over the slice of the bytes it was tried, and takes twice the time
+    for i in 0..names {
+        sum += term(index, 2 + i, bytes[at + i]);
     }
     sum
 }

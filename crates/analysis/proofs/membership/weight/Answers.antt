@@ -1,6 +1,5 @@
 -- `membership::weight`: the loop adds the terms up.
-use Rattle.std.proofs.Common.{◌≡◌, ◌+◌, ◌<◌, refl, ap, ◌∙◌, add-one, arith, rules}
-use Rattle.std.proofs.lemmas.List.Edits.{length-between, get_or-between}
+use Rattle.std.proofs.Common.{◌≡◌, ◌+◌, refl, ap, ◌∙◌, add-one, arith, rules}
 use Rattle.analysis.specs.Parts.Membership.{weighted}
 use Rattle.analysis.proofs.Hashes.{padded_at, padded_length}
 use Rattle.analysis.proofs.membership.weight.Goals as goal
@@ -14,18 +13,15 @@ unfolding weighted
 loop-i-preserved c =
     let a = c.args in
     let l = c.loop-i in
-    let p = c.requires in
-    let k = length-between a.bytes.now a.at (a.at + a.names) p.2 in
-    let h : l.i < a.names = omega (arith, k, c.loop-i-test.true) in (
-      rw (add-one, l.invariant.0, c.term-sum.ensures.value, get_or-between a.bytes.now a.at (a.at + a.names) l.i 0 (omega arith), padded_at a.bytes.now a.at a.names l.i p.1 h, p.0.each (2 + l.i) (omega arith)),
+    let p = c.requires in (
+      rw (add-one, l.invariant.0, c.term-sum.ensures.value, padded_at a.bytes.now a.at a.names l.i p.1 c.loop-i-test.true, p.0.each (2 + l.i) (omega arith)),
       omega (arith, l.invariant.1, c.term-sum.ensures.small),
     )
 
 pub returns : goal.returns
 returns c =
-    let a = c.args in
     let l = c.loop-i in
-    let all : l.i ≡ a.names = omega (arith, length-between a.bytes.now a.at (a.at + a.names) c.requires.2) in
+    let all : l.i ≡ c.args.names = omega arith in
     record {
       front = record { few = c.requires.1; long = padded_length _ _ _ };
       weighed = l.invariant.0 ∙ ap (weighted 2 _) all;
