@@ -1,13 +1,14 @@
 -- The sum of a record's terms: of a changed record it is another one's with one term changed.
-use Rattle.std.proofs.Common.{◌≡◌, ℕ, zero, suc, ◌+◌, ◌-◌, ◌*◌, ◌/◌, ◌%◌, ◌<◌, ◌≤◌, Bool, true, false, ◌&&◌, eqb, List, [], ◌∷◌, length, get_or, take, drop, set, replicate, sym, refl, ap, ◌∙◌, suc-add, arith, length-drop, length-set, length-take-le, get_or-drop, get_or-set_other, get_or-take, get_or-set_same, le-ltb, lt-ltb}
+use Rattle.std.proofs.Common.{◌≡◌, ℕ, zero, suc, ◌+◌, ◌-◌, ◌*◌, ◌/◌, ◌%◌, ◌<◌, ◌≤◌, Bool, true, false, ◌&&◌, eqb, List, [], ◌∷◌, ◌++◌, length, get_or, take, drop, set, replicate, sym, refl, ap, ◌∙◌, suc-add, arith, length-drop, length-set, length-take-le, get_or-drop, get_or-set_other, get_or-take, get_or-set_same, le-ltb, lt-ltb}
 use mathlib.Core.Bool.{and_assoc}
 use native.Mathlib.Decide.{ℕ_discrete, dec_lt}
 use mir.Val.{bool_byte}
-use lib.ListN.{length-replicate, get_or-replicate, get_or-eq_default}
+use Rattle.std.proofs.lemmas.List.{get_or-append_right}
+use lib.ListN.{get_or-append, get_or-eq_default}
 use Rattle.program.specs.File.{byte_at}
 use Rattle.program.specs.Graph.{word_bytes}
-use Rattle.program.proofs.Lists.{length_tabulate, get_or_tabulate}
-use Rattle.analysis.specs.Parts.Membership.{factor, weighted, spread, bucket, changed}
+use Rattle.program.proofs.Lists.{length_tabulate, get_or_same, get_or_tabulate}
+use Rattle.analysis.specs.Parts.Membership.{factor, weighted, spread, bucket, changed, Factored}
 use Rattle.analysis.specs.Parts.RecordParts.{padded_byte, padded}
 use Rattle.analysis.specs.Records.{record_for, same_signs}
 use Rattle.analysis.specs.declared.Change.{Change}
@@ -141,43 +142,34 @@ module _ (bytes : List ℕ) (at names : ℕ) (room : at + (2 + names) ≤ length
 
 -- ---- The factors as they are written
 
--- those of the first i columns are there and `f` is the next, and zeros are past them all
-pub record Putting (index : List ℕ) (f i : ℕ) : Type 0 where
-  pub sized : length index ≡ 12322
+-- over the front of an array: those of the first i columns are there, and `f` is the next
+pub record Putting (front : List ℕ) (f i : ℕ) : Type 0 where
   pub next : f ≡ factor i
   pub small : f < 65536
-  pub each : (j : ℕ) → j < i → get_or index j 0 ≡ factor j
-  pub zeros : (j : ℕ) → 34 ≤ j → get_or index j 0 ≡ 0
+  pub each : (j : ℕ) → j < i → get_or front j 0 ≡ factor j
 
-zeros_at : (n j : ℕ) → get_or {A = ℕ} (replicate n 0) j 0 ≡ 0
-zeros_at n j =
-    elim (dec_lt j n) [
-      | yes h ↦ get_or-replicate n j 0 0 h
-      | no h ↦ get_or-eq_default (replicate n 0) 0 (omega (arith, length-replicate {A = ℕ} n 0))
-    ]
-
-pub putting_none : Putting (replicate 12322 0) 1 0
+pub putting_none : (front : List ℕ) → Putting front 1 0
 unfolding factor
-putting_none =
-    record {
-      sized = length-replicate {A = ℕ} 12322 0;
-      next = refl;
-      small = omega arith;
-      each = λ j l. absurd (omega arith);
-      zeros = λ j l. zeros_at 12322 j;
-    }
+putting_none front = record { next = refl; small = omega arith; each = λ j l. absurd (omega arith) }
 
-pub putting_more : (index : List ℕ) (f i : ℕ) → i < 34 → Putting index f i → Putting (set index i f) (f * 31821 % 65536) (suc i)
+pub putting_more : (front : List ℕ) (f i : ℕ) → i < length front → Putting front f i → Putting (set front i f) (f * 31821 % 65536) (suc i)
 unfolding factor
-putting_more index f i h x =
+putting_more front f i h x =
     record {
-      sized = length-set index i f ∙ x.sized;
       next = rw x.next;
       small = omega arith;
       each =
           λ j l. elim (ℕ_discrete j i) [
-            | yes e ↦ rw e (get_or-set_same index i f 0 (omega (arith, x.sized)) ∙ x.next)
-            | no d ↦ get_or-set_other index i j f 0 d ∙ x.each j (omega arith)
+            | yes e ↦ rw e (get_or-set_same front i f 0 h ∙ x.next)
+            | no d ↦ get_or-set_other front i j f 0 d ∙ x.each j (omega arith)
           ];
-      zeros = λ j l. get_or-set_other index i j f 0 (λ e. absurd (omega arith)) ∙ x.zeros j l;
     }
+
+-- all of them are there; and past them, zeros
+pub put_all : (front rest : List ℕ) (f i : ℕ) → length (front ++ rest) ≡ 12322 → length front ≡ 34 → 34 ≤ i → Putting front f i → Factored (front ++ rest)
+put_all front rest f i sized h l x =
+    record { sized = sized; each = λ j m. get_or-append front rest 0 j (omega arith) ∙ x.each j (omega arith) }
+
+pub zeros_past : (front index : List ℕ) (i : ℕ) → length front ≡ 34 → index ≡ replicate 12322 0 → 34 ≤ i → get_or (front ++ drop 34 index) i 0 ≡ 0
+zeros_past front index i h e l =
+    get_or-append_right front (drop 34 index) 34 i 0 h l ∙ get_or-drop 34 index (i - 34) 0 ∙ rw e (get_or_same 12322 0 (34 + (i - 34)))

@@ -1,11 +1,13 @@
 -- How records lie in their lists.
 use Rattle.std.specs.Prelude.{Ok}
-use Rattle.std.proofs.Common.{◌≡◌, ℕ, zero, suc, ◌+◌, ◌*◌, ◌/◌, ◌<◌, ◌≤◌, Bool, true, false, cond, not, ◌&&◌, ◌||◌, eqb, leb, List, [], ◌∷◌, ◌++◌, length, get_or, take, drop, set, sym, refl, ap, ◌∙◌, append_assoc, le_refl, add-zero, add_assoc, suc-add, mul-le-mul_left, zero-add, mul-suc, arith, length-append, length-drop, length-set, length-take, length-take-le, get_or-take, take-take, drop-drop, take_at, ext_get_or, drop_at, ltb-true, ne_eqb}
+use Rattle.std.proofs.Common.{◌≡◌, ℕ, zero, suc, ◌+◌, ◌-◌, ◌*◌, ◌/◌, ◌<◌, ◌≤◌, Bool, true, false, cond, not, ◌&&◌, ◌||◌, eqb, leb, List, [], ◌∷◌, ◌++◌, length, get_or, take, drop, set, replicate, sym, refl, ap, ◌∙◌, append_assoc, le_refl, add-zero, add_assoc, suc-add, mul-le-mul_left, zero-add, mul-suc, arith, length-append, length-drop, length-set, length-take, length-take-le, get_or-drop, get_or-take, take-take, drop-drop, take_at, ext_get_or, drop_at, ltb-true, ne_eqb}
 use mathlib.Core.Bool.{false≢true}
 use native.Mathlib.Decide.{ℕ_discrete, dec_lt}
 use native.Mathlib.Nat.{mul-div-le}
-use lib.ListN.{get_or-eq_default}
-use lib.Seq.{paste, take-nil, set_out, sets-eq}
+use lib.ListN.{length-replicate, get_or-append, get_or-eq_default}
+use Rattle.std.proofs.lemmas.List.{get_or-append_right}
+use Rattle.program.proofs.Lists.{get_or_same}
+use lib.Seq.{take-nil, set_out}
 use Rattle.program.specs.Asking.{ask, ask_each, is_refused, Validity}
 use Rattle.program.specs.Drawing.{over}
 use Rattle.program.specs.Parts.DrawingParts.{over_at}
@@ -22,12 +24,7 @@ use Rattle.analysis.specs.Parts.Membership.{Front, changed}
 use Rattle.analysis.specs.Parts.RecordParts.{padded, SizesIn, record_formed}
 use Rattle.analysis.specs.Records.{initial_width, record_width, record_count, record_at, node_of, memory_of, record_for, memory_formed, initial_formed, solution_formed}
 use Rattle.analysis.specs.declared.Change.{Change}
-use Rattle.analysis.proofs.Hashes.{part_at, padded_at, padded_past}
-
--- the front of a row is over a buffer
-pub pasted : (buffer : List ℕ) (at : ℕ) (row : List ℕ) (n m : ℕ) → n ≡ m → m ≤ length row → paste buffer at row n ≡ over_at at (take m row) buffer
-unfolding over over_at
-pasted buffer at row n m e h = rw (e, length-take-le m row h, drop-drop, append_assoc)
+use Rattle.analysis.proofs.Hashes.{part_at, padded_at, padded_past, padded_length}
 
 -- a record that is counted is inside its list
 pub record_inside : (n width k : ℕ) → k < n / width → width * k + width ≤ n
@@ -108,6 +105,28 @@ part_padded bytes at names few x =
 part_length : (bytes : List ℕ) (at names : ℕ) → at + names ≤ length bytes → length (take names (drop at bytes)) ≡ names
 part_length bytes at names h = length-take-le names (drop at bytes) (omega (arith, length-drop at bytes))
 
+-- copied over an array of zeros, it is that array
+pub copied : (bytes : List ℕ) (at names : ℕ) → names ≤ 32 → at + names ≤ length bytes → take names (drop at bytes) ++ drop names (replicate 32 0) ≡ padded bytes at names
+copied bytes at names few h = ext_get_or 0 _ _ (omega (arith, sized, padded_length bytes at names)) (λ x l. each x)
+  where
+    rest : List ℕ
+    rest = drop names (replicate 32 0)
+
+    front : length (take names (drop at bytes)) ≡ names
+    front = part_length bytes at names h
+
+    sized : length (take names (drop at bytes) ++ rest) ≡ 32
+    sized = simp (length-append, length-drop) (omega (arith, front, length-replicate {A = ℕ} 32 0))
+
+    each : (x : ℕ) → get_or (take names (drop at bytes) ++ rest) x 0 ≡ get_or (padded bytes at names) x 0
+    each x =
+        elim (dec_lt x names) [
+          | yes l ↦ get_or-append _ rest 0 x (omega (arith, front)) ∙ part_padded bytes at names few x
+          | no l ↦
+              get_or-append_right _ rest names x 0 front (omega arith) ∙ get_or-drop names (replicate 32 0) (x - names) 0 ∙ get_or_same 32 0 (names + (x - names))
+              ∙ sym (padded_past bytes at names x (omega arith))
+        ]
+
 -- so record k of a start list of so many names, and the memory and the node of record k of a solution, are read into an array
 module _ (bytes : List ℕ) (k names : ℕ) where
   pub start_reads : names ≤ 32 → names * k + names ≤ length bytes → (rho : List ℕ) → rho ≡ padded bytes (names * k) names → ReadInto (record_at names bytes k) rho names
@@ -153,11 +172,6 @@ changed_record {ρ} {rho} {names} y f c =
 pub changed_sized : {names : ℕ} {rho : List ℕ} → Front names rho → (c : Change) → length (changed names rho c) ≡ 2 + names
 unfolding changed record_for word_bytes
 changed_sized {names} {rho} f c = omega (arith, length-set (take names rho) c.name c.set, length-take-le names rho (omega (arith, f.few, f.long)))
-
--- two bytes stored are over a buffer
-pub two_over : (at a b : ℕ) (buffer : List ℕ) → at + 2 ≤ length buffer → set (set buffer at a) (suc at) b ≡ over_at at (a ∷ b ∷ []) buffer
-unfolding over over_at
-two_over at a b buffer h = sets-eq (a ∷ b ∷ []) buffer at h ∙ rw (drop-drop 2 at buffer) (append_assoc (take at buffer) (a ∷ b ∷ []) (drop (at + 2) buffer))
 
 -- two rows, one after the other, are one; and another byte of a row
 over_then : (at : ℕ) (xs ys buffer : List ℕ) → at + length xs ≤ length buffer → over_at (at + length xs) ys (over_at at xs buffer) ≡ over_at at (xs ++ ys) buffer

@@ -1,4 +1,3 @@
-pub mod Filling
 pub mod Open
 pub mod Tabulated
 pub mod Laid

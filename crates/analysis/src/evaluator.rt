@@ -13,8 +13,7 @@ use signs::{Sign, sets};
 fn set_of(rho: &[u8], x: u16) -> u8
     ensures { result ≡ slice_index rho.now x }
 {
-    let i = x as usize;
-    if i < rho.len() { rho[i] } else { 0 }
+    rho.get(x as usize).copied().unwrap_or(0)
 }
 
 // Whether an index of these signs can be in an array.

@@ -325,16 +325,10 @@ fn ever_negative(code: &[u16; CODE], graph: &[u16; GRAPH]) -> bool
     ensures { result ≡ false → (e : ℕ) → e < slice_index graph.now Prepared.edge_count_place → parts.NeverNegative code.now graph.now e }
 {
     let widest = [7u8; 32];
-    let count = prepared::edge_count(graph);
-    let mut e: u16 = 0;
-    while e < count {
+    (0..prepared::edge_count(graph)).any(|e| {
         let action = prepared::action(graph, e);
-        if indices::may_be_negative(code, graph, &widest, action) {
-            return true;
-        }
-        e += 1;
-    }
-    false
+        indices::may_be_negative(code, graph, &widest, action)
+    })
 }
 
 // The index mark, by what was found.

@@ -33,29 +33,16 @@ fn byte_formed(size: u16, b: u8) -> bool
     one | ((size != 0) & some)
 }
 
-// A number of names, which is then seen to be at most 32: so that a loop over them needs no test for each, and many go at once.
-fn at_most(names: usize) -> usize
-    requires { names ≤ 32 }
-    ensures { result ≡ names }
-{
-    if names < NAMES_MOST as usize {
-        names
-    } else {
-        NAMES_MOST as usize
-    }
-}
-
 // Whether question 17 of the memory at a place is answered yes: most are, and then the first wrong byte need not be looked for.
 fn all_formed(code: &[u16; CODE], names: usize, bytes: &[u8], at: usize) -> bool
     requires { (names ≤ 32) × (at + names ≤ length bytes.now) }
     ensures { (ns : List ℕ) → parts.SizesIn ns code.now names → result ≡ true → spec.memory_formed ns bytes.now at ≡ Ok tt }
 {
-    let end = at_most(names);
+    // the same number, which is then seen to be at most 32: so that the loop needs no test for each name, and many go at once
+    let count = names.min(NAMES_MOST as usize);
     let mut formed = true;
-    let mut i: usize = 0;
-    while i < end {
-        formed = formed & byte_formed(prepared::size_of(code, i as u16), bytes[at + i]);
-        i += 1;
+    for (i, byte) in bytes[at..at + count].iter().enumerate() {
+        formed &= byte_formed(prepared::size_of(code, i as u16), *byte);
     }
     formed
 }
@@ -144,11 +131,7 @@ pub(crate) fn read_memory(out: &mut [u8; 32], bytes: &[u8], at: usize, names: us
     ensures { out.new ≡ parts.padded bytes.now at names }
 {
     *out = [0u8; 32];
-    let mut i: usize = 0;
-    while i < names {
-        out[i] = bytes[at + i];
-        i += 1;
-    }
+    out[..names].copy_from_slice(&bytes[at..at + names]);
 }
 
 // An abstract memory's bytes over a buffer from a place on.
@@ -156,11 +139,7 @@ fn put_memory(buffer: &mut [u8], at: usize, names: usize, rho: &[u8; 32])
     requires { Front names rho.now × (at + names ≤ length buffer.old) }
     ensures { buffer.new ≡ DrawingParts.over_at at (take names rho.now) buffer.old }
 {
-    let mut i: usize = 0;
-    while i < names {
-        buffer[at + i] = rho[i];
-        i += 1;
-    }
+    buffer[at..at + names].copy_from_slice(&rho[..names]);
 }
 
 // A node's two bytes over a buffer from a place on.
@@ -168,8 +147,7 @@ fn put_node(buffer: &mut [u8], at: usize, node: u16)
     requires { at + 2 ≤ length buffer.old }
     ensures { buffer.new ≡ DrawingParts.over_at at (Graph.word_bytes node) buffer.old }
 {
-    buffer[at] = (node / 256 % 256) as u8;
-    buffer[at + 1] = (node % 256) as u8;
+    buffer[at..at + 2].copy_from_slice(&node.to_be_bytes());
 }
 
 // A changed record over a buffer from a place on.

@@ -27,11 +27,9 @@ pub(crate) fn put_factors(index: &mut [u16; INDEX])
     ensures { (width : ℕ) (bytes : List ℕ) → spec.Indexed width bytes 0 index.new }
 {
     let mut factor: u32 = 1;
-    let mut i: usize = 0;
-    while i < COLUMNS {
-        index[i] = factor as u16;
+    for entry in index[..COLUMNS].iter_mut() {
+        *entry = factor as u16;
         factor = factor * 31821 % 65536;
-        i += 1;
     }
 }
 
@@ -57,10 +55,9 @@ pub(crate) fn weight(index: &[u16; INDEX], bytes: &[u8], at: usize, names: usize
     ensures { spec.Weighed names (parts.padded bytes.now at names) result }
 {
     let mut sum: u32 = 0;
-    let mut i: usize = 0;
-    while i < names {
+    // by number: over the slice of the bytes it was tried, and takes twice the time
+    for i in 0..names {
         sum += term(index, 2 + i, bytes[at + i]);
-        i += 1;
     }
     sum
 }
@@ -70,9 +67,8 @@ fn hash(index: &[u16; INDEX], node: u16, weight: u32) -> usize
     requires { weight ≤ spec.changed_most }
     ensures { result ≡ spec.spread (weight + node / 256 % 256 * slice_index index.now 0 + node % 256 * slice_index index.now 1) }
 {
-    let sum = weight
-        + term(index, 0, (node / 256 % 256) as u8)
-        + term(index, 1, (node % 256) as u8);
+    let [high, low] = node.to_be_bytes();
+    let sum = weight + term(index, 0, high) + term(index, 1, low);
     sum as usize * SPREAD / 524288 % CHAINS
 }
 
@@ -120,10 +116,8 @@ fn agreeing(bytes: &[u8], at: usize, names: usize, rho: &[u8; 32]) -> u8
     ensures { result ≡ spec.agreeing (take names (drop at bytes.now)) rho.now names }
 {
     let mut count: u8 = 0;
-    let mut i: usize = 0;
-    while i < names {
-        count += (bytes[at + i] == rho[i]) as u8;
-        i += 1;
+    for (i, byte) in bytes[at..at + names].iter().enumerate() {
+        count += (*byte == rho[i]) as u8;
     }
     count
 }
@@ -141,19 +135,12 @@ fn memory_changed(bytes: &[u8], at: usize, names: usize, rho: &[u8; 32], x: usiz
     count == names as u8
 }
 
-// The number of two bytes.
-fn word(high: u8, low: u8) -> u16
-    ensures { result ≡ high * 256 + low }
-{
-    high as u16 * 256 + low as u16
-}
-
 // Whether the record at a place is a changed one.
 fn is_changed(bytes: &[u8], at: usize, names: usize, rho: &[u8; 32], change: Change) -> bool
     requires { spec.Front names rho.now × (at + (2 + names) ≤ length bytes.now) }
     ensures { result ≡ Records.same_signs (take (2 + names) (drop at bytes.now)) (spec.changed names rho.now change) }
 {
-    let node = word(bytes[at], bytes[at + 1]);
+    let node = u16::from_be_bytes([bytes[at], bytes[at + 1]]);
     (node == change.node)
         & memory_changed(bytes, at + 2, names, rho, change.name as usize, change.set)
 }
@@ -198,7 +185,7 @@ fn hash_at(index: &[u16; INDEX], bytes: &[u8], at: usize, names: usize) -> usize
     requires { spec.Factored index.now × (names ≤ 32) × (at + (2 + names) ≤ length bytes.now) }
     ensures { result ≡ spec.bucket (take (2 + names) (drop at bytes.now)) }
 {
-    let node = word(bytes[at], bytes[at + 1]);
+    let node = u16::from_be_bytes([bytes[at], bytes[at + 1]]);
     hash(index, node, weight(index, bytes, at + 2, names))
 }
 
@@ -209,10 +196,8 @@ pub(crate) fn put_index(index: &mut [u16; INDEX], bytes: &[u8], names: usize)
 {
     put_factors(index);
     let count = bytes.len() / (2 + names);
-    let mut k: usize = 0;
-    while k < count {
+    for k in 0..count {
         let h = hash_at(index, bytes, (2 + names) * k, names);
         enter(index, k, h);
-        k += 1;
     }
 }

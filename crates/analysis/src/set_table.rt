@@ -8,19 +8,14 @@ ghost use Rattle.analysis.specs.Parts.Tabled as parts;
 use program::prepared::{CODE, TABLE};
 use signs::{Operator, grid};
 
-// The number of its sets.
-const SETS: usize = 320;
-
 // Puts it there.
 pub(crate) fn put(code: &mut [u16; CODE])
     requires { length code.old ≡ code_length }
     ensures { parts.TablePut code.old code.new }
 {
     let table = grid::set_table();
-    let mut k: usize = 0;
-    while k < SETS {
-        code[TABLE + k] = table[k / 8][k % 8] as u16;
-        k += 1;
+    for (k, place) in code[TABLE..].iter_mut().enumerate() {
+        *place = table[k / 8][k % 8] as u16;
     }
 }
 

@@ -51,11 +51,7 @@ fn offer(
         return p;
     }
     if p.count == p.room {
-        return Progress {
-            count: p.count,
-            room: p.room,
-            full: true,
-        };
+        return Progress { full: true, ..p };
     }
     lists::put_changed(buffer, (2 + names) * p.count, names, rho, change);
     membership::enter(index, p.count, h);
@@ -261,6 +257,7 @@ fn descend(
 {
     let mut progress = p;
     let mut k: usize = 0;
+    // no `for` over the records: the list grows on the way, so their count is asked for at each turn
     while k < progress.count && !progress.full {
         progress = offer_from(code, graph, index, buffer, k, progress);
         k += 1;
@@ -284,8 +281,7 @@ fn offer_initial(
 {
     let count = initial.len() / names;
     let mut progress = p;
-    let mut k: usize = 0;
-    while k < count {
+    for k in 0..count {
         let at = names * k;
         let mut rho = [0u8; 32];
         lists::read_memory(&mut rho, initial, at, names);
@@ -296,7 +292,6 @@ fn offer_initial(
             set: 0,
         };
         progress = offer(index, buffer, names, &rho, weight, change, progress);
-        k += 1;
     }
     progress
 }
@@ -307,14 +302,9 @@ fn nothing_in(bytes: usize, names: usize) -> Progress
     ensures { result ≡ record { count = 0; room = min 4096 (bytes / (2 + names)); full = false } }
 {
     let whole = bytes / (2 + names);
-    let room = if whole < lists::MOST {
-        whole
-    } else {
-        lists::MOST
-    };
     Progress {
         count: 0,
-        room,
+        room: whole.min(lists::MOST),
         full: false,
     }
 }

@@ -6,16 +6,15 @@ ghost use Rattle.analysis.specs.Splitter as spec;
 
 use crate::Split;
 use program::{file, validation};
-use std::num;
 
 // Writes a width, its double, the double of that and so on, as many as are at most the place; how many. In 64 bits no sum overflows.
 fn double(width: u32, place: u32, widths: &mut [u32; 32]) -> usize
     requires { 0 < width }
     ensures { doubling.Doublings width place widths.new result }
 {
-    *widths = [0u32; 32];
     let mut doubled = width as u64;
     let mut count: usize = 0;
+    // no `for` over the widths: it would end at two places, where a doubling is past the place and where the widths end
     while doubled <= place as u64 {
         widths[count] = doubled as u32;
         doubled += doubled;
@@ -29,8 +28,7 @@ fn double(width: u32, place: u32, widths: &mut [u32; 32]) -> usize
 fn take_off(rest: u32, width: u32) -> u32
     ensures { result ≡ doubling.taken_off rest width }
 {
-    let less = num::wrapping_sub_u32(rest, width);
-    if less <= rest { less } else { rest }
+    rest.wrapping_sub(width).min(rest)
 }
 
 // The record and the column of a place by the width of a record: doubled widths are taken off, the largest first.
@@ -42,12 +40,10 @@ fn split_by(width: u32, place: u32) -> Split
     let count = double(width, place, &mut widths);
     let mut record: u32 = 0;
     let mut rest = place;
-    let mut left = count;
-    while 0 < left {
-        let doubled = widths[left - 1];
+    for k in (0..count).rev() {
+        let doubled = widths[k];
         record = record + record + (doubled <= rest) as u32;
         rest = take_off(rest, doubled);
-        left -= 1;
     }
     Split {
         validity: Ok(()),

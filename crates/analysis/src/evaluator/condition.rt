@@ -94,11 +94,7 @@ pub(crate) fn own_truths(code: &[u16; CODE], graph: &[u16; GRAPH], rho: &[u8; 32
 {
     let action = prepared::action(graph, e);
     match action {
-        ActionNode::Nothing => certain(),
-        ActionNode::Assign(_, _) => certain(),
-        ActionNode::Store(_, _, _) => certain(),
-        ActionNode::Holds(_) => certain(),
-        ActionNode::Exit(_) => certain(),
         ActionNode::Guard(n) => truths(code, rho, CONDITIONS, n),
+        _ => certain(),
     }
 }

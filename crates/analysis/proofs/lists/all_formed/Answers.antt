@@ -1,29 +1,31 @@
 -- `lists::all_formed`: while it is true, each byte passed is right.
-use Rattle.std.proofs.Common.{◌≡◌, Bool, true, false, ◌&&◌, sym, refl, ◌∙◌, le_antisymm, add-one, rules}
-use mathlib.Core.Bool.{false≢true}
+use Rattle.std.proofs.Common.{◌≡◌, ◌+◌, ◌<◌, sym, refl, ◌∙◌, add-one, arith}
+use Rattle.std.proofs.lemmas.Bool.{and_parts}
+use Rattle.std.proofs.lemmas.List.Edits.{length-between, get_or-between}
 use Rattle.program.specs.Asking.{ask_each}
 use Rattle.program.specs.File.{byte_at}
 use Rattle.program.specs.FirstSuch.{first_of}
 use Rattle.analysis.proofs.Laid.{memory_asked, byte_passed}
 use Rattle.analysis.proofs.lists.all_formed.Goals as goal
 
-both_true : (a b : Bool) → (a && b) ≡ true → (a ≡ true) × (b ≡ true)
-both_true true true p = (refl, refl)
-both_true true false p = absurd (false≢true p)
-both_true false b p = absurd (false≢true p)
-
 pub loop-i-init : goal.loop-i-init
 unfolding ask_each first_of
-loop-i-init c = (search rules, λ p. refl)
+loop-i-init c p = refl
 
 pub loop-i-preserved : goal.loop-i-preserved
 unfolding byte_at
-loop-i-preserved c =
-    let l = c.loop-i in
+loop-i-preserved c p =
     let a = c.args in
-    (search rules, λ p. let two = both_true _ _ p in rw add-one (byte_passed a.code.now a.bytes.now a.at l.i (l.invariant.1 two.0) (sym (c.byte_formed-formed.ensures ∙ rw c.size_of.ensures) ∙ two.1)))
+    let l = c.loop-i in
+    let end = a.at + c.min-count.result in
+    let inside : l.i < c.min-count.result = omega (arith, length-between a.bytes.now a.at end (omega arith)) in
+    let two = and_parts _ _ p in
+    rw add-one
+    (byte_passed a.code.now a.bytes.now a.at l.i (l.invariant two.0)
+    (sym (c.byte_formed-formed.ensures ∙ rw (c.size_of.ensures, get_or-between a.bytes.now a.at end l.i 0 (omega arith))) ∙ two.1))
 
 pub returns : goal.returns
 returns c ns y p =
-    let l = c.loop-i in
-    rw (← memory_asked y _ _, ← c.at_most-end.ensures, ← le_antisymm l.invariant.0 c.loop-i-test.false) (l.invariant.1 p)
+    let a = c.args in
+    let all : c.loop-i.i ≡ a.names = omega (arith, length-between a.bytes.now a.at (a.at + c.min-count.result) (omega arith)) in
+    rw (← memory_asked y _ _, ← all) (c.loop-i.invariant p)

@@ -4,4 +4,4 @@ use Rattle.analysis.proofs.membership.hash.Goals as goal
 
 pub returns : goal.returns
 unfolding spread
-returns c = rw (c.term.ensures.value, c.term-2.ensures.value)
+returns c = rw (c.term.ensures.value, c.term-2.ensures.value, c.to_be_bytes.ensures)

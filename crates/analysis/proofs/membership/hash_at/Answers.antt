@@ -10,4 +10,4 @@ returns c =
     let w = c.weight.ensures in
     c.hash.ensures
     ∙ rw (f.each 0 (omega arith), f.each 1 (omega arith))
-    (hash_read a.bytes.now a.at a.names c.requires.2 (λ i h. omega (arith, c.shared_slice_known-1.given i)) _ _ c.requires.1 w.weighed c.word-node.ensures)
+    (hash_read a.bytes.now a.at a.names c.requires.2 (λ i h. omega (arith, c.shared_slice_known-1.given i)) _ _ c.requires.1 w.weighed c.from_be_bytes-node.ensures)

@@ -1,5 +1,5 @@
 -- `membership::put_index`: the records passed are in their chains.
-use Rattle.std.proofs.Common.{◌+◌, ◌*◌, ◌/◌, ◌≤◌, length, le_antisymm, mul-suc, add-one, arith, rules}
+use Rattle.std.proofs.Common.{◌+◌, ◌*◌, ◌/◌, ◌≡◌, ◌≤◌, length, mul-suc, add-one, arith}
 use native.Mathlib.Nat.{mul-div-le}
 use Rattle.analysis.specs.Records.{record_at, record_count}
 use Rattle.analysis.proofs.Chains.{record_inside, bucket_small}
@@ -18,10 +18,10 @@ unfolding record_count
 counted c = c.requires.2
 
 pub loop-k-init : goal.loop-k-init
-loop-k-init c = (search rules, c.put_factors.ensures _ _)
+loop-k-init c = c.put_factors.ensures _ _
 
 pub hash_at-h-requires : goal.hash_at-h-requires
-hash_at-h-requires c = (c.loop-k.invariant.1.factored, c.requires.1, there (goal.at.hash_at-h-requires c).In-loop-k)
+hash_at-h-requires c = (c.loop-k.invariant.factored, c.requires.1, there (goal.at.hash_at-h-requires c).In-loop-k)
 
 pub enter-requires : goal.enter-requires
 enter-requires c =
@@ -31,15 +31,14 @@ pub loop-k-preserved : goal.loop-k-preserved
 unfolding record_at
 loop-k-preserved c =
     let a = c.args in
-    let room = there (goal.at.loop-k-preserved c).In-loop-k in (
-      search rules,
-      rw add-one
-          (c.enter.ensures (2 + a.names) a.bytes.now c.loop-k.invariant.1 (omega (arith, mul-suc (2 + a.names) c.loop-k.k, room)) c.hash_at-h.ensures),
-    )
+    let room = there (goal.at.loop-k-preserved c).In-loop-k in
+    rw add-one (c.enter.ensures (2 + a.names) a.bytes.now c.loop-k.invariant (omega (arith, mul-suc (2 + a.names) c.loop-k.k, room)) c.hash_at-h.ensures)
 
 pub returns : goal.returns
 unfolding record_count
-returns c = rw (← le_antisymm c.loop-k.invariant.0 c.loop-k-test.false) c.loop-k.invariant.1
+returns c =
+    let all : c.loop-k.k ≡ length c.args.bytes.now / (2 + c.args.names) = omega arith in
+    rw (← all) c.loop-k.invariant
 
 pub overflow_mul-names : goal.overflow_mul-names
 overflow_mul-names c =

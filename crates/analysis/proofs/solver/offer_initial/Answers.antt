@@ -1,5 +1,5 @@
 -- `solver::offer_initial`: the records passed were offered.
-use Rattle.std.proofs.Common.{◌≡◌, ◌+◌, ◌*◌, ◌/◌, ◌<◌, ◌≤◌, length, refl, ap, ◌∙◌, div-le_self, add-one, arith, rules}
+use Rattle.std.proofs.Common.{◌≡◌, ◌+◌, ◌*◌, ◌/◌, ◌≤◌, length, refl, ap, ◌∙◌, add-one, arith}
 use lib.Seq.{set_out}
 use Rattle.signs.specs.Lists.{tabulate}
 use Rattle.analysis.specs.Parts.Judging.{ReadInto}
@@ -12,51 +12,45 @@ use Rattle.analysis.proofs.solver.offer_initial.Goals.{After-read_memory, In-loo
 
 pub loop-k-init : goal.loop-k-init
 unfolding tabulate
-loop-k-init c = (search rules, extended_none _ _ _ _ c.requires.0, λ ns room e q. refl)
+loop-k-init c = (extended_none _ _ _ _ c.requires.0, λ ns room e q. refl)
 
 -- the record passed is inside the list
 inside : (c : In-loop-k) → let a = c.args in a.names * c.loop-k.k + a.names ≤ length a.initial.now
 inside c = record_inside _ _ c.loop-k.k c.loop-k-test.true
 
-few : (c : In-loop-k) → c.loop-k.k + 1 < 18446744073709551616
-few c =
-    let a = c.args in
-    omega (arith, div-le_self (length a.initial.now) a.names)
-
 -- the record as it was read
 read : (c : After-read_memory)
     → let a = c.args in a.names * c.loop-k.k + a.names ≤ length a.initial.now → ReadInto (record_at a.names a.initial.now c.loop-k.k) c.read_memory.new.out a.names
 read c room =
-    start_reads _ c.loop-k.k _ (omega (arith, c.loop-k.invariant.1.growing.wide)) room _ c.read_memory.ensures
+    start_reads _ c.loop-k.k _ (omega (arith, c.loop-k.invariant.0.growing.wide)) room _ c.read_memory.ensures
 
 pub weight-weight-requires : goal.weight-weight-requires
 weight-weight-requires c =
-    let g = c.loop-k.invariant.1.growing in
+    let g = c.loop-k.invariant.0.growing in
     (g.indexed.factored, omega (arith, g.wide), inside (goal.at.weight-weight-requires c).In-loop-k)
 
 pub offer-progress-requires : goal.offer-progress-requires
 offer-progress-requires c =
-    (c.loop-k.invariant.1.growing, rw c.read_memory.ensures c.weight-weight.ensures)
+    (c.loop-k.invariant.0.growing, rw c.read_memory.ensures c.weight-weight.ensures)
 
 pub loop-k-preserved : goal.loop-k-preserved
 loop-k-preserved c =
     let l = c.loop-k in
     let p = goal.at.loop-k-preserved c in
     let passed = read p.After-read_memory (inside p.In-loop-k) in (
-      omega (arith, c.loop-k-test.true),
-      extended_more _ l.invariant.1 c.offer-progress.ensures.extended,
+      extended_more _ l.invariant.0 c.offer-progress.ensures.extended,
       λ ns room e q. rw add-one
           (tabulated_more _ _ _ l.k
-          (c.offer-progress.ensures.offers ns _ room e passed (l.invariant.1.room ∙ q) (omega arith) ∙ ap (offer ns room 0 _) (set_out _ 32 0 (omega (arith, passed.sized, l.invariant.1.growing.wide))))
-          (l.invariant.2 ns room e q)),
+          (c.offer-progress.ensures.offers ns _ room e passed (l.invariant.0.room ∙ q) (omega arith) ∙ ap (offer ns room 0 _) (set_out _ 32 0 (omega (arith, passed.sized, l.invariant.0.growing.wide))))
+          (l.invariant.1 ns room e q)),
     )
 
 pub returns : goal.returns
 returns c =
     let l = c.loop-k in
     let a = c.args in
-    let all : l.k ≡ length a.initial.now / a.names = omega (arith, l.invariant.0) in
-    record { extended = l.invariant.1; offers = λ ns room e q. starts_all ns e _ _ _ (rw all at (l.invariant.2 ns room e q)) }
+    let all : l.k ≡ length a.initial.now / a.names = omega arith in
+    record { extended = l.invariant.0; offers = λ ns room e q. starts_all ns e _ _ _ (rw all at (l.invariant.1 ns room e q)) }
 
 pub overflow_mul-at : goal.overflow_mul-at
 overflow_mul-at c =
@@ -64,8 +58,4 @@ overflow_mul-at c =
 
 pub read_memory-requires : goal.read_memory-requires
 read_memory-requires c =
-    (omega (arith, c.loop-k.invariant.1.growing.wide), inside (goal.at.read_memory-requires c).In-loop-k)
-
-pub overflow_add-k : goal.overflow_add-k
-overflow_add-k c =
-    omega (arith, few (goal.at.overflow_add-k c).In-loop-k)
+    (omega (arith, c.loop-k.invariant.0.growing.wide), inside (goal.at.read_memory-requires c).In-loop-k)

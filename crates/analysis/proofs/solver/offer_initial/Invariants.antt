@@ -1,5 +1,5 @@
 -- `solver::offer_initial`: the records passed were offered.
-use Rattle.std.proofs.Common.{◌≡◌, ℕ, ◌+◌, ◌-◌, ◌≤◌, List, length}
+use Rattle.std.proofs.Common.{◌≡◌, ℕ, ◌+◌, List, length}
 use mathlib.Core.List.{foldl}
 use Rattle.signs.specs.Lists.{tabulate}
 use Rattle.analysis.specs.Records.{record_at}
@@ -9,10 +9,6 @@ use Rattle.analysis.proofs.solver.offer_initial.Given as goal
 
 abbrev pub invariant-loop-k : goal.invariant-loop-k
 invariant-loop-k l =
-    (l.k ≤ l.count)
-    × Extended (2 + l.names) l.initial.buffer l.initial.progress l.buffer l.index l.progress
+    Extended (2 + l.names) l.initial.buffer l.initial.progress l.buffer l.index l.progress
     × ((ns : List ℕ) (room : ℕ) → length ns ≡ l.names → l.initial.progress.room ≡ room
     → found_in (2 + l.names) l.buffer l.progress ≡ foldl (offer ns room 0) (found_in (2 + l.names) l.initial.buffer l.initial.progress) (tabulate l.k (record_at l.names l.initial')))
-
-abbrev pub decreases-loop-k : goal.decreases-loop-k
-decreases-loop-k l = l.count - l.k
