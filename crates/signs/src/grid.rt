@@ -63,27 +63,19 @@ const SET_TABLE: [[u8; 8]; 40] = [
 ];
 
 // An operator's place among the grids, and in the set table.
+#[tactic(auto, unfolding(crate::specs::Grid::grid_number))]
 fn grid_number(operator: Operator) -> usize
     ensures { result ≡ spec.grid_number operator }
 {
-    match operator {
-        Operator::Add => 0,
-        Operator::Sub => 1,
-        Operator::Mul => 2,
-        Operator::Div => 3,
-        Operator::Pow => 4,
-    }
+    operator as usize
 }
 
 // A sign's row and column.
+#[tactic(auto, unfolding(crate::specs::Grid::sign_number))]
 fn sign_number(s: Sign) -> usize
     ensures { result ≡ spec.sign_number s }
 {
-    match s {
-        Sign::Minus => 0,
-        Sign::Zero => 1,
-        Sign::Plus => 2,
-    }
+    s as usize
 }
 
 // The signs that an operator's results can have, by the signs of its sides.

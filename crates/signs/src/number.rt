@@ -19,6 +19,7 @@ fn exact(z: i64) -> Result<i32, Reason>
 }
 
 // The quotient without its fraction: a zero divisor is asked about before the range.
+#[tactic(auto, unfolding(crate::specs::Number::quotient))]
 fn quotient(a: i32, b: i32) -> Result<i32, Reason>
     ensures { result ≡ spec.quotient a b }
 {
@@ -48,6 +49,7 @@ fn enough(n: u32) -> u32
 }
 
 // A power: a negative exponent is asked about before the range.
+#[tactic(auto, unfolding(crate::specs::Number::raised))]
 fn raised(a: i32, b: i32) -> Result<i32, Reason>
     ensures { result ≡ spec.raised a b }
 {
@@ -59,6 +61,7 @@ fn raised(a: i32, b: i32) -> Result<i32, Reason>
 }
 
 // The value of an operator on two numbers.
+#[tactic(auto, unfolding(crate::specs::Number::apply, crate::specs::Number::value_row))]
 pub fn apply(operator: Operator, a: i32, b: i32) -> Result<i32, Reason>
     ensures value { result ≡ spec.apply operator a b }
     ensures numbers { spec.value_numbers result ≡ spec.value_row operator a b }
@@ -75,6 +78,7 @@ pub fn apply(operator: Operator, a: i32, b: i32) -> Result<i32, Reason>
 }
 
 // The truth of a comparison of two numbers.
+#[tactic(auto, unfolding(crate::specs::Number::compares))]
 pub fn compares(comparison: Comparison, a: i32, b: i32) -> bool
     ensures { result ≡ spec.compares comparison a b }
 {

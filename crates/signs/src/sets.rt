@@ -15,6 +15,7 @@ pub fn sign_of(z: i32) -> Sign
 }
 
 // The set of one sign.
+#[tactic(auto, unfolding(crate::specs::Sign::single))]
 pub fn single(s: Sign) -> u8
     ensures { result ≡ spec.single s }
 {

@@ -22,6 +22,7 @@ fn may_exceed(a: u8, b: u8) -> bool
 }
 
 // The truth answers that a comparison of the sets' members can have.
+#[tactic(auto, unfolding(crate::specs::Truth::compare_sets))]
 pub fn compare_sets(comparison: Comparison, a: u8, b: u8) -> Truths
     ensures { result ≡ spec.compare_sets comparison a b }
 {
@@ -45,6 +46,7 @@ pub fn compare_sets(comparison: Comparison, a: u8, b: u8) -> Truths
 }
 
 // ¬ exchanges the answers.
+#[tactic(auto, unfolding(crate::specs::Truth::negated))]
 pub fn negated(t: Truths) -> Truths
     ensures { result ≡ spec.negated t }
 {
@@ -55,6 +57,7 @@ pub fn negated(t: Truths) -> Truths
 }
 
 // ∧ combines all pairs of answers, so it has none where a side has none.
+#[tactic(auto, unfolding(crate::specs::Truth::conjoined))]
 pub fn conjoined(a: Truths, b: Truths) -> Truths
     ensures { result ≡ spec.conjoined a b }
 {
@@ -65,6 +68,7 @@ pub fn conjoined(a: Truths, b: Truths) -> Truths
 }
 
 // && gives false where the left may be false, and the right's answers where the left may be true.
+#[tactic(auto, unfolding(crate::specs::Truth::and_then))]
 pub fn and_then(a: Truths, b: Truths) -> Truths
     ensures { result ≡ spec.and_then a b }
 {

@@ -6,20 +6,13 @@ use lib.Signed.{lt_z}
 use mir.Facts.{sfits_lit}
 use mir.Syntax.{w32}
 use mir.ValLaws.{to_z-of_z}
-use Rattle.signs.proofs.Power.{power_shortened, raised_negative, raised_natural}
-use Rattle.signs.proofs.Signed.{less, natural}
+use Rattle.signs.proofs.Power.{power_shortened, raised_natural}
+use Rattle.signs.proofs.Signed.{less}
 use Rattle.signs.proofs.number.raised.Goals as goal
 use Rattle.signs.proofs.number.raised.Goals.{Else-b-lt0}
 
 not_negative : (c : Else-b-lt0) → lt_z c.args.b (pos 0) ≡ false
 not_negative c = less w32 c.args.b (pos 0) c.ranges.b (sfits_lit tt) c.if-b-lt0.false
-
-pub overflow_cast-b : goal.overflow_cast-b
-overflow_cast-b c = rw (to_z-of_z w32 c.args.b c.ranges.b) (natural c.args.b c.ranges.b (not_negative (goal.at.overflow_cast-b c).Else-b-lt0))
-
-pub returns-then-b-lt0 : goal.returns-then-b-lt0
-returns-then-b-lt0 c =
-    sym (raised_negative c.args.a c.args.b (less w32 c.args.b (pos 0) c.ranges.b (sfits_lit tt) c.if-b-lt0.true))
 
 pub returns-else-b-lt0 : goal.returns-else-b-lt0
 returns-else-b-lt0 c =
