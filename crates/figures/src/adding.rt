@@ -15,12 +15,10 @@ pub(crate) fn of_marks(marks: &[i32]) -> Totals
 {
     let mut sum: i64 = 0;
     let mut squares: i64 = 0;
-    let mut i: usize = 0;
-    while i < marks.len() {
-        let mark = marks[i] as i64;
+    for x in marks {
+        let mark = *x as i64;
         sum += mark;
         squares += mark * mark;
-        i += 1;
     }
     Totals {
         count: marks.len() as u32,

@@ -35,10 +35,8 @@ fn all_in_range(marks: &[i32]) -> bool
     ensures { result ≡ true → spec.InRange marks.now }
 {
     let mut all = true;
-    let mut i: usize = 0;
-    while i < marks.len() {
-        all = all & in_range(marks[i]);
-        i += 1;
+    for mark in marks {
+        all &= in_range(*mark);
     }
     all
 }
