@@ -51,7 +51,3 @@ returns c =
 pub nonzero_div-result : goal.nonzero_div-result
 nonzero_div-result c =
     (nonzero_div-result-2 (goal.at.nonzero_div-result c).After-gcd-g, quotient_fits (goal.at.nonzero_div-result c).After-gcd-g)
-
-pub overflow_cast-result-2 : goal.overflow_cast-result-2
-overflow_cast-result-2 c =
-    fits (pos _) (denominator_small (goal.at.overflow_cast-result-2 c).After-gcd-g)

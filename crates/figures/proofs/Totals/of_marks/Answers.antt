@@ -1,4 +1,4 @@
--- `adding::of_marks`: both totals are those of the marks passed over; each mark is small, so that no sum leaves 64 bits.
+-- `Totals::of_marks`: both totals are those of the marks passed over; each mark is small, so that no sum leaves 64 bits.
 use Prim.Native.Nat.{◌*◌, ◌≤◌, ◌<◌}
 use mathlib.Core.Path.{◌≡◌, refl}
 use mathlib.Core.List.{map}
@@ -14,8 +14,8 @@ use Rattle.signs.proofs.Signed.{wide_is, wide_result, product_fits}
 use Rattle.figures.specs.Totals.{highest, highest_square, sum_of, square, totals}
 use Rattle.figures.proofs.Limits.{fit_count, fit_marks, small_squares}
 use Rattle.figures.proofs.Sums.{next_fits, next_read}
-use Rattle.figures.proofs.adding.of_marks.Goals as goal
-use Rattle.figures.proofs.adding.of_marks.Goals.{After-mark-1}
+use Rattle.figures.proofs.Totals.of_marks.Goals as goal
+use Rattle.figures.proofs.Totals.of_marks.Goals.{After-mark-1}
 
 pub loop-x-init : goal.loop-x-init
 unfolding sum_of
