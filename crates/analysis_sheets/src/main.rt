@@ -233,7 +233,7 @@ fn answer_solver<W: Write>(
 // Mode 4: the places, four bytes each.
 fn answer_splits<W: Write>(out: &mut W, s: &[u8], places: &[u8]) -> io::Result<()> {
     for place in places.chunks_exact(4) {
-        print_split(out, splitting::split(s, cases::long_at(place, 0)))?;
+        answer_split(out, s, cases::long_at(place, 0))?;
     }
     Ok(())
 }

@@ -3,6 +3,9 @@
 // What is read can be anything, so that reading has no contract but to be safe.
 #![tactic(auto)]
 
+ghost use Rattle.std.specs.Prelude.{◌≡◌, ◌/◌, ◌<◌, ◌≤◌, None, Some, IsSome, IfOk};
+ghost use Rattle.program.specs.Graph;
+
 pub use listing::read_full;
 use program::{Construction, drawing};
 use std::io;
@@ -18,11 +21,13 @@ pub fn read_front<'a, R: Read>(input: &mut R, bytes: &'a mut [u8], n: usize) -> 
     }
 }
 
-// Reads a record's head: nothing at the input's end, nor where the head is cut, which is said.
+// Reads a record's head: nothing at the input's end, nor where the head is cut, which is said. Where it is whole, nothing is printed.
 pub fn head<const N: usize, R: Read, W: Write>(
     input: &mut R,
     out: &mut W,
-) -> io::Result<Option<[u8; N]>> {
+) -> io::Result<Option<[u8; N]>>
+    ensures { IfOk result (λ head. IsSome head → W.contents out.new ≡ W.contents out.old) }
+{
     let mut bytes = [0u8; N];
     let n = read_full(input, &mut bytes);
     if n == 0 {
@@ -36,7 +41,10 @@ pub fn head<const N: usize, R: Read, W: Write>(
 }
 
 // The construction that a mode names: 16 more for the nondeterministic graph, 32 more for the deterministic one. Below 16 it names none.
-pub fn named(mode: u8) -> Option<Construction> {
+pub fn named(mode: u8) -> Option<Construction>
+    ensures none { mode < 16 → result ≡ None }
+    ensures one { 16 ≤ mode → result ≡ Some (Graph.named (mode / 16)) }
+{
     match mode / 16 {
         0 => None,
         on => Some(drawing::named(u32::from(on))),
