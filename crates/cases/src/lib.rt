@@ -3,100 +3,96 @@
 // What is read can be anything, so that reading has no contract but to be safe.
 #![tactic(auto)]
 
-ghost use Rattle.std.specs.Prelude.{◌≤◌, length};
+ghost use Rattle.std.specs.Prelude.{◌≡◌, ◌/◌, ◌<◌, ◌≤◌, None, Some, IsSome, IfOk};
+ghost use Rattle.program.specs.Graph;
 
-use program::{decoding, file};
+pub use listing::read_full;
+use program::{Construction, drawing};
 use std::io;
 use std::io::{Read, Write};
 
-// Reads until the array is full or the input ends, and says how many bytes came. A read that fails counts as the input's end.
-pub fn read_full<R: Read>(input: &mut R, bytes: &mut [u8]) -> usize
-    ensures { result ≤ length bytes.new }
-{
-    let mut done = 0;
-    while done < bytes.len() {
-        let Ok(n) = input.read(&mut bytes[done..]) else {
-            break;
-        };
-        if n == 0 {
-            break;
-        }
-        done += n;
+// Reads so many bytes into the front of an array: nothing where the array is shorter, or the input ends before.
+pub fn read_front<'a, R: Read>(input: &mut R, bytes: &'a mut [u8], n: usize) -> Option<&'a [u8]> {
+    let part = bytes.get_mut(..n)?;
+    if read_full(input, part) == n {
+        Some(part)
+    } else {
+        None
     }
-    done
 }
 
-// Reads so many bytes into the front of an array and says how many came: none where the array is shorter.
-pub fn read_front<R: Read>(input: &mut R, bytes: &mut [u8], n: usize) -> usize {
-    if n <= bytes.len() {
-        read_full(input, &mut bytes[..n])
-    } else {
-        0
+// Reads a record's head: nothing at the input's end, nor where the head is cut, which is said. Where it is whole, nothing is printed.
+pub fn head<const N: usize, R: Read, W: Write>(
+    input: &mut R,
+    out: &mut W,
+) -> io::Result<Option<[u8; N]>>
+    ensures { IfOk result (λ head. IsSome head → W.contents out.new ≡ W.contents out.old) }
+{
+    let mut bytes = [0u8; N];
+    let n = read_full(input, &mut bytes);
+    if n == 0 {
+        return Ok(None);
+    }
+    if n < N {
+        writeln!(out, "head cut")?;
+        return Ok(None);
+    }
+    Ok(Some(bytes))
+}
+
+// The construction that a mode names: 16 more for the nondeterministic graph, 32 more for the deterministic one. Below 16 it names none.
+pub fn named(mode: u8) -> Option<Construction>
+    ensures none { mode < 16 → result ≡ None }
+    ensures one { 16 ≤ mode → result ≡ Some (Graph.named (mode / 16)) }
+{
+    match mode / 16 {
+        0 => None,
+        on => Some(drawing::named(u32::from(on))),
     }
 }
 
 // Reads a title of so many bytes and prints it: answers whether all of it is there.
 pub fn title<R: Read, W: Write>(input: &mut R, out: &mut W, n: usize) -> io::Result<bool> {
     let mut bytes = [0u8; 256];
-    let got = read_front(input, &mut bytes, n);
-    if got != n {
-        printing::text(out, b"title cut\n")?;
+    let Some(title) = read_front(input, &mut bytes, n) else {
+        writeln!(out, "title cut")?;
         return Ok(false);
-    }
-    printing::front(out, &bytes, n)?;
-    printing::text(out, b": ")?;
+    };
+    out.write_all(title)?;
+    write!(out, ": ")?;
     Ok(true)
+}
+
+// The first bytes of a list, with 0 for each that is not there.
+fn first<const N: usize>(bytes: &[u8]) -> [u8; N] {
+    let mut array = [0u8; N];
+    for (to, from) in array.iter_mut().zip(bytes) {
+        *to = *from;
+    }
+    array
+}
+
+// The bytes at a place, with 0 for each that is not there.
+fn bytes_at<const N: usize>(bytes: &[u8], i: usize) -> [u8; N] {
+    first(bytes.get(i..).unwrap_or(&[]))
 }
 
 // The number of four bytes at a place.
 pub fn long_at(bytes: &[u8], i: usize) -> u32 {
-    if i < bytes.len() {
-        decoding::joined(file::word_at(bytes, i), file::word_at(bytes, i + 2))
-    } else {
-        0
-    }
-}
-
-// A number of 64 bits as two's complement.
-fn signed(x: u64) -> i64 {
-    if x < 9223372036854775808 {
-        x as i64
-    } else {
-        -1 - (18446744073709551615 - x) as i64
-    }
-}
-
-fn joined(high: u32, low: u32) -> u64 {
-    high as u64 * 4294967296 + low as u64
+    u32::from_be_bytes(bytes_at(bytes, i))
 }
 
 // The number of eight bytes at a place, two's complement.
 pub fn signed_at(bytes: &[u8], i: usize) -> i64 {
-    if i < bytes.len() {
-        signed(joined(long_at(bytes, i), long_at(bytes, i + 4)))
-    } else {
-        0
-    }
+    i64::from_be_bytes(bytes_at(bytes, i))
 }
 
-// Cell `i` of a list of cells, four bytes each, two's complement. No list has more than 8,192.
-fn cell_at(bytes: &[u8], i: usize) -> i32 {
-    if i < 8192 {
-        decoding::signed(long_at(bytes, i * 4))
-    } else {
-        0
-    }
-}
-
-// Sets each cell of a memory to that of a list.
+// Sets each cell of a memory to that of a list of cells, four bytes each, two's complement: to 0 where the list has no more.
 pub fn set_cells(memory: &mut [i32], bytes: &[u8]) {
-    for i in 0..memory.len() {
-        memory[i] = cell_at(bytes, i);
+    memory.fill(0);
+    for (cell, part) in memory.iter_mut().zip(bytes.chunks(4)) {
+        *cell = i32::from_be_bytes(first(part));
     }
-}
-
-fn wide(x: u8) -> u64 {
-    x as u64
 }
 
 // A checksum's next state. The modulus is a prime above all that is mixed in.
@@ -105,9 +101,5 @@ pub fn mix(sum: u64, x: u64) -> u64 {
 }
 
 pub fn mix_bytes(bytes: &[u8]) -> u64 {
-    let mut sum: u64 = 1;
-    for x in bytes {
-        sum = mix(sum, wide(*x));
-    }
-    sum
+    bytes.iter().fold(1, |sum, x| mix(sum, u64::from(*x)))
 }

@@ -13,9 +13,7 @@ fn put_three(a: i64, b: i64, c: i64, reply: &mut [i64])
     requires { 3 ≤ length reply.old }
     ensures { reply.new ≡ spec.over_at 0 (a ∷ b ∷ c ∷ []) reply.old }
 {
-    reply[0] = a;
-    reply[1] = b;
-    reply[2] = c;
+    reply[..3].copy_from_slice(&[a, b, c]);
 }
 
 // How a call went, at the front of its reply; returns what the call returns.
@@ -44,10 +42,8 @@ fn put_numbers(numbers: &[u32], reply: &mut [i64])
     requires { 3 + length numbers.now ≤ length reply.old }
     ensures { reply.new ≡ spec.over_at 3 (map pos numbers.now) reply.old }
 {
-    let mut i: usize = 0;
-    while i < numbers.len() {
-        reply[3 + i] = numbers[i] as i64;
-        i += 1;
+    for (i, n) in numbers.iter().enumerate() {
+        reply[3 + i] = *n as i64;
     }
 }
 

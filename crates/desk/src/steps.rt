@@ -1,7 +1,6 @@
 // A run stepped along an edge, and a budgeted run.
 
 ghost use Rattle.std.specs.Prelude.{◌≡◌};
-ghost use Rattle.signs.specs.Number;
 ghost use Rattle.program.specs.Graph;
 ghost use Rattle.program.specs.declared.Refusal.{Refusal};
 ghost use Rattle.semantics.specs.Budget;
@@ -13,24 +12,9 @@ ghost use Rattle.desk.specs.Rows as row;
 use crate::{Head, reply};
 use program::drawing;
 use semantics::{Ending, Outcome, Run, running};
-use signs::Reason;
 
 // The numbers of each row.
 const RUN: usize = 5;
-
-// Document 01's number of a reason.
-fn reason_number(reason: Reason) -> u32
-    ensures { result ≡ Number.reason_number reason }
-{
-    match reason {
-        Reason::ConditionFalse => 31,
-        Reason::DivisorZero => 32,
-        Reason::ExponentNegative => 33,
-        Reason::IndexNegative => 34,
-        Reason::IndexTooLarge => 35,
-        Reason::OutOfRange => 36,
-    }
-}
 
 // What a step answered: 0 where it is taken, or the reason's number.
 fn of_outcome(outcome: Outcome) -> Head
@@ -39,10 +23,7 @@ fn of_outcome(outcome: Outcome) -> Head
 {
     match outcome {
         Outcome::Taken => Head::Answered(0),
-        Outcome::Undefined(f) => {
-            let reason = f.reason;
-            Head::Answered(reason_number(reason))
-        }
+        Outcome::Undefined(f) => Head::Answered(u32::from(f.reason.number())),
         Outcome::Refused(x) => Head::Refused(x.number, x.offset as u32),
     }
 }

@@ -1,28 +1,17 @@
--- Integers: the two tests of order, magnitudes and bounds, and a natural number in signed 64 bits.
+-- Integers: magnitudes and bounds, and a natural number in signed 64 bits.
 use Prim.Native.Nat.{ℕ, zero, suc, ◌+◌, ◌*◌, ◌≤◌}
-use mathlib.Core.Path.{◌≡◌, refl, ap}
-use mathlib.Core.Bool.{Bool, true, false, not, false≢true}
+use mathlib.Core.Path.{◌≡◌, refl}
+use mathlib.Core.Bool.{true, false≢true}
 use native.Mathlib.Nat.{mul-add}
 use native.Mathlib.Omega.{arith}
-use borrow.Author.Tests.{leb-true, ltb-true, ltb-false, lt-leb, le-leb}
-use lib.Dec.{leb, ltb, leb-zero}
+use borrow.Author.Tests.{leb-true, le-leb}
+use lib.Dec.{leb-zero}
 use lib.IntN.{ℤ, pos, negsuc, neg_ℤ, nat_abs, ◌+ℤ◌}
-use lib.Signed.{le_z, lt_z}
+use lib.Signed.{le_z}
 use mir.Syntax.{w64}
 use mir.Val.{to_z}
 use mir.ValLaws.{to_z-of_z}
 use Rattle.signs.proofs.Signed as Signed
-
--- one number is at most another where the other is not below it
-at_most : (a b : ℕ) (t : Bool) → ltb b a ≡ t → leb a b ≡ not t
-at_most a b true e = lt-leb a b (ltb-true b a e)
-at_most a b false e = le-leb a b (ltb-false b a e)
-
-pub not_below : (a b : ℤ) (t : Bool) → lt_z b a ≡ t → le_z a b ≡ not t
-not_below (pos a) (pos b) t e = at_most a b t e
-not_below (pos a) (negsuc b) t e = ap not e
-not_below (negsuc a) (pos b) t e = ap not e
-not_below (negsuc a) (negsuc b) t e = at_most b a t e
 
 -- between −n and n a number's magnitude is at most n, and the other way round; from 0 to n too
 pub between : (n : ℕ) (z : ℤ) → le_z (neg_ℤ (pos n)) z ≡ true → le_z z (pos n) ≡ true → nat_abs z ≤ n

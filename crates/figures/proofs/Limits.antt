@@ -7,7 +7,7 @@ use mathlib.Core.List.{List, map}
 use native.Mathlib.Nat.{mul-le-mul, le_trans, mul-le-mul_left}
 use native.Mathlib.Omega.{arith}
 use borrow.Author.Tests.{leb-true}
-use lib.IntN.{ℤ, pos, neg_ℤ, nat_abs, ◌+ℤ◌, ◌*ℤ◌}
+use lib.IntN.{ℤ, pos, neg_ℤ, nat_abs, ◌+ℤ◌, ◌-ℤ◌, ◌*ℤ◌}
 use lib.Signed.{le_z}
 use lib.ListN.{length, get_or, length-map, get_or-map}
 use lib.Seq.{take-length}
@@ -21,7 +21,7 @@ use Rattle.figures.specs.Parts.Bounds.{Limited, Bounded}
 use Rattle.figures.specs.Figures.{in_range, InRange, mark_validity, list_validity}
 use Rattle.figures.specs.Totals.{longest, highest, highest_square, square, totals, joined, spread, countable, possible}
 use Rattle.figures.specs.declared.Totals.{Totals}
-use Rattle.figures.proofs.Integers.{between, not_beyond, upward, not_below_zero, within_each}
+use Rattle.figures.proofs.Integers.{between, not_beyond, upward, not_below_zero, within_each, natural}
 use Rattle.figures.proofs.Squares.{list_squares, list_spread, joined_spread}
 use Rattle.figures.proofs.Sums.{AtMost, sum_most}
 
@@ -144,7 +144,7 @@ handed t = record { count = t.count; sum = to_z w64 (of_z w64 t.sum); squares = 
 pub handed_is : (t : Totals) → SFits w64 t.sum → SFits w64 t.squares → handed t ≡ t
 handed_is t f g = rw (to_z-of_z w64 t.sum f, to_z-of_z w64 t.squares g)
 
--- small totals fit
+-- small totals fit 64 bits, and so does what the machine works out of them
 module _ (t : Totals) (b : Bounded t) where
   sum_fits : SFits w64 t.sum
   sum_fits = Signed.fits t.sum (omega (arith, b.limits.low, b.few))
@@ -152,8 +152,19 @@ module _ (t : Totals) (b : Bounded t) where
   squares_fits : SFits w64 t.squares
   squares_fits = Signed.fits t.squares (omega (arith, b.limits.small, b.few))
 
-  pub small_handed : handed t ≡ t
-  small_handed = handed_is t sum_fits squares_fits
+  pub spread_fits : SFits w64 (spread t)
+  spread_fits = Signed.fits (spread t) (omega (arith, spread_small t b))
+
+  pub spread_read : to_z w64 (of_z w64 (to_z w64 t.count *ℤ to_z w64 (of_z w64 t.squares))) -ℤ to_z w64 (of_z w64 (to_z w64 (of_z w64 t.sum) *ℤ to_z w64 (of_z w64 t.sum))) ≡ spread t
+  unfolding spread
+  spread_read =
+      rw (
+        natural t.count (omega (arith, b.few)),
+        to_z-of_z w64 t.squares squares_fits,
+        to_z-of_z w64 t.sum sum_fits,
+        to_z-of_z w64 _ (Signed.fits (pos t.count *ℤ t.squares) (omega (arith, first_small t b))),
+        to_z-of_z w64 _ (Signed.fits (square t.sum) (omega (arith, second_small t b))),
+      )
 
 -- which totals are small: those of a fit list, those that a class can have, and two such joined
 pub fit_bounded : (marks : List ℤ) → list_validity marks ≡ Ok tt → Bounded (totals marks)

@@ -6,27 +6,21 @@ ghost use Rattle.figures.specs.Parts.Bounds.{Bounded};
 ghost use Rattle.figures.specs.Figures as spec;
 ghost use Rattle.figures.specs.Totals as sums;
 
-use crate::{Figures, Totals, adding, reducing};
+use crate::{Figures, Totals, reducing};
 use program::Refusal;
 
 // Whether so many marks are neither none nor too many.
 fn countable(count: u64) -> bool
     ensures { result ≡ sums.countable count }
 {
-    if count < 1 {
-        return false;
-    }
-    count <= 4096
+    1 <= count && count <= 4096
 }
 
 // Whether a mark is in the range.
 fn in_range(mark: i32) -> bool
     ensures { result ≡ spec.in_range mark }
 {
-    if mark < -10000 {
-        return false;
-    }
-    mark <= 10000
+    -10000 <= mark && mark <= 10000
 }
 
 // Whether every mark is in the range. Nothing ends the loop early, so that the machine looks at several marks at once.
@@ -34,10 +28,8 @@ fn all_in_range(marks: &[i32]) -> bool
     ensures { result ≡ true → spec.InRange marks.now }
 {
     let mut all = true;
-    let mut i: usize = 0;
-    while i < marks.len() {
-        all = all & in_range(marks[i]);
-        i += 1;
+    for mark in marks {
+        all &= in_range(*mark);
     }
     all
 }
@@ -81,7 +73,7 @@ fn refused(x: Refusal) -> Figures
 {
     Figures {
         validity: Err(x),
-        totals: adding::none(),
+        totals: Totals::none(),
         mean: reducing::nought(),
         variance: reducing::nought(),
     }
@@ -98,22 +90,17 @@ fn unfit() -> Figures
 }
 
 // The figures of a class with these totals.
-fn of_totals(count: u32, sum: i64, squares: i64) -> Figures
-    requires some { 1 ≤ count }
-    requires bounded { Bounded (sums.class count sum squares) }
-    ensures { result ≡ spec.figures_by (Ok tt) (sums.class count sum squares) }
+fn of_totals(totals: Totals) -> Figures
+    requires some { 1 ≤ totals.count }
+    requires bounded { Bounded totals }
+    ensures { result ≡ spec.figures_by (Ok tt) totals }
 {
-    let number = count as u64;
-    let spread = adding::spread(count, sum, squares);
+    let number = totals.count as u64;
     Figures {
         validity: Ok(()),
-        totals: Totals {
-            count,
-            sum,
-            squares,
-        },
-        mean: reducing::lowest(sum, number),
-        variance: reducing::lowest(spread, number * number),
+        totals,
+        mean: reducing::lowest(totals.sum, number),
+        variance: reducing::lowest(totals.spread(), number * number),
     }
 }
 
@@ -124,54 +111,24 @@ pub fn of_list(marks: &[i32]) -> Figures
 {
     let v = check(marks);
     match v {
-        Ok(()) => {
-            let t = adding::of_marks(marks);
-            of_totals(t.count, t.sum, t.squares)
-        }
+        Ok(()) => of_totals(Totals::of_marks(marks)),
         Err(x) => refused(x),
     }
 }
 
-// The figures of two classes joined, by the numbers of their totals. The joint count is asked about first: then neither class has more than 4,096 marks.
-fn of_both(
-    first_count: u32,
-    first_sum: i64,
-    first_squares: i64,
-    second_count: u32,
-    second_sum: i64,
-    second_squares: i64,
-) -> Figures
-    ensures { result ≡ spec.join_figures (sums.class first_count first_sum first_squares)
-        (sums.class second_count second_sum second_squares) }
-{
-    let count = first_count as u64 + second_count as u64;
-    if !countable(count) {
-        return unfit();
-    }
-    if !adding::possible(first_count, first_sum, first_squares) {
-        return unfit();
-    }
-    if !adding::possible(second_count, second_sum, second_squares) {
-        return unfit();
-    }
-    of_totals(
-        count as u32,
-        first_sum + second_sum,
-        first_squares + second_squares,
-    )
-}
-
-// The figures of two classes joined, by their totals.
+// The figures of two classes joined, by their totals. The joint count is asked about first: then neither class has more than 4,096 marks.
 pub fn of_join(first: Totals, second: Totals) -> Figures
     ensures value { result ≡ spec.join_figures first second }
     ensures numbers { spec.figures_numbers result ≡ spec.join_row first second }
 {
-    of_both(
-        first.count,
-        first.sum,
-        first.squares,
-        second.count,
-        second.sum,
-        second.squares,
-    )
+    let count = first.count as u64 + second.count as u64;
+    if countable(count) && first.possible() && second.possible() {
+        of_totals(Totals {
+            count: count as u32,
+            sum: first.sum + second.sum,
+            squares: first.squares + second.squares,
+        })
+    } else {
+        unfit()
+    }
 }

@@ -1,6 +1,6 @@
 // Fractions in lowest terms, by Euclid's algorithm.
 
-ghost use Rattle.std.specs.Prelude.{◌<◌, ◌≤◌, ◌≡◌, nat_abs};
+ghost use Rattle.std.specs.Prelude.{◌<◌, ◌≤◌, ◌≡◌};
 ghost use Rattle.figures.specs.Fraction as spec;
 
 use crate::Fraction;
@@ -19,20 +19,12 @@ fn gcd(a: u64, b: u64) -> u64
     x
 }
 
-// A number without its sign.
-fn magnitude(z: i64) -> u64
-    requires { nat_abs z ≤ 4611686018427387904 }
-    ensures { result ≡ nat_abs z }
-{
-    if z < 0 { (0 - z) as u64 } else { z as u64 }
-}
-
 // A number over a positive one, in lowest terms.
 pub(crate) fn lowest(z: i64, d: u64) -> Fraction
     requires { spec.Reducible z d }
     ensures { result ≡ spec.lowest z d }
 {
-    let g = gcd(magnitude(z), d);
+    let g = gcd(z.unsigned_abs(), d);
     Fraction {
         numerator: z / g as i64,
         denominator: (d / g) as i64,

@@ -1,12 +1,12 @@
 -- Texts put into a buffer one after the other.
-use mathlib.Core.Path.{◌≡◌, refl, sym, ap, ◌∙◌}
-use mathlib.Core.List.{List, [], ◌∷◌, ◌++◌, append-nil, append_assoc, flat_map}
+use mathlib.Core.Path.{◌≡◌, sym, ap, ◌∙◌}
+use mathlib.Core.List.{List, [], ◌∷◌, ◌++◌, append-nil, flat_map}
 use Prim.Native.Nat.{ℕ, zero, suc, ◌+◌, ◌≤◌, ◌<◌}
 use native.Mathlib.Decide.{ℕ_discrete}
 use native.Mathlib.Nat.{le_refl}
 use native.Mathlib.Omega.{arith}
-use lib.ListN.{length, get_or, take, drop, length-append, take-append-drop}
-use lib.Seq.{paste, take-length, drop-drop, ext_get_or}
+use lib.ListN.{length, get_or, drop, length-append, take-append-drop}
+use lib.Seq.{ext_get_or}
 use Rattle.signs.specs.Lists.{tabulate}
 use Rattle.program.specs.Drawing.{over}
 use Rattle.program.specs.Parts.DrawingParts.{over_at}
@@ -127,12 +127,3 @@ room_as e room = rw e room
 
 pub put_as : {at p : ℕ} {text same s t : List ℕ} → text ≡ same → Put at text s t p → Put at same s t p
 put_as e v = rw e at v
-
--- all of a text, byte by byte
-pub put_all : {at i : ℕ} {text out after : List ℕ} → i ≡ length text → after ≡ paste out at text i → Put at text out after (at + length text)
-unfolding over over_at
-put_all {at} {i} {text} {out} e same =
-    record {
-      place = refl;
-      bytes = same ∙ rw (e, take-length text, drop-drop, append_assoc (take at out) text);
-    }

@@ -103,18 +103,15 @@ pub fn print<W: Write>(out: &mut W, input: &[u8]) -> io::Result<()>
 }
 
 // Reads until the array is full or the input ends, and says how many bytes came. A read that fails counts as the input's end.
-fn read_full<R: Read>(input: &mut R, bytes: &mut [u8]) -> usize
+pub fn read_full<R: Read>(input: &mut R, bytes: &mut [u8]) -> usize
     ensures { result ≤ length bytes.new }
 {
     let mut done = 0;
     while done < bytes.len() {
-        let Ok(n) = input.read(&mut bytes[done..]) else {
-            break;
-        };
-        if n == 0 {
-            break;
+        match input.read(&mut bytes[done..]) {
+            Ok(n) if n > 0 => done += n,
+            _ => break,
         }
-        done += n;
     }
     done
 }

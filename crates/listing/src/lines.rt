@@ -69,10 +69,8 @@ fn put_signs(signs: &[u8], at: usize, out: &mut [u8]) -> usize
     ensures { Put at (flat_map (spec.labelled (spec.ascii " ")) signs.now) out.old out.new result }
 {
     let mut after = at;
-    let mut i: usize = 0;
-    while i < signs.len() {
-        after = put_sign(signs[i], after, out);
-        i += 1;
+    for set in signs {
+        after = put_sign(*set, after, out);
     }
     after
 }
@@ -110,10 +108,8 @@ pub(crate) fn put_records(list: &[u8], names: u16, count: u16, at: usize, out: &
     ensures { Put at (records_text names list.now count) out.old out.new result }
 {
     let mut after = at;
-    let mut k: u16 = 0;
-    while k < count {
+    for k in 0..count {
         after = put_record_of(list, names, k, after, out);
-        k += 1;
     }
     after
 }

@@ -9,12 +9,9 @@ pub(crate) fn put(text: &[u8], at: usize, out: &mut [u8]) -> usize
     requires { Room at text.now out.old }
     ensures { Put at text.now out.old out.new result }
 {
-    let mut i: usize = 0;
-    while i < text.len() {
-        out[at + i] = text[i];
-        i += 1;
-    }
-    at + text.len()
+    let end = at + text.len();
+    out[at..end].copy_from_slice(text);
+    end
 }
 
 pub(crate) fn put_number(n: u64, at: usize, out: &mut [u8]) -> usize

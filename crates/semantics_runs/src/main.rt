@@ -7,7 +7,7 @@
 // deterministic one.
 #![tactic(auto)]
 
-use program::{drawing, file};
+use program::{Construction, file};
 use semantics::{Ended, Ending, Run, Stepped, running};
 use std::io::{BufWriter, Read, Write};
 use std::{fs, io};
@@ -24,84 +24,50 @@ struct Head {
     length: usize,
 }
 
-fn place(x: u16) -> usize {
-    x as usize
-}
-
-fn small_place(x: u8) -> usize {
-    x as usize
-}
-
 fn print_ending<W: Write>(out: &mut W, ending: Ending) -> io::Result<()> {
     match ending {
-        Ending::Arrived => printing::text(out, b"answer 0"),
-        Ending::Spent => printing::text(out, b"answer 1"),
-        Ending::Stuck => printing::text(out, b"answer 2"),
+        Ending::Arrived => write!(out, "answer 0"),
+        Ending::Spent => write!(out, "answer 1"),
+        Ending::Stuck => write!(out, "answer 2"),
         Ending::Refused(x) => printing::refusal(out, x),
     }
 }
 
 fn print_run<W: Write>(out: &mut W, run: Run) -> io::Result<()> {
-    printing::text(out, b"node ")?;
-    printing::word(out, run.node)?;
-    printing::text(out, b" count ")?;
-    printing::word(out, run.count)
-}
-
-fn print_cell<W: Write>(out: &mut W, x: i32) -> io::Result<()> {
-    printing::text(out, b" ")?;
-    printing::integer(out, x)
-}
-
-fn print_cells<W: Write>(out: &mut W, memory: &[i32]) -> io::Result<()> {
-    for x in memory {
-        print_cell(out, *x)?;
-    }
-    Ok(())
+    write!(out, "node {} count {}", run.node, run.count)
 }
 
 // A cell goes into a checksum by its sign and its magnitude.
 fn mix_cell(sum: u64, z: i32) -> u64 {
-    let sign: u64 = if z < 0 { 1 } else { 0 };
-    cases::mix(cases::mix(sum, sign), printing::magnitude(z))
-}
-
-fn mix_cells(memory: &[i32]) -> u64 {
-    let mut sum: u64 = 1;
-    for x in memory {
-        sum = mix_cell(sum, *x);
-    }
-    sum
+    let sign = u64::from(z < 0);
+    let magnitude = u64::from(z.unsigned_abs());
+    cases::mix(cases::mix(sum, sign), magnitude)
 }
 
 // The cells, where they are few, and a checksum of all.
 fn print_memory<W: Write>(out: &mut W, memory: &[i32]) -> io::Result<()> {
-    printing::text(out, b" memory")?;
+    write!(out, " memory")?;
     if memory.len() <= 16 {
-        print_cells(out, memory)?;
+        for z in memory {
+            write!(out, " {z}")?;
+        }
     }
-    printing::text(out, b" sum ")?;
-    printing::number(out, mix_cells(memory))?;
-    printing::text(out, b"\n")
+    let sum = memory.iter().fold(1, |sum, z| mix_cell(sum, *z));
+    writeln!(out, " sum {sum}")
 }
 
-fn number(x: u8) -> u32 {
-    x as u32
-}
-
-// A run on the graph by the construction that a number names; 0 names none.
-fn run_by(on: u8, s: &[u8], budget: u16, memory: &mut [i32]) -> Ended {
-    if on == 0 {
-        running::run(s, budget, memory)
-    } else {
-        running::run_on(drawing::named(number(on)), s, budget, memory)
+// A run on the graph by a construction, or where the caller names none.
+fn run_by(on: Option<Construction>, s: &[u8], budget: u16, memory: &mut [i32]) -> Ended {
+    match on {
+        None => running::run(s, budget, memory),
+        Some(on) => running::run_on(on, s, budget, memory),
     }
 }
 
 // Mode 1: a budgeted run.
 fn answer_run<W: Write>(
     out: &mut W,
-    on: u8,
+    on: Option<Construction>,
     s: &[u8],
     budget: u16,
     memory: &mut [i32],
@@ -109,17 +75,16 @@ fn answer_run<W: Write>(
     let ended = run_by(on, s, budget, memory);
     let ending = ended.ending;
     print_ending(out, ending)?;
-    printing::text(out, b"; ")?;
+    write!(out, "; ")?;
     print_run(out, ended.run)?;
     print_memory(out, memory)
 }
 
 // A step on such a graph.
-fn step_by(run: Run, on: u8, s: &[u8], edge: u16, memory: &mut [i32]) -> Stepped {
-    if on == 0 {
-        run.step(s, edge, memory)
-    } else {
-        run.step_on(drawing::named(number(on)), s, edge, memory)
+fn step_by(run: Run, on: Option<Construction>, s: &[u8], edge: u16, memory: &mut [i32]) -> Stepped {
+    match on {
+        None => run.step(s, edge, memory),
+        Some(on) => run.step_on(on, s, edge, memory),
     }
 }
 
@@ -127,7 +92,7 @@ fn step_by(run: Run, on: u8, s: &[u8], edge: u16, memory: &mut [i32]) -> Stepped
 fn step_told<W: Write>(
     out: &mut W,
     run: Run,
-    on: u8,
+    on: Option<Construction>,
     s: &[u8],
     edge: u16,
     memory: &mut [i32],
@@ -135,21 +100,21 @@ fn step_told<W: Write>(
     let stepped = step_by(run, on, s, edge, memory);
     let outcome = stepped.outcome;
     printing::outcome(out, outcome)?;
-    printing::text(out, b"; ")?;
+    write!(out, "; ")?;
     Ok(stepped.run)
 }
 
 fn step_all<W: Write>(
     out: &mut W,
     from: Run,
-    on: u8,
+    on: Option<Construction>,
     s: &[u8],
     calls: &[u8],
     memory: &mut [i32],
 ) -> io::Result<Run> {
     let mut run = from;
-    for i in 0..calls.len() / 2 {
-        run = step_told(out, run, on, s, file::word_at(calls, i * 2), memory)?;
+    for call in calls.chunks_exact(2) {
+        run = step_told(out, run, on, s, file::word_at(call, 0), memory)?;
     }
     Ok(run)
 }
@@ -166,7 +131,7 @@ fn start(node: u16, count: u16) -> Run {
 fn answer_calls<W: Write>(
     out: &mut W,
     run: Run,
-    on: u8,
+    on: Option<Construction>,
     s: &[u8],
     calls: &[u8],
     memory: &mut [i32],
@@ -183,124 +148,59 @@ fn answer<W: Write>(
     calls: &[u8],
     memory: &mut [i32],
 ) -> io::Result<()> {
-    let on = h.mode / 16;
-    let asked = h.mode % 16;
-    match asked {
+    let on = cases::named(h.mode);
+    match h.mode % 16 {
         1 => answer_run(out, on, s, h.first, memory),
         2 => answer_calls(out, start(h.first, h.second), on, s, calls, memory),
-        _ => printing::text(out, b"unknown mode\n"),
+        _ => writeln!(out, "unknown mode"),
     }
 }
 
-fn answer_front<W: Write>(
-    out: &mut W,
-    h: Head,
-    bytes: &[u8],
-    calls: &[u8],
-    memory: &mut [i32],
-) -> io::Result<()> {
-    let n = h.length;
-    if n <= bytes.len() {
-        answer(out, h, &bytes[..n], calls, memory)?;
-    }
-    Ok(())
-}
-
-// Answers a record whose file comes next, and says whether all of that is there.
-fn answer_file<R: Read, W: Write>(
-    input: &mut R,
-    out: &mut W,
-    h: Head,
-    calls: &[u8],
-    memory: &mut [i32],
-) -> io::Result<bool> {
-    let mut bytes = [0u8; 8192];
-    let got = cases::read_front(input, &mut bytes, h.length);
-    if got != h.length {
-        printing::text(out, b"file cut\n")?;
-        return Ok(false);
-    }
-    answer_front(out, h, &bytes, calls, memory)?;
-    Ok(true)
-}
-
-fn answer_with<R: Read, W: Write>(
-    input: &mut R,
-    out: &mut W,
-    h: Head,
-    bytes: &[u8],
-    memory: &mut [i32],
-) -> io::Result<bool> {
-    let n = h.calls;
-    if n <= bytes.len() {
-        answer_file(input, out, h, &bytes[..n], memory)
-    } else {
-        Ok(false)
-    }
-}
-
-// Answers a record whose step calls and file come next.
+// Answers a record whose step calls and file come next, and says whether all of them are there.
 fn answer_listed<R: Read, W: Write>(
     input: &mut R,
     out: &mut W,
     h: Head,
     memory: &mut [i32],
 ) -> io::Result<bool> {
-    let mut bytes = [0u8; 1024];
-    let got = cases::read_front(input, &mut bytes, h.calls);
-    if got != h.calls {
-        printing::text(out, b"calls cut\n")?;
+    let mut call_bytes = [0u8; 1024];
+    let Some(calls) = cases::read_front(input, &mut call_bytes, h.calls) else {
+        writeln!(out, "calls cut")?;
         return Ok(false);
-    }
-    answer_with(input, out, h, &bytes, memory)
-}
-
-// Answers a record whose cells, step calls and file come next.
-fn answer_lent<R: Read, W: Write>(
-    input: &mut R,
-    out: &mut W,
-    h: Head,
-    memory: &mut [i32],
-) -> io::Result<bool> {
-    let mut bytes = [0u8; 4096];
-    let got = cases::read_front(input, &mut bytes, h.cells);
-    if got != h.cells {
-        printing::text(out, b"cells cut\n")?;
+    };
+    let mut bytes = [0u8; 8192];
+    let Some(s) = cases::read_front(input, &mut bytes, h.length) else {
+        writeln!(out, "file cut")?;
         return Ok(false);
-    }
-    cases::set_cells(memory, &bytes);
-    answer_listed(input, out, h, memory)
-}
-
-fn answer_part<R: Read, W: Write>(
-    input: &mut R,
-    out: &mut W,
-    h: Head,
-    memory: &mut [i32],
-) -> io::Result<bool> {
-    let n = h.cells / 4;
-    if n <= memory.len() {
-        answer_lent(input, out, h, &mut memory[..n])
-    } else {
-        Ok(false)
-    }
+    };
+    answer(out, h, s, calls, memory)?;
+    Ok(true)
 }
 
 // Answers a record whose title has been read.
 fn answer_record<R: Read, W: Write>(input: &mut R, out: &mut W, h: Head) -> io::Result<bool> {
-    let mut memory = [0i32; 1024];
-    answer_part(input, out, h, &mut memory)
+    let mut cells = [0i32; 1024];
+    let Some(memory) = cells.get_mut(..h.cells / 4) else {
+        return Ok(false);
+    };
+    let mut bytes = [0u8; 4096];
+    let Some(list) = cases::read_front(input, &mut bytes, h.cells) else {
+        writeln!(out, "cells cut")?;
+        return Ok(false);
+    };
+    cases::set_cells(memory, list);
+    answer_listed(input, out, h, memory)
 }
 
 fn head_of(bytes: &[u8]) -> Head {
     Head {
         mode: file::byte_at(bytes, 0),
-        title: small_place(file::byte_at(bytes, 1)),
+        title: usize::from(file::byte_at(bytes, 1)),
         first: file::word_at(bytes, 2),
         second: file::word_at(bytes, 4),
-        cells: place(file::word_at(bytes, 6)),
-        calls: place(file::word_at(bytes, 8)),
-        length: place(file::word_at(bytes, 10)),
+        cells: usize::from(file::word_at(bytes, 6)),
+        calls: usize::from(file::word_at(bytes, 8)),
+        length: usize::from(file::word_at(bytes, 10)),
     }
 }
 
@@ -312,24 +212,13 @@ fn answer_headed<R: Read, W: Write>(input: &mut R, out: &mut W, h: Head) -> io::
     }
 }
 
-// Reads a record and answers it, and says whether to go on.
-fn answer_next<R: Read, W: Write>(input: &mut R, out: &mut W) -> io::Result<bool> {
-    let mut bytes = [0u8; 12];
-    let n = cases::read_full(input, &mut bytes);
-    if n == 0 {
-        return Ok(false);
-    }
-    if n < 12 {
-        printing::text(out, b"head cut\n")?;
-        return Ok(false);
-    }
-    answer_headed(input, out, head_of(&bytes))
-}
-
 // Nothing says that a file ends: the loop counts its turns, up to a number that no run reaches.
 fn answer_all<R: Read, W: Write>(input: &mut R, out: &mut W) -> io::Result<()> {
     for _ in 0..u64::MAX {
-        if !answer_next(input, out)? {
+        let Some(head) = cases::head::<12, R, W>(input, out)? else {
+            break;
+        };
+        if !answer_headed(input, out, head_of(&head))? {
             break;
         }
     }

@@ -8,8 +8,7 @@ use std::{fs, io, str};
 fn print_named<R: Files + Eprint, W: Write>(rt: &R, out: &mut W, path: &str) -> io::Result<()> {
     match fs::open(rt, path) {
         Ok(mut file) => {
-            printing::text(out, path.as_bytes())?;
-            printing::text(out, b":\n")?;
+            writeln!(out, "{path}:")?;
             listing::print_read(&mut file, out)
         }
         Err(error) => eprintln!(rt; "{path}: {error}"),

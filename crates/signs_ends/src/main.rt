@@ -5,59 +5,47 @@ use signs::{Operator, Reason, number};
 use std::io;
 use std::io::{BufWriter, Write};
 
-const LEAST: i32 = -2147483648;
+const OPERATORS: [Operator; 5] = [
+    Operator::Add,
+    Operator::Sub,
+    Operator::Mul,
+    Operator::Div,
+    Operator::Pow,
+];
 
-const GREATEST: i32 = 2147483647;
+const ENDS: [i32; 5] = [i32::MIN, -1, 0, 1, i32::MAX];
 
 fn print_value<W: Write>(out: &mut W, v: Result<i32, Reason>) -> io::Result<()> {
     match v {
-        Ok(z) => printing::integer(out, z),
+        Ok(z) => write!(out, "{z}"),
         Err(reason) => printing::undefined(out, reason),
     }
 }
 
-fn print_operator<W: Write>(out: &mut W, operator: Operator) -> io::Result<()> {
+fn symbol(operator: Operator) -> char {
     match operator {
-        Operator::Add => printing::text(out, b"+ "),
-        Operator::Sub => printing::text(out, b"- "),
-        Operator::Mul => printing::text(out, b"* "),
-        Operator::Div => printing::text(out, b"/ "),
-        Operator::Pow => printing::text(out, b"^ "),
+        Operator::Add => '+',
+        Operator::Sub => '-',
+        Operator::Mul => '*',
+        Operator::Div => '/',
+        Operator::Pow => '^',
     }
 }
 
 fn print_case<W: Write>(out: &mut W, operator: Operator, a: i32, b: i32) -> io::Result<()> {
-    print_operator(out, operator)?;
-    printing::integer(out, a)?;
-    printing::text(out, b" ")?;
-    printing::integer(out, b)?;
-    printing::text(out, b" ")?;
+    write!(out, "{} {a} {b} ", symbol(operator))?;
     print_value(out, number::apply(operator, a, b))?;
-    printing::text(out, b"\n")
-}
-
-fn print_row<W: Write>(out: &mut W, operator: Operator, a: i32) -> io::Result<()> {
-    print_case(out, operator, a, LEAST)?;
-    print_case(out, operator, a, -1)?;
-    print_case(out, operator, a, 0)?;
-    print_case(out, operator, a, 1)?;
-    print_case(out, operator, a, GREATEST)
-}
-
-fn print_operator_cases<W: Write>(out: &mut W, operator: Operator) -> io::Result<()> {
-    print_row(out, operator, LEAST)?;
-    print_row(out, operator, -1)?;
-    print_row(out, operator, 0)?;
-    print_row(out, operator, 1)?;
-    print_row(out, operator, GREATEST)
+    writeln!(out)
 }
 
 fn main(rt: HostRuntime) -> io::Result<()> {
     let mut out = BufWriter::new(rt.alloc(), io::writer(&rt))?;
-    print_operator_cases(&mut out, Operator::Add)?;
-    print_operator_cases(&mut out, Operator::Sub)?;
-    print_operator_cases(&mut out, Operator::Mul)?;
-    print_operator_cases(&mut out, Operator::Div)?;
-    print_operator_cases(&mut out, Operator::Pow)?;
+    for operator in OPERATORS {
+        for a in ENDS {
+            for b in ENDS {
+                print_case(&mut out, operator, a, b)?;
+            }
+        }
+    }
     out.flush()
 }

@@ -11,7 +11,7 @@ returns-in-Taken c = rw c.in-Taken.is
 
 pub returns-in-Undefined : goal.returns-in-Undefined
 unfolding outcome_head
-returns-in-Undefined c = rw (c.in-Undefined.is, c.reason_number.ensures)
+returns-in-Undefined c = rw (c.in-Undefined.is, c.number.ensures)
 
 pub returns-in-Refused : goal.returns-in-Refused
 unfolding outcome_head

@@ -1,12 +1,12 @@
--- `class::countable`: the two tests are the definition's.
-use borrow.Author.Tests.{lt-leb, le-leb}
+-- `class::countable`: the two tests are those of the definition.
+use Rattle.std.proofs.Common.{arith}
 use Rattle.figures.specs.Totals.{countable}
 use Rattle.figures.proofs.class.countable.Goals as goal
 
-pub returns-then-count-lt1 : goal.returns-then-count-lt1
+pub returns-then-count-ge1 : goal.returns-then-count-ge1
 unfolding countable
-returns-then-count-lt1 c = rw (lt-leb 1 c.args.count c.if-count-lt1.true)
+returns-then-count-ge1 c = grind arith
 
-pub returns : goal.returns
+pub returns-else-count-ge1 : goal.returns-else-count-ge1
 unfolding countable
-returns c = rw (le-leb 1 c.args.count c.if-count-lt1.false)
+returns-else-count-ge1 c = grind arith

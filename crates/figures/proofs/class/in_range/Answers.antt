@@ -1,22 +1,13 @@
--- `class::in_range`: the two tests are the definition's.
-use lib.IntN.{negsuc}
-use mir.Facts.{sfits_lit}
-use mir.Syntax.{w32}
-use mir.ValLaws.{to_z-of_z}
-use Rattle.signs.proofs.Signed.{less}
+-- `class::in_range`: the two tests are those of the definition, and a mark is read back.
+use Rattle.std.proofs.Common.{arith}
+use Rattle.std.proofs.lemmas.Int.{to_z-of_z}
 use Rattle.figures.specs.Figures.{in_range}
-use Rattle.figures.proofs.Integers.{not_below}
 use Rattle.figures.proofs.class.in_range.Goals as goal
 
-pub returns-then-mark-ltminus10000 : goal.returns-then-mark-ltminus10000
+pub returns-then-mark-geminus10000 : goal.returns-then-mark-geminus10000
 unfolding in_range
-returns-then-mark-ltminus10000 c =
-    rw (not_below (negsuc 9999) c.args.mark _ (less w32 c.args.mark (negsuc 9999) c.ranges.mark (sfits_lit tt) c.if-mark-ltminus10000.true))
+returns-then-mark-geminus10000 c = grind (arith, to_z-of_z)
 
-pub returns : goal.returns
+pub returns-else-mark-geminus10000 : goal.returns-else-mark-geminus10000
 unfolding in_range
-returns c =
-    rw (
-      not_below (negsuc 9999) c.args.mark _ (less w32 c.args.mark (negsuc 9999) c.ranges.mark (sfits_lit tt) c.if-mark-ltminus10000.false),
-      to_z-of_z w32 c.args.mark c.ranges.mark,
-    )
+returns-else-mark-geminus10000 c = grind (arith, to_z-of_z)

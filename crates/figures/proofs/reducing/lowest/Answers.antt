@@ -19,7 +19,7 @@ use Rattle.figures.proofs.reducing.lowest.Goals.{After-gcd-g}
 divisor : (c : After-gcd-g) → c.gcd-g.result ≡ gcd (nat_abs c.args.z) c.args.d
 divisor c =
     c.gcd-g.ensures
-    ∙ ap (λ n. gcd n c.args.d) (c.magnitude.ensures ∙ ap nat_abs (to_z-of_z w64 c.args.z c.ranges.z))
+    ∙ ap (λ n. gcd n c.args.d) (c.unsigned_abs.ensures.value ∙ ap nat_abs (to_z-of_z w64 c.args.z c.ranges.z))
 
 pub nonzero_div-result-2 : goal.nonzero_div-result-2
 nonzero_div-result-2 c = rw (divisor (goal.at.nonzero_div-result-2 c).After-gcd-g) (gcd_some _ _ c.requires.some)
@@ -51,7 +51,3 @@ returns c =
 pub nonzero_div-result : goal.nonzero_div-result
 nonzero_div-result c =
     (nonzero_div-result-2 (goal.at.nonzero_div-result c).After-gcd-g, quotient_fits (goal.at.nonzero_div-result c).After-gcd-g)
-
-pub overflow_cast-result-2 : goal.overflow_cast-result-2
-overflow_cast-result-2 c =
-    fits (pos _) (denominator_small (goal.at.overflow_cast-result-2 c).After-gcd-g)

@@ -1,28 +1,19 @@
+-- One more than the logarithm; 0 takes as many as 1.
+use mathlib.Core.Path.{◌≡◌, subst}
+use native.Mathlib.Nat.{pow-zero, pow-suc, pow-le-pow_right}
+use native.Mathlib.Numerals.{add-one}
 use native.Mathlib.Omega.{arith}
-use mathlib.Core.Path.{ap, ◌∙◌}
-use Prim.Native.Nat.{ℕ, ◌/◌}
-use Rattle.listing.proofs.Powers.{two-mul-div-le, div-pow-one, div-pow-div, pow-le_of_div_pos, lt-pow_of_div-zero}
+use Prim.Native.Nat.{◌+◌, ◌-◌, ◌^◌, ◌≤◌}
 use Rattle.listing.proofs.digits.digit_count.Goals as goal
-
-pub loop-rest-init : goal.loop-rest-init
-loop-rest-init c =
-    let n = c.args.n in
-    (omega arith, omega (arith, two-mul-div-le n 10 (omega arith)), div-pow-one n 10, omega arith)
-
-pub loop-rest-smaller : goal.loop-rest-smaller
-loop-rest-smaller c = omega (arith, two-mul-div-le c.loop-rest.rest 10 (omega arith))
-
-pub loop-rest-preserved : goal.loop-rest-preserved
-loop-rest-preserved c =
-    let l = c.loop-rest in
-    let n = c.args.n in (
-      omega arith,
-      omega (arith, two-mul-div-le l.rest 10 (omega arith)),
-      ap (λ (m : ℕ). m / 10) l.invariant.2 ∙ div-pow-div n 10 l.k,
-      λ _. pow-le_of_div_pos n 10 l.k (omega arith) (omega arith),
-    )
 
 pub returns : goal.returns
 returns c =
-    let l = c.loop-rest in
-    (omega arith, lt-pow_of_div-zero c.args.n 10 l.k l.k (omega arith) (omega arith) (omega arith), λ more. l.invariant.3 (omega arith))
+    let r = c.ilog10.result in
+    let one_less : r ≡ r + 1 - 1 = omega arith in (
+      omega arith,
+      rw (add-one, pow-suc) (omega arith),
+      λ more.
+          let some : 1 ≤ r = omega arith in
+          let least : 10 ^ 1 ≤ 10 ^ r = pow-le-pow_right {n = 10} (omega arith) some in
+          subst (λ k. 10 ^ k ≤ c.args.n) one_less (omega (arith, pow-suc 10 0, pow-zero 10)),
+    )
