@@ -95,8 +95,10 @@ fn run_array(
         → Running.EndsAs (spec.run_from budget ns g (Step.begun memory.old)) memory.new result }
 {
     let mut run = Run::fresh();
-    let mut left = budget;
-    while 0 < left && run.node != 1 {
+    for _ in 0..budget {
+        if run.node == 1 {
+            break;
+        }
         let e = take_lowest(code, graph, memory, run.node);
         if NONE <= e {
             return Ended {
@@ -105,7 +107,6 @@ fn run_array(
             };
         }
         run = stepping::moved(run, prepared::edge_target(graph, e));
-        left -= 1;
     }
     stopped(run)
 }
@@ -114,12 +115,8 @@ fn run_array(
 fn copy_back(memory: &mut [i32], cells: &[i32; MEMORY])
     ensures { length memory.old ≤ cells_most → memory.new ≡ Cells.front (length memory.old) cells.now }
 {
-    let end = stepping::least(memory.len(), CELLS_MOST);
-    let mut i: usize = 0;
-    while i < end {
-        memory[i] = cells[i];
-        i += 1;
-    }
+    let end = memory.len().min(CELLS_MOST);
+    memory[..end].copy_from_slice(&cells[..end]);
 }
 
 // The reply of a refused run.

@@ -14,25 +14,15 @@ use program::prepared::{CELLS_MOST, CODE, GRAPH};
 use program::{Construction, Refusal, Validity, drawing, prepared, validation};
 
 // The most numbers behind a memory: one for each arithmetic entry.
-const NUMBERS_MOST: usize = 512;
-
-pub(crate) fn least(a: usize, b: usize) -> usize
-    ensures { result ≡ min a b }
-{
-    if a < b { a } else { b }
-}
+const NUMBERS_MOST: u16 = 512;
 
 // A memory's first 512 cells, into an array of zeros.
 fn put_memory(memory: &[i32], cells: &mut [i32; MEMORY])
     requires { cells.old ≡ replicate Cells.array_cells (pos 0) }
     ensures { Cells.Fronted memory.now cells.new }
 {
-    let end = least(memory.len(), CELLS_MOST);
-    let mut i: usize = 0;
-    while i < end {
-        cells[i] = memory[i];
-        i += 1;
-    }
+    let end = memory.len().min(CELLS_MOST);
+    cells[..end].copy_from_slice(&memory[..end]);
 }
 
 // A program's numbers, from cell 512 on.
@@ -40,11 +30,8 @@ fn put_numbers(code: &[u16; CODE], cells: &mut [i32])
     requires { length cells.old ≡ 1024 }
     ensures { Cells.Numbered code.now cells.old cells.new }
 {
-    let end = least(prepared::arithmetic_count(code) as usize, NUMBERS_MOST);
-    let mut n: usize = 0;
-    while n < end {
-        cells[CELLS_MOST + n] = prepared::number_at(code, n as u16);
-        n += 1;
+    for n in 0..prepared::arithmetic_count(code).min(NUMBERS_MOST) {
+        cells[CELLS_MOST + n as usize] = prepared::number_at(code, n);
     }
 }
 

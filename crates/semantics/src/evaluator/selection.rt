@@ -16,12 +16,8 @@ pub(crate) fn own(code: &[u16; CODE], graph: &[u16; GRAPH], memory: &[i32; MEMOR
 {
     let action = prepared::action(graph, e);
     match action {
-        ActionNode::Nothing => 1,
-        ActionNode::Assign(_, _) => 1,
-        ActionNode::Store(_, _, _) => 1,
-        ActionNode::Holds(_) => 1,
-        ActionNode::Exit(_) => 1,
         ActionNode::Guard(n) => condition::holds(code, memory, n),
+        _ => 1,
     }
 }
 
@@ -58,10 +54,8 @@ pub(crate) fn selected(
 {
     let node = prepared::edge_source(graph, e);
     let mut v: i64 = 1;
-    let mut k: u16 = 0;
-    while k < e {
+    for k in 0..e {
         v = and_fails(code, graph, memory, node, k, v);
-        k += 1;
     }
     let last = own(code, graph, memory, e);
     both(v, last)

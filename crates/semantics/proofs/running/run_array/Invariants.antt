@@ -1,15 +1,12 @@
 -- `running::run_array`: each turn takes the edge that the definition takes.
 use mathlib.Core.List.{List}
-use Prim.Native.Nat.{ℕ}
+use Prim.Native.Nat.{ℕ, ◌-◌}
 use Rattle.program.specs.Graph.{Graph}
 use Rattle.program.specs.Parts.Prepared.{Prepared}
 use Rattle.semantics.specs.Parts.Cells.{NumbersIn}
 use Rattle.semantics.specs.Parts.Running.{Reached}
 use Rattle.semantics.proofs.running.run_array.Given as goal
 
-abbrev pub invariant-loop-left : goal.invariant-loop-left
-invariant-loop-left l =
-    (ns : List ℕ) (g : Graph) → Prepared ns g l.code l.graph → NumbersIn l.code l.initial.memory → Reached ns g l.code l.budget l.left l.initial.memory l.run l.memory
-
-abbrev pub decreases-loop-left : goal.decreases-loop-left
-decreases-loop-left l = l.left
+abbrev pub invariant-loop : goal.invariant-loop
+invariant-loop l =
+    (ns : List ℕ) (g : Graph) → Prepared ns g l.code l.graph → NumbersIn l.code l.initial.memory → Reached ns g l.code l.budget (l.budget - l.counter) l.initial.memory l.run l.memory

@@ -1,30 +1,28 @@
 -- `evaluator::selection::own`: a guard's condition, or true.
-use mathlib.Core.Path.{sym, ◌∙◌}
+use mathlib.Core.Path.{◌≡◌, refl, sym, ◌∙◌}
+use Prim.Native.Nat.{ℕ}
 use Rattle.program.specs.Parts.Prepared.{own_in}
+use Rattle.program.specs.Tree.{Entries}
+use Rattle.program.specs.declared.ActionNode.{ActionNode}
+use Rattle.program.specs.declared.ActionNode.TheVariants.{Nothing, Assign, Store, Holds, Exit, Guard}
+use Rattle.program.specs.Syntax.{truth}
 use Rattle.program.proofs.Laws.{boolean_whole}
 use Rattle.semantics.proofs.Coded.{handed}
 use Rattle.semantics.proofs.Valued.{true_holds}
 use Rattle.semantics.proofs.evaluator.selection.own.Goals as goal
 
-pub returns-in-Nothing : goal.returns-in-Nothing
+-- what is no guard's is true
+no_guard : (es : Entries) (a : ActionNode) → ((n : ℕ) → a ≡ Guard n → ⊥) → own_in es a ≡ truth 0
 unfolding own_in
-returns-in-Nothing c = rw (sym c.action-action.ensures ∙ c.in-Nothing.is) (true_holds 0)
+no_guard es Nothing h = refl
+no_guard es (Assign x a) h = refl
+no_guard es (Store x i a) h = refl
+no_guard es (Holds n) h = refl
+no_guard es (Exit n) h = refl
+no_guard es (Guard n) h = absurd (h n refl)
 
-pub returns-in-Assign : goal.returns-in-Assign
-unfolding own_in
-returns-in-Assign c = rw (sym c.action-action.ensures ∙ c.in-Assign.is) (true_holds 0)
-
-pub returns-in-Store : goal.returns-in-Store
-unfolding own_in
-returns-in-Store c = rw (sym c.action-action.ensures ∙ c.in-Store.is) (true_holds 0)
-
-pub returns-in-Holds : goal.returns-in-Holds
-unfolding own_in
-returns-in-Holds c = rw (sym c.action-action.ensures ∙ c.in-Holds.is) (true_holds 0)
-
-pub returns-in-Exit : goal.returns-in-Exit
-unfolding own_in
-returns-in-Exit c = rw (sym c.action-action.ensures ∙ c.in-Exit.is) (true_holds 0)
+pub returns-in_default : goal.returns-in_default
+returns-in_default c = rw (sym c.action-action.ensures, no_guard _ _ c.in_default.not-Guard) (true_holds 0)
 
 pub returns-in-Guard : goal.returns-in-Guard
 unfolding own_in

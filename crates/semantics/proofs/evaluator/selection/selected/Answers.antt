@@ -1,5 +1,4 @@
 -- `evaluator::selection::selected`: the lower edges' guards in turn, and the edge's own last.
-use borrow.Author.Rules.{rules}
 use lib.IntN.{pos}
 use mathlib.Core.Path.{◌≡◌}
 use native.Mathlib.Numerals.{add-one}
@@ -12,17 +11,15 @@ use Rattle.semantics.proofs.evaluator.selection.selected.Goals as goal
 
 pub loop-k-init : goal.loop-k-init
 unfolding guards_in
-loop-k-init c = (omega arith, none_fails (pos 1))
+loop-k-init c = none_fails (pos 1)
 
 pub loop-k-preserved : goal.loop-k-preserved
 unfolding guards_in guard_at
 loop-k-preserved c =
-    let l = c.loop-k in
-    (search rules, rw (add-one, handed c.and_fails-v.result c.and_fails-v.type_inv) (more_fail l.invariant.1 c.and_fails-v.ensures))
+    rw (add-one, handed c.and_fails-v.result c.and_fails-v.type_inv) (more_fail c.loop-k.invariant c.and_fails-v.ensures)
 
 pub returns : goal.returns
 returns c =
-    let l = c.loop-k in
-    let end : l.k ≡ c.args.e = omega (arith, c.loop-k-test.false, l.invariant.0) in
+    let end : c.loop-k.k ≡ c.args.e = omega arith in
     rw (handed c.both.result c.both.type_inv, ← c.edge_source-node.ensures)
-    (selected_holds (rw end at l.invariant.1) c.own-last.ensures (rw (handed c.own-last.result c.own-last.type_inv) at c.both.ensures))
+    (selected_holds (rw end at c.loop-k.invariant) c.own-last.ensures (rw (handed c.own-last.result c.own-last.type_inv) at c.both.ensures))

@@ -1,12 +1,8 @@
 -- `evaluator::selection::selected`: the lower edges' guards in turn, and the edge's own last.
-use Prim.Native.Nat.{◌-◌, ◌≤◌}
 use lib.IntN.{pos}
 use Rattle.program.specs.Parts.Prepared.{entries_in, guards_in}
 use Rattle.semantics.specs.Parts.Selecting.{FailsAfter}
 use Rattle.semantics.proofs.evaluator.selection.selected.Given as goal
 
 abbrev pub invariant-loop-k : goal.invariant-loop-k
-invariant-loop-k l = (l.k ≤ l.e) × FailsAfter l.code l.memory (guards_in (entries_in l.code l.graph) l.graph l.node l.k) (pos 1) l.v
-
-abbrev pub decreases-loop-k : goal.decreases-loop-k
-decreases-loop-k l = l.e - l.k
+invariant-loop-k l = FailsAfter l.code l.memory (guards_in (entries_in l.code l.graph) l.graph l.node l.k) (pos 1) l.v
