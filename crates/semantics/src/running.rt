@@ -19,17 +19,12 @@ use program::{Construction, Refusal, Validity, drawing, prepared, validation};
 fn stopped(run: Run) -> Ended
     ensures { result ≡ record { run = run; ending = Running.ending_at run.node } }
 {
-    if run.node == 1 {
-        Ended {
-            run,
-            ending: Ending::Arrived,
-        }
+    let ending = if run.node == 1 {
+        Ending::Arrived
     } else {
-        Ended {
-            run,
-            ending: Ending::Spent,
-        }
-    }
+        Ending::Spent
+    };
+    Ended { run, ending }
 }
 
 // The first edge out of a node of the deterministic graph whose guard holds, or the exit after guards that all fail, from the node's lowest edge on; NONE, where a guard
@@ -42,6 +37,7 @@ fn first_true(code: &[u16; CODE], graph: &[u16; GRAPH], memory: &[i32; MEMORY], 
 {
     let count = prepared::edge_count(graph);
     let mut k = first;
+    // This loop follows the links from edge to edge: it counts no index.
     while k < count {
         let v = selection::own(code, graph, memory, k);
         if v == 1 {
@@ -69,6 +65,7 @@ fn take_lowest(
 {
     let count = prepared::edge_count(graph);
     let mut e = prepared::first_edge(graph, node);
+    // This loop follows the links from edge to edge: it counts no index.
     while e < count {
         if prepared::guards(graph, e) {
             return first_true(code, graph, memory, e);

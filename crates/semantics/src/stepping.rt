@@ -80,17 +80,9 @@ fn ask_step(
 pub(crate) fn moved(run: Run, target: u16) -> Run
     ensures { result ≡ record { node = target; count = min (run.count + 1) 65535 } }
 {
-    let count = run.count;
-    if count < 65535 {
-        Run {
-            node: target,
-            count: count + 1,
-        }
-    } else {
-        Run {
-            node: target,
-            count: 65535,
-        }
+    Run {
+        node: target,
+        count: run.count.saturating_add(1),
     }
 }
 
@@ -98,13 +90,9 @@ pub(crate) fn moved(run: Run, target: u16) -> Run
 pub(crate) fn store(memory: &mut [i32], effect: Effect)
     ensures { memory.new ≡ Action.after memory.old effect }
 {
-    match effect {
-        Effect::Undefined(_) => {}
-        Effect::Unchanged => {}
-        Effect::Stored { cell, value } => {
-            if cell < memory.len() {
-                memory[cell] = value;
-            }
+    if let Effect::Stored { cell, value } = effect {
+        if cell < memory.len() {
+            memory[cell] = value;
         }
     }
 }
@@ -119,11 +107,7 @@ fn settled(run: Run, target: u16, effect: Effect, memory: &mut [i32]) -> Stepped
             run,
             outcome: Outcome::Undefined(fault),
         },
-        Effect::Unchanged => Stepped {
-            run: moved(run, target),
-            outcome: Outcome::Taken,
-        },
-        Effect::Stored { cell: _, value: _ } => Stepped {
+        _ => Stepped {
             run: moved(run, target),
             outcome: Outcome::Taken,
         },
