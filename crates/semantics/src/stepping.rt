@@ -2,13 +2,13 @@
 
 ghost use Rattle.std.specs.Prelude.{◌≡◌, List, ℤ, pos, ℕ, ◌<◌, ◌+◌, min, length, replicate};
 ghost use Rattle.program.specs.Graph.{Graph, unnamed};
-ghost use Rattle.program.specs.Parts.Prepared.{Ordered, Coded, Prepared};
+ghost use Rattle.program.specs.Parts.Prepared.{Coded, Prepared};
 ghost use Rattle.semantics.specs.Action;
 ghost use Rattle.semantics.specs.Parts.Cells;
 ghost use Rattle.semantics.specs.Step as spec;
 ghost use Rattle.semantics.specs.Parts.Stepping;
 
-use crate::evaluator::{MEMORY, action};
+use crate::evaluator::{MEMORY, Machine};
 use crate::{Effect, Outcome, Run, Stepped};
 use program::prepared::{CELLS_MOST, CODE, GRAPH};
 use program::{Construction, Refusal, Validity, drawing, prepared, validation};
@@ -54,28 +54,6 @@ fn leaves(graph: &[u16; GRAPH], edge: u16, node: u16) -> bool
     prepared::edge_source(graph, edge) == node
 }
 
-// Questions 12, 14 and 15 of a node, an edge and a memory of so many cells.
-fn ask_step(
-    code: &[u16; CODE],
-    graph: &[u16; GRAPH],
-    node: u16,
-    edge: u16,
-    cells: usize,
-) -> Validity
-    ensures { (ns : List ℕ) (g : Graph) (m : List ℤ) → Prepared ns g code.now graph.now → length m ≡ cells
-        → result ≡ spec.step_validity ns g node m edge }
-{
-    let enough = validation::ask(cells == prepared::cell_count(code), 12, 0);
-    if validation::refused(enough) {
-        return enough;
-    }
-    let inside = validation::ask(node < prepared::node_count(graph), 14, 0);
-    if validation::refused(inside) {
-        return inside;
-    }
-    validation::ask(leaves(graph, edge, node), 15, 0)
-}
-
 // The run that has taken an edge to a node: past 65,535 edges the count stays.
 pub(crate) fn moved(run: Run, target: u16) -> Run
     ensures { result ≡ record { node = target; count = min (run.count + 1) 65535 } }
@@ -114,17 +92,6 @@ fn settled(run: Run, target: u16, effect: Effect, memory: &mut [i32]) -> Stepped
     }
 }
 
-// The effect of an edge in a memory.
-fn edge_effect(code: &[u16; CODE], graph: &[u16; GRAPH], edge: u16, memory: &[i32]) -> Effect
-    requires { Ordered code.now }
-    ensures { (ns : List ℕ) (g : Graph) → Prepared ns g code.now graph.now → edge < length g.edges
-        → result ≡ spec.edge_effect ns g memory.now edge }
-{
-    let mut cells = [0i32; MEMORY];
-    copy_in(code, memory, &mut cells);
-    action::edge_effect(code, graph, &cells, edge)
-}
-
 // The reply of a refused step.
 fn refused(run: Run, x: Refusal) -> Stepped
     ensures { result ≡ record { run = run; outcome = Outcome.Refused x } }
@@ -135,25 +102,46 @@ fn refused(run: Run, x: Refusal) -> Stepped
     }
 }
 
-// A step over a prepared program.
-fn step_prepared(
-    run: Run,
-    code: &[u16; CODE],
-    graph: &[u16; GRAPH],
-    edge: u16,
-    memory: &mut [i32],
-) -> Stepped
-    requires { Ordered code.now }
-    ensures { (ns : List ℕ) (g : Graph) → Prepared ns g code.now graph.now
-        → Stepping.StepsTo ns g run edge memory.old memory.new result }
-{
-    let v = ask_step(code, graph, run.node, edge, memory.len());
-    match v {
-        Validity::Fit => {
-            let found = edge_effect(code, graph, edge, memory);
-            settled(run, prepared::edge_target(graph, edge), found, memory)
+impl Machine<'_> {
+    // Questions 12, 14 and 15 of a node, an edge and a memory of so many cells.
+    fn ask_step(self, node: u16, edge: u16, cells: usize) -> Validity
+        ensures { (ns : List ℕ) (g : Graph) (m : List ℤ) → Prepared ns g self.entry.code.now self.entry.graph.now → length m ≡ cells
+            → result ≡ spec.step_validity ns g node m edge }
+    {
+        let enough = validation::ask(cells == prepared::cell_count(self.code), 12, 0);
+        if validation::refused(enough) {
+            return enough;
         }
-        Validity::Refused(x) => refused(run, x),
+        let inside = validation::ask(node < prepared::node_count(self.graph), 14, 0);
+        if validation::refused(inside) {
+            return inside;
+        }
+        validation::ask(leaves(self.graph, edge, node), 15, 0)
+    }
+
+    // The effect of an edge in a memory, in a copy of it with the program's numbers behind.
+    fn copied_effect(self, edge: u16, memory: &[i32]) -> Effect
+        ensures { (ns : List ℕ) (g : Graph) → Prepared ns g self.entry.code.now self.entry.graph.now → edge < length g.edges
+            → result ≡ spec.edge_effect ns g memory.now edge }
+    {
+        let mut cells = [0i32; MEMORY];
+        copy_in(self.code, memory, &mut cells);
+        self.edge_effect(&cells, edge)
+    }
+
+    // A step over a prepared program.
+    fn step_prepared(self, run: Run, edge: u16, memory: &mut [i32]) -> Stepped
+        ensures { (ns : List ℕ) (g : Graph) → Prepared ns g self.entry.code.now self.entry.graph.now
+            → Stepping.StepsTo ns g run edge memory.old memory.new result }
+    {
+        let v = self.ask_step(run.node, edge, memory.len());
+        match v {
+            Validity::Fit => {
+                let found = self.copied_effect(edge, memory);
+                settled(run, prepared::edge_target(self.graph, edge), found, memory)
+            }
+            Validity::Refused(x) => refused(run, x),
+        }
     }
 }
 
@@ -181,7 +169,13 @@ impl Run {
         let mut graph = [0u16; GRAPH];
         let v = prepared::prepare(construction, program, &mut code, &mut graph);
         match v {
-            Validity::Fit => step_prepared(self, &code, &graph, edge, memory),
+            Validity::Fit => {
+                let machine = Machine {
+                    code: &code,
+                    graph: &graph,
+                };
+                machine.step_prepared(self, edge, memory)
+            }
             Validity::Refused(x) => refused(self, x),
         }
     }

@@ -17,10 +17,7 @@ unfolding budget_reply run_row
 whole κ s budget m k = record { value = (k.reply, k.memory); numbers = ap ended_numbers k.reply }
 
 pub run_prepared-requires : goal.run_prepared-requires
-run_prepared-requires c =
-    let made = c.prepare_linked-v.ensures in
-    let fit = c.in-Fit.is in
-    record { ordered = (made.prepared.prepared fit).coded.ordered; linked = made.linked fit }
+run_prepared-requires c = c.prepare_linked-v.ensures.linked c.in-Fit.is
 
 pub returns-in-Fit : goal.returns-in-Fit
 returns-in-Fit c =
