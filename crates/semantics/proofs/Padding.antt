@@ -72,9 +72,6 @@ pub record Numbering (code : List ℕ) (before cells : List ℤ) (n : ℕ) : Typ
   pub number : (i : ℕ) → i < n → cell_value cells (512 + i) ≡ number_in code i
   pub past : (i : ℕ) → n ≤ i → cell_value cells (512 + i) ≡ cell_value before (512 + i)
 
-pub numbering_none : (code : List ℕ) (before : List ℤ) → Numbering code before before 0
-numbering_none code before = record { room = refl; others = λ k h. refl; number = λ i h. absurd (omega arith); past = λ i h. refl }
-
 pub numbering_more : (code : List ℕ) (before cells : List ℤ) (n : ℕ) (z : ℤ) → Numbering code before cells n → 512 + n < length cells → z ≡ number_in code n
     → Numbering code before (set cells (512 + n) z) (n + 1)
 unfolding cell_value
@@ -92,10 +89,6 @@ numbering_more code before cells n z f h e =
           | yes p ↦ ap (λ (k : ℕ). get_or (set cells (512 + n) z) (512 + k) (pos 0)) p ∙ get_or-set_same cells (512 + n) z (pos 0) h ∙ e ∙ ap (number_in code) (sym p)
           | no d ↦ get_or-set_other cells (512 + n) (512 + i) z (pos 0) (λ p. omega arith) ∙ f.number i (omega arith)
         ]
-
-pub numbering_all : (code : List ℕ) (before cells : List ℤ) (n : ℕ) → Numbering code before cells n → n ≡ min (get_or code arithmetic_count_place 0) 512 → Numbered code before cells
-numbering_all code before cells n f e =
-    record { room = f.room; others = f.others; number = λ i h l. f.number i (omega arith); past = λ i h. f.past i (omega arith) }
 
 -- past the last arithmetic entry there is no number
 no_numbers : (ns code : List ℕ) → Coded ns code → (n : ℕ) → get_or code arithmetic_count_place 0 ≤ n → n < 512 → number_in code n ≡ pos 0

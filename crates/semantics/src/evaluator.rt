@@ -20,7 +20,8 @@ use signs::{Comparison, Operator, Reason, Value, number};
 // The cells of a memory, and the program's numbers behind them.
 pub(crate) const MEMORY: usize = 1024;
 
-// A prepared program whose code is ordered: each arithmetic entry refers to lower ones.
+// A prepared program whose code is ordered: each arithmetic entry refers to lower ones. It is handed on by value: by reference each evaluator reads it from memory again, and
+// runs are a tenth slower.
 #[derive(Clone, Copy)]
 pub(crate) struct Machine<'a> {
     pub(crate) code: &'a [u16; CODE],

@@ -16,9 +16,6 @@ whole : (κ : Construction) (s : List ℕ) (budget : ℕ) (m : List ℤ) {m' : L
 unfolding budget_reply run_row
 whole κ s budget m k = record { value = (k.reply, k.memory); numbers = ap ended_numbers k.reply }
 
-pub run_prepared-requires : goal.run_prepared-requires
-run_prepared-requires c = c.prepare_linked-v.ensures.linked c.in-Fit.is
-
 pub returns-in-Fit : goal.returns-in-Fit
 returns-in-Fit c =
     let made = c.prepare_linked-v.ensures.prepared in

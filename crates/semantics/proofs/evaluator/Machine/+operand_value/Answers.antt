@@ -1,74 +1,37 @@
 -- The cycle of calls {`Machine::operand`, `Machine::value`}: a part is lower than what it is a part of, and an operand is asked before the value
 -- of the same entry, so the measure is twice the entry, and one more for an operand.
 use borrow.Author.Rules.{rules}
-use native.Mathlib.Omega.{arith}
 use Rattle.semantics.proofs.Coded.{handed, tested}
-use Rattle.semantics.proofs.Leaves.{below_most, leaf_tree, lower_told, node_tree, element_tree, operator_tree}
+use Rattle.semantics.proofs.Leaves.{below_most, leaf_tree, node_tree, element_tree, operator_tree}
 use Rattle.semantics.proofs.Valued.{cell_valued, number_valued, variable_valued, element_valued, operator_left, operator_valued}
 use mathlib.Core.List.{[]}
-use Prim.Native.Nat.{ℕ, ◌<◌, ◌*◌, ◌+◌}
-use lib.ListN.{get_or}
+use Prim.Native.Nat.{ℕ}
 use mir.Syntax.{w32}
 use mir.Val.{SFits}
-use Rattle.signs.proofs.Signed.{widens}
-use Rattle.program.specs.Parts.Prepared.{arithmetic_count_place}
 use Rattle.program.specs.Tree.{arith_made}
 use Rattle.semantics.proofs.evaluator.Machine.+operand_value.Goals as goal
 use Rattle.semantics.proofs.evaluator.Machine.+operand_value.Goals.{value-In-Number, value-After-node-what, value-In-Operator}
 
 -- ---- operand
 
-pub operand-leaf_cell-c-requires : goal.operand-leaf_cell-c-requires
-operand-leaf_cell-c-requires t c = below_most _ _ c.args.self.ordered c.requires
-
 pub operand-returns-then-c-lt-MEMORY : goal.operand-returns-then-c-lt-MEMORY
 operand-returns-then-c-lt-MEMORY t c graph =
     rw (handed c.cell_value.result c.cell_value.type_inv)
     (cell_valued _ (leaf_tree _ _ graph c.requires c.leaf_cell-c.ensures c.if-c-lt-MEMORY.true) c.cell_value.ensures.code c.cell_value.ensures.evaluated)
 
-pub operand-value-requires : goal.operand-value-requires
-operand-value-requires t c = (omega arith, c.requires)
-
-pub operand-returns : goal.operand-returns
-operand-returns t c graph = rw (handed c.value.result c.value.type_inv) (c.value.ensures graph)
-
 -- ---- value
-
-pub value-node-what-requires : goal.value-node-what-requires
-value-node-what-requires t c = below_most _ _ c.args.self.ordered c.requires
 
 -- a number has 32 bits
 fits : (t : ℕ) (c : value-In-Number t) → SFits w32 c.in-Number.z
 fits t c = search rules
 
-pub value-overflow_cast-result : goal.value-overflow_cast-result
-value-overflow_cast-result t c = widens _ (fits t (goal.at.value-overflow_cast-result t c).In-Number)
-
--- a lower entry may be asked about
-asked : (t : ℕ) (c : value-After-node-what t) {p : ℕ} → p < c.args.n
-    → (2 * p + 1 < t) × (p < get_or c.args.self.code.now arithmetic_count_place 0)
-asked t c h = (omega arith, omega arith)
-
-pub value-operand-v-requires : goal.value-operand-v-requires
-value-operand-v-requires t c = asked t (goal.at.value-operand-v-requires t c).After-node-what (lower_told _ _ c.args.self.ordered c.requires c.node-what.ensures c.in-Element.is)
-
 pub value-element-requires : goal.value-element-requires
 value-element-requires t c = rw (handed c.operand-v.result c.operand-v.type_inv) (c.operand-v.ensures []).code
-
--- the two of an operator
-parts : (t : ℕ) (c : value-In-Operator t) → (c.in-Operator.p < c.args.n) × (c.in-Operator.q < c.args.n)
-parts t c = lower_told _ _ c.args.self.ordered c.requires c.node-what.ensures c.in-Operator.is
-
-pub value-operand-a-requires : goal.value-operand-a-requires
-value-operand-a-requires t c = asked t (goal.at.value-operand-a-requires t c).After-node-what (parts t (goal.at.value-operand-a-requires t c).In-Operator).0
 
 pub value-returns-then-is_fault : goal.value-returns-then-is_fault
 value-returns-then-is_fault t c graph =
     rw (handed c.operand-a.result c.operand-a.type_inv, operator_tree _ _ graph c.args.self.ordered c.requires c.node-what.ensures c.in-Operator.is)
     (operator_left _ _ (c.operand-a.ensures graph) (tested c.operand-a.result record { sfits = c.operand-a.type_inv } c.is_fault.ensures c.if-is_fault.true))
-
-pub value-operand-b-requires : goal.value-operand-b-requires
-value-operand-b-requires t c = asked t (goal.at.value-operand-b-requires t c).After-node-what (parts t (goal.at.value-operand-b-requires t c).In-Operator).1
 
 pub value-operate-requires : goal.value-operate-requires
 value-operate-requires t c =

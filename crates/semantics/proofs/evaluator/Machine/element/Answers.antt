@@ -1,12 +1,11 @@
 -- `Machine::element`: the index's fault, or the cell of the element.
 use mathlib.Core.Path.{◌≡◌, sym, ap, ◌∙◌}
 use mathlib.Core.Bool.{false}
-use native.Mathlib.Omega.{arith}
 use mir.Syntax.{w64}
 use mir.ValLaws.{to_z-of_z}
 use Rattle.semantics.specs.Parts.Coding.{Indexed}
 use Rattle.semantics.specs.Expression.{value_at}
-use Rattle.semantics.proofs.Coded.{is_fault, tested, handed, fault_evaluated, placed_fault, placed_at, whole_index}
+use Rattle.semantics.proofs.Coded.{is_fault, tested, handed, fault_evaluated, placed_fault, placed_at}
 use Rattle.semantics.proofs.evaluator.Machine.element.Goals as goal
 use Rattle.semantics.proofs.evaluator.Machine.element.Goals.{After-indexed-i, Else-is_fault}
 
@@ -28,13 +27,6 @@ returns-then-is_fault c =
 -- no fault
 inside : (c : Else-is_fault) → is_fault c.indexed-i.result ≡ false
 inside c = tested c.indexed-i.result (record { sfits = c.indexed-i.type_inv }) c.is_fault.ensures c.if-is_fault.false
-
-pub overflow_cast-i : goal.overflow_cast-i
-overflow_cast-i c = whole_index c.indexed-i.result (record { sfits = c.indexed-i.type_inv }) ((found (goal.at.overflow_cast-i c).After-indexed-i).below (inside (goal.at.overflow_cast-i c).Else-is_fault)).0
-
-pub cell_after-requires : goal.cell_after-requires
-cell_after-requires c =
-    rw (handed c.indexed-i.result c.indexed-i.type_inv) (omega (arith, ((found (goal.at.cell_after-requires c).After-indexed-i).below (inside (goal.at.cell_after-requires c).Else-is_fault)).1, c.size_of.type_inv))
 
 pub returns : goal.returns
 unfolding value_at

@@ -1,5 +1,5 @@
 -- `Machine::element_stored`: the index's fault, or the value of a whole tree in the element's cell.
-use mathlib.Core.Path.{◌≡◌, sym, ◌∙◌}
+use mathlib.Core.Path.{◌≡◌}
 use mathlib.Core.Bool.{false}
 use mathlib.Core.List.{[]}
 use Rattle.program.specs.Parts.Prepared.{entries_in}
@@ -8,9 +8,6 @@ use Rattle.semantics.proofs.Coded.{is_fault, handed, tested, whole_index}
 use Rattle.semantics.proofs.Effects.{index_effect, store_effect}
 use Rattle.semantics.proofs.evaluator.Machine.element_stored.Goals as goal
 use Rattle.semantics.proofs.evaluator.Machine.element_stored.Goals.{Else-is_fault}
-
-pub failure-requires : goal.failure-requires
-failure-requires c = sym c.is_fault.ensures ∙ c.if-is_fault.true
 
 pub returns-then-is_fault : goal.returns-then-is_fault
 returns-then-is_fault c graph =

@@ -10,9 +10,6 @@ use Rattle.semantics.proofs.Tested.{known_holds, fault_holds_not, fault_fails, k
 use Rattle.semantics.proofs.evaluator.Machine.first_true.Goals as goal
 use Rattle.semantics.proofs.evaluator.Machine.first_true.Goals.{In-loop-k}
 
-pub loop-k-init : goal.loop-k-init
-loop-k-init c ns g node p numbers o = record { here = λ h. o.here; before = λ k l d s. absurd (o.none k l s) }
-
 -- the edge whose guard is tested exists
 there : (c : In-loop-k) → c.loop-k.k < get_or c.args.self.graph.now edge_count_place 0
 there c = omega (arith, c.loop-k-test.true, c.edge_count-count.ensures)

@@ -8,6 +8,3 @@ pub returns-in-Comparison : goal.returns-in-Comparison
 unfolding boolean_made
 returns-in-Comparison c graph =
     rw (handed c.comparison.result c.comparison.type_inv, boolean_told _ _ _ (c.boolean_node-node.ensures graph) c.in-Comparison.is) (c.comparison.ensures graph _)
-
-pub returns-in_default : goal.returns-in_default
-returns-in_default c graph = rw (handed c.truth.result c.truth.type_inv) (c.truth.ensures graph)
