@@ -45,56 +45,60 @@ fn refused(x: Refusal) -> Ended
     }
 }
 
-impl Machine<'_> {
+// A machine whose graph is linked: each node's lowest edge stands in it, and after each edge the next one out of the same node.
+#[derive(Clone, Copy)]
+struct Runner<'a> {
+    machine: Machine<'a>,
+    ghost linked: { Linked machine.graph.now },
+}
+
+impl Runner<'_> {
     // The first edge out of a node of the deterministic graph whose guard holds, or the exit after guards that all fail, from the node's lowest edge on; NONE, where a guard
     // is undefined before that, or none holds. Each guard is tested once: those before it are known to fail.
     fn first_true(self, memory: &[i32; MEMORY], first: u16) -> u16
-        requires { Linked self.graph.now }
-        ensures { (ns : List ℕ) (g : Graph) (node : ℕ) → Prepared ns g self.entry.code.now self.entry.graph.now → Cells.NumbersIn self.entry.code.now memory.now
-            → Selecting.Opens self.entry.graph.now node first → Running.Lowest ns g node memory.now result memory.now }
+        ensures { (ns : List ℕ) (g : Graph) (node : ℕ) → Prepared ns g self.entry.machine.code.now self.entry.machine.graph.now → Cells.NumbersIn self.entry.machine.code.now memory.now
+            → Selecting.Opens self.entry.machine.graph.now node first → Running.Lowest ns g node memory.now result memory.now }
     {
-        let count = prepared::edge_count(self.graph);
+        let count = prepared::edge_count(self.machine.graph);
         let mut k = first;
         // This loop follows the links from edge to edge: it counts no index.
         while k < count {
-            let v = self.own(memory, k);
+            let v = self.machine.own(memory, k);
             if v == 1 {
                 return k;
             }
             if is_fault(v) {
                 return NONE;
             }
-            k = prepared::next_edge(self.graph, k);
+            k = prepared::next_edge(self.machine.graph, k);
         }
         NONE
     }
 
     // Performs the lowest defined edge out of a node; NONE, where there is none.
     fn take_lowest(self, memory: &mut [i32; MEMORY], node: u16) -> u16
-        requires { Linked self.graph.now }
-        ensures { (ns : List ℕ) (g : Graph) → Prepared ns g self.entry.code.now self.entry.graph.now → Cells.NumbersIn self.entry.code.now memory.old
+        ensures { (ns : List ℕ) (g : Graph) → Prepared ns g self.entry.machine.code.now self.entry.machine.graph.now → Cells.NumbersIn self.entry.machine.code.now memory.old
             → node < nodes_most → Running.Lowest ns g node memory.old result memory.new }
     {
-        let count = prepared::edge_count(self.graph);
-        let mut e = prepared::first_edge(self.graph, node);
+        let count = prepared::edge_count(self.machine.graph);
+        let mut e = prepared::first_edge(self.machine.graph, node);
         // This loop follows the links from edge to edge: it counts no index.
         while e < count {
-            if prepared::guards(self.graph, e) {
+            if prepared::guards(self.machine.graph, e) {
                 return self.first_true(memory, e);
             }
-            let action = prepared::plain_action(self.graph, e);
-            if self.perform(memory, action) {
+            let action = prepared::plain_action(self.machine.graph, e);
+            if self.machine.perform(memory, action) {
                 return e;
             }
-            e = prepared::next_edge(self.graph, e);
+            e = prepared::next_edge(self.machine.graph, e);
         }
         NONE
     }
 
     // A run from node 0 in an array with the program's numbers behind the memory: the lowest defined edge each time.
     fn run_array(self, budget: u16, memory: &mut [i32; MEMORY]) -> Ended
-        requires { Linked self.graph.now }
-        ensures { (ns : List ℕ) (g : Graph) → Prepared ns g self.entry.code.now self.entry.graph.now → Cells.NumbersIn self.entry.code.now memory.old
+        ensures { (ns : List ℕ) (g : Graph) → Prepared ns g self.entry.machine.code.now self.entry.machine.graph.now → Cells.NumbersIn self.entry.machine.code.now memory.old
             → Running.EndsAs (spec.run_from budget ns g (Step.begun memory.old)) memory.new result }
     {
         let mut run = Run::fresh();
@@ -109,19 +113,18 @@ impl Machine<'_> {
                     ending: Ending::Stuck,
                 };
             }
-            run = stepping::moved(run, prepared::edge_target(self.graph, e));
+            run = stepping::moved(run, prepared::edge_target(self.machine.graph, e));
         }
         stopped(run)
     }
 
     // A run over a prepared program, in a memory that has the names' cells.
     fn run_copied(self, budget: u16, memory: &mut [i32]) -> Ended
-        requires { Linked self.graph.now }
-        ensures { (ns : List ℕ) (g : Graph) → Prepared ns g self.entry.code.now self.entry.graph.now → length memory.old ≡ cell_count ns
+        ensures { (ns : List ℕ) (g : Graph) → Prepared ns g self.entry.machine.code.now self.entry.machine.graph.now → length memory.old ≡ cell_count ns
             → Running.EndsAs (spec.run_from budget ns g (Step.begun memory.old)) memory.new result }
     {
         let mut cells = [0i32; MEMORY];
-        stepping::copy_in(self.code, memory, &mut cells);
+        stepping::copy_in(self.machine.code, memory, &mut cells);
         let ended = self.run_array(budget, &mut cells);
         copy_back(memory, &cells);
         ended
@@ -129,11 +132,14 @@ impl Machine<'_> {
 
     // Question 12, then a run over a prepared program.
     fn run_prepared(self, budget: u16, memory: &mut [i32]) -> Ended
-        requires { Linked self.graph.now }
-        ensures { (ns : List ℕ) (g : Graph) → Prepared ns g self.entry.code.now self.entry.graph.now
+        ensures { (ns : List ℕ) (g : Graph) → Prepared ns g self.entry.machine.code.now self.entry.machine.graph.now
             → Running.EndsAs (spec.budgeted ns g budget memory.old) memory.new result }
     {
-        let v = validation::ask(memory.len() == prepared::cell_count(self.code), 12, 0);
+        let v = validation::ask(
+            memory.len() == prepared::cell_count(self.machine.code),
+            12,
+            0,
+        );
         match v {
             Validity::Fit => self.run_copied(budget, memory),
             Validity::Refused(x) => refused(x),
@@ -157,7 +163,7 @@ pub fn run_on(construction: Construction, program: &[u8], budget: u16, memory: &
                 code: &code,
                 graph: &graph,
             };
-            machine.run_prepared(budget, memory)
+            Runner { machine }.run_prepared(budget, memory)
         }
         Validity::Refused(x) => refused(x),
     }

@@ -1,7 +1,7 @@
--- `Machine::run_copied`: the run in the copied memory.
+-- `Runner::run_copied`: the run in the copied memory.
 use native.Mathlib.Omega.{arith}
 use Rattle.semantics.proofs.Alike.{ends_copied}
-use Rattle.semantics.proofs.evaluator.Machine.run_copied.Goals as goal
+use Rattle.semantics.proofs.running.Runner.run_copied.Goals as goal
 
 pub returns : goal.returns
 returns c ns g p room =

@@ -1,4 +1,4 @@
--- `Machine::take_lowest`: the links are followed up to the first edge that is performed.
+-- `Runner::take_lowest`: the links are followed up to the first edge that is performed.
 use Prim.Native.Nat.{◌<◌}
 use mathlib.Core.Bool.{false}
 use mathlib.Core.Path.{◌≡◌, refl, sym, ◌∙◌}
@@ -8,12 +8,12 @@ use Rattle.program.specs.Parts.Prepared.{edge_count_place, action_in, is_guard_n
 use Rattle.program.proofs.Laws.{first_is_followed, next_is_followed, next_is_beyond}
 use Rattle.semantics.proofs.Choosing.{none_taken, taken_here, undefined_here, unchanged_here}
 use Rattle.semantics.proofs.Opened.{opens}
-use Rattle.semantics.proofs.evaluator.Machine.take_lowest.Goals as goal
-use Rattle.semantics.proofs.evaluator.Machine.take_lowest.Goals.{Else-guards, In-loop-e}
+use Rattle.semantics.proofs.running.Runner.take_lowest.Goals as goal
+use Rattle.semantics.proofs.running.Runner.take_lowest.Goals.{Else-guards, In-loop-e}
 
 pub loop-e-init : goal.loop-e-init
 loop-e-init c ns g p numbers h =
-    let linked = c.requires in
+    let linked = c.args.self.linked in
     record {
       following = rw c.first_edge-e.ensures (first_is_followed linked _ _ h);
       unguarded = rw c.first_edge-e.ensures (first_is_followed linked _ _ h);
@@ -21,7 +21,7 @@ loop-e-init c ns g p numbers h =
     }
 
 -- the edge that is looked at exists
-there : (c : In-loop-e) → c.loop-e.e < get_or c.args.self.graph.now edge_count_place 0
+there : (c : In-loop-e) → c.loop-e.e < get_or c.args.self.machine.graph.now edge_count_place 0
 there c = omega (arith, c.loop-e-test.true, c.edge_count-count.ensures)
 
 pub returns-then-guards : goal.returns-then-guards
@@ -31,7 +31,7 @@ returns-then-guards c ns g p numbers h =
     (c.first_true.ensures ns g _ p (rw here.memory numbers) (opens p here.unguarded (there (goal.at.returns-then-guards c).In-loop-e) (sym c.guards.ensures ∙ c.if-guards.true)))
 
 -- the edge is no guard's of the deterministic graph
-plain : (c : Else-guards) → is_guard_node (action_in c.args.self.graph.now c.loop-e.e) ≡ false
+plain : (c : Else-guards) → is_guard_node (action_in c.args.self.machine.graph.now c.loop-e.e) ≡ false
 plain c = sym c.guards.ensures ∙ c.if-guards.false
 
 pub returns-then-perform : goal.returns-then-perform
@@ -40,12 +40,12 @@ returns-then-perform c ns g p numbers h =
 
 pub loop-e-smaller : goal.loop-e-smaller
 loop-e-smaller c =
-    let more = next_is_beyond c.requires c.loop-e.e (there (goal.at.loop-e-smaller c).In-loop-e) in
+    let more = next_is_beyond c.args.self.linked c.loop-e.e (there (goal.at.loop-e-smaller c).In-loop-e) in
     omega (arith, c.next_edge-e.ensures, c.loop-e-test.true)
 
 pub loop-e-preserved : goal.loop-e-preserved
 loop-e-preserved c ns g p numbers h =
-    let linked = c.requires in
+    let linked = c.args.self.linked in
     let here = c.loop-e.invariant ns g p numbers h in
     let found = rw (c.plain_action-action.ensures (plain (goal.at.loop-e-preserved c).Else-guards)) at c.perform.ensures in
     record {

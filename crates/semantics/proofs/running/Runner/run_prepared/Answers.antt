@@ -1,4 +1,4 @@
--- `Machine::run_prepared`: refused with 12, or a run in the memory.
+-- `Runner::run_prepared`: refused with 12, or a run in the memory.
 use mathlib.Core.Path.{◌≡◌, refl, sym, ◌∙◌}
 use mathlib.Core.List.{List}
 use Prim.Native.Nat.{ℕ}
@@ -7,11 +7,11 @@ use Rattle.program.specs.Parts.Prepared.{Prepared}
 use Rattle.semantics.specs.Step.{memory_validity}
 use Rattle.semantics.proofs.Runs.{budgeted_run, refused_run}
 use Rattle.semantics.proofs.Steps.{memory_fit, asked_cells}
-use Rattle.semantics.proofs.evaluator.Machine.run_prepared.Goals as goal
-use Rattle.semantics.proofs.evaluator.Machine.run_prepared.Goals.{After-ask-v}
+use Rattle.semantics.proofs.running.Runner.run_prepared.Goals as goal
+use Rattle.semantics.proofs.running.Runner.run_prepared.Goals.{After-ask-v}
 
 -- question 12, as it is asked
-asked : (c : After-ask-v) (ns : List ℕ) (g : Graph) → Prepared ns g c.args.self.code.now c.args.self.graph.now → c.ask-v.result ≡ memory_validity ns c.args.memory.now
+asked : (c : After-ask-v) (ns : List ℕ) (g : Graph) → Prepared ns g c.args.self.machine.code.now c.args.self.machine.graph.now → c.ask-v.result ≡ memory_validity ns c.args.memory.now
 asked c ns g p = c.ask-v.ensures ∙ asked_cells ns _ _ _ refl (c.cell_count.ensures ∙ p.coded.cells)
 
 pub returns-in-Fit : goal.returns-in-Fit

@@ -1,12 +1,12 @@
--- `Machine::run_array`: each turn takes the edge that the definition takes.
+-- `Runner::run_array`: each turn takes the edge that the definition takes.
 use mathlib.Core.Logic.{inl, inr}
 use mathlib.Core.Path.{◌≡◌}
 use Prim.Native.Nat.{◌+◌, ◌-◌}
 use native.Mathlib.Nat.{sub-zero}
 use native.Mathlib.Omega.{arith}
 use Rattle.semantics.proofs.Turns.{reached_start, reached_more, reached_stuck, stops_as}
-use Rattle.semantics.proofs.evaluator.Machine.run_array.Goals as goal
-use Rattle.semantics.proofs.evaluator.Machine.run_array.Goals.{else-loop-test, then-loop-test+then-run-eq1}
+use Rattle.semantics.proofs.running.Runner.run_array.Goals as goal
+use Rattle.semantics.proofs.running.Runner.run_array.Goals.{else-loop-test, then-loop-test+then-run-eq1}
 
 pub loop-init : goal.loop-init
 loop-init c ns g p numbers = rw sub-zero (reached_start _ _ _ _ _ _ c.fresh-run.ensures numbers)
