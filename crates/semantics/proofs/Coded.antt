@@ -223,15 +223,6 @@ natural_number (negsuc n) f e = absurd (true≢false e)
 pub natural : (z : ℤ) → SFits w64 z → lt_z z (pos 0) ≡ false → T (non_neg (to_z w64 (of_z w64 z))) × Fits w64 (nat_abs (to_z w64 (of_z w64 z)))
 natural z f e = rw (to_z-of_z w64 z f) (natural_number z f e)
 
--- a fault's number is a natural one
-pub fault_natural : (z : ℤ) → SFits w64 z → is_fault z ≡ true → T (non_neg z) × Fits w64 (nat_abs z)
-fault_natural (pos n) f e = (tt, record { fits = omega (arith, f.sfits) })
-fault_natural (negsuc n) f e = absurd (true≢false (sym e))
-
-pub fault_above : (z : ℤ) → is_fault z ≡ true → 4294967296 ≤ nat_abs z
-fault_above (pos n) e = leb-true 4294967296 n e
-fault_above (negsuc n) e = absurd (true≢false (sym e))
-
 -- the place that an index gives
 module _ (ns : List ℕ) (x : ℕ) (r : ℤ) where
   pub placed_fault : is_fault r ≡ true → place_by ns x r ≡ nowhere (fault_in r)

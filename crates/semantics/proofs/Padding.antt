@@ -1,12 +1,13 @@
 -- A memory in an array of 1024 cells with the program's numbers behind it: how it is filled, and what is read there.
 use mathlib.Core.Path.{◌≡◌, refl, sym, ap, ◌∙◌}
-use mathlib.Core.List.{List}
-use Prim.Native.Nat.{ℕ, suc, ◌+◌, ◌≤◌, ◌<◌, min}
+use mathlib.Core.List.{List, ◌++◌}
+use Prim.Native.Nat.{ℕ, suc, ◌+◌, ◌-◌, ◌≤◌, ◌<◌, min}
 use native.Mathlib.Decide.{ℕ_discrete, dec_le}
 use native.Mathlib.Omega.{arith}
 use lib.IntN.{ℤ, pos}
-use lib.ListN.{length, get_or, set, replicate, length-set, get_or-eq_default}
+use lib.ListN.{length, get_or, set, replicate, take, drop, length-set, get_or-eq_default, get_or-append}
 use lib.Seq.{get_or-set_same, get_or-set_other, ext_get_or}
+use Rattle.std.proofs.lemmas.List.{length-append, length-drop, length-replicate, length-take-le, get_or-take, get_or-drop, get_or-append_right}
 use Rattle.signs.specs.Lists.{tabulate}
 use Rattle.program.specs.File.{signed32}
 use Rattle.program.specs.Kind.{arith_kind}
@@ -15,36 +16,6 @@ use Rattle.program.proofs.Readings.{number_told}
 use Rattle.program.proofs.Lists.{length_tabulate, get_or_tabulate, get_or_same}
 use Rattle.semantics.specs.Parts.Cells.{front, Fronted, Numbered, Placed}
 use Rattle.semantics.specs.Expression.{cell_value}
-
--- a list of n cells of which the first i are a memory's
-pub record Copied (m : List ℤ) (n : ℕ) (cells : List ℤ) (i : ℕ) : Type 0 where
-  pub room : length cells ≡ n
-  pub passed : (k : ℕ) → k < i → get_or cells k (pos 0) ≡ cell_value m k
-
-pub copied_more : (m : List ℤ) (n : ℕ) (cells : List ℤ) (i : ℕ) (z : ℤ) → Copied m n cells i → i < n → z ≡ cell_value m i → Copied m n (set cells i z) (i + 1)
-copied_more m n cells i z f h e = record { room = length-set cells i z ∙ f.room; passed = at }
-  where
-    at : (k : ℕ) → k < i + 1 → get_or (set cells i z) k (pos 0) ≡ cell_value m k
-    at k l =
-        elim (ℕ_discrete k i) [
-          | yes p ↦ ap (λ (n : ℕ). get_or (set cells i z) n (pos 0)) p ∙ get_or-set_same cells i z (pos 0) (omega (arith, f.room)) ∙ e ∙ ap (cell_value m) (sym p)
-          | no d ↦ get_or-set_other cells i k z (pos 0) d ∙ f.passed k (omega arith)
-        ]
-
--- the same of 1024 cells, of which the others are still zero
-pub record Filled (m cells : List ℤ) (i : ℕ) : Type 0 where
-  pub copied : Copied m 1024 cells i
-  pub left : (k : ℕ) → i ≤ k → get_or cells k (pos 0) ≡ pos 0
-
-pub filled_none : (m : List ℤ) → Filled m (replicate 1024 (pos 0)) 0
-filled_none m = record { copied = record { room = refl; passed = λ k h. absurd (omega arith) }; left = λ k h. get_or_same 1024 (pos 0) k }
-
-pub filled_more : (m cells : List ℤ) (i : ℕ) (z : ℤ) → Filled m cells i → i < 1024 → z ≡ cell_value m i → Filled m (set cells i z) (i + 1)
-filled_more m cells i z f h e =
-    record {
-      copied = copied_more m 1024 cells i z f.copied h e;
-      left = λ k l. get_or-set_other cells i k z (pos 0) (λ p. omega arith) ∙ f.left k (omega arith);
-    }
 
 -- a list with these cells is the front of a memory
 pub is_front : (cells m : List ℤ) (n : ℕ) → length cells ≡ n → ((k : ℕ) → k < n → get_or cells k (pos 0) ≡ cell_value m k) → cells ≡ front n m
@@ -62,20 +33,35 @@ front_past : (n : ℕ) (m : List ℤ) (k : ℕ) → n ≤ k → cell_value (fron
 unfolding front cell_value
 front_past n m k h = get_or-eq_default (front n m) (pos 0) (omega (arith, length_tabulate n (cell_value m)))
 
-pub filled_all : (m cells : List ℤ) (i : ℕ) → Filled m cells i → i ≤ 512 → min (length m) 512 ≤ i → Fronted m cells
+-- a memory's first cells are its front
+pub front_taken : (n : ℕ) (m : List ℤ) → n ≤ length m → take n m ≡ front n m
 unfolding cell_value
-filled_all m cells i f few e = record { room = f.copied.room; same = at }
+front_taken n m h = is_front (take n m) m n (length-take-le n m h) (λ k l. get_or-take n m k (pos 0) l)
+
+-- those cells in front of zeros
+pub fronted : (m : List ℤ) (n : ℕ) → n ≡ min (length m) 512 → Fronted m (take n m ++ drop n (replicate 1024 (pos 0)))
+unfolding cell_value
+fronted m n e = record { room = omega (arith, length-append (take n m) (drop n (replicate 1024 (pos 0))), long, length-drop n (replicate 1024 (pos 0)), length-replicate 1024 (pos 0)); same = at }
   where
-    at : (k : ℕ) → get_or cells k (pos 0) ≡ get_or (front 512 m) k (pos 0)
+    long : length (take n m) ≡ n
+    long = length-take-le n m (omega arith)
+
+    at : (k : ℕ) → get_or (take n m ++ drop n (replicate 1024 (pos 0))) k (pos 0) ≡ get_or (front 512 m) k (pos 0)
     at k =
-        elim (dec_le (suc k) i) [
-          | yes l ↦ f.copied.passed k l ∙ sym (front_cell 512 m k (omega arith))
-          | no l ↦
-              elim (dec_le (suc k) 512) [
-                | yes h ↦ f.left k (omega arith) ∙ sym (front_cell 512 m k h ∙ get_or-eq_default m (pos 0) (omega arith))
-                | no h ↦ f.left k (omega arith) ∙ sym (front_past 512 m k (omega arith))
-              ]
+        elim (dec_le (suc k) n) [
+          | yes l ↦ get_or-append _ _ (pos 0) k (omega (arith, long)) ∙ get_or-take n m k (pos 0) l ∙ sym (front_cell 512 m k (omega arith))
+          | no l ↦ zeros k (omega arith) ∙ sym (past k (omega arith))
         ]
+      where
+        zeros : (k : ℕ) → n ≤ k → get_or (take n m ++ drop n (replicate 1024 (pos 0))) k (pos 0) ≡ pos 0
+        zeros k l = get_or-append_right (take n m) (drop n (replicate 1024 (pos 0))) n k (pos 0) long l ∙ get_or-drop n (replicate 1024 (pos 0)) (k - n) (pos 0) ∙ get_or_same 1024 (pos 0) (n + (k - n))
+
+        past : (k : ℕ) → n ≤ k → get_or (front 512 m) k (pos 0) ≡ pos 0
+        past k l =
+            elim (dec_le (suc k) 512) [
+              | yes h ↦ front_cell 512 m k h ∙ get_or-eq_default m (pos 0) (omega arith)
+              | no h ↦ front_past 512 m k (omega arith)
+            ]
 
 -- ---- the numbers
 
@@ -85,9 +71,6 @@ pub record Numbering (code : List ℕ) (before cells : List ℤ) (n : ℕ) : Typ
   pub others : (k : ℕ) → k < 512 → cell_value cells k ≡ cell_value before k
   pub number : (i : ℕ) → i < n → cell_value cells (512 + i) ≡ number_in code i
   pub past : (i : ℕ) → n ≤ i → cell_value cells (512 + i) ≡ cell_value before (512 + i)
-
-pub numbering_none : (code : List ℕ) (before : List ℤ) → Numbering code before before 0
-numbering_none code before = record { room = refl; others = λ k h. refl; number = λ i h. absurd (omega arith); past = λ i h. refl }
 
 pub numbering_more : (code : List ℕ) (before cells : List ℤ) (n : ℕ) (z : ℤ) → Numbering code before cells n → 512 + n < length cells → z ≡ number_in code n
     → Numbering code before (set cells (512 + n) z) (n + 1)
@@ -106,10 +89,6 @@ numbering_more code before cells n z f h e =
           | yes p ↦ ap (λ (k : ℕ). get_or (set cells (512 + n) z) (512 + k) (pos 0)) p ∙ get_or-set_same cells (512 + n) z (pos 0) h ∙ e ∙ ap (number_in code) (sym p)
           | no d ↦ get_or-set_other cells (512 + n) (512 + i) z (pos 0) (λ p. omega arith) ∙ f.number i (omega arith)
         ]
-
-pub numbering_all : (code : List ℕ) (before cells : List ℤ) (n : ℕ) → Numbering code before cells n → n ≡ min (get_or code arithmetic_count_place 0) 512 → Numbered code before cells
-numbering_all code before cells n f e =
-    record { room = f.room; others = f.others; number = λ i h l. f.number i (omega arith); past = λ i h. f.past i (omega arith) }
 
 -- past the last arithmetic entry there is no number
 no_numbers : (ns code : List ℕ) → Coded ns code → (n : ℕ) → get_or code arithmetic_count_place 0 ≤ n → n < 512 → number_in code n ≡ pos 0

@@ -4,3 +4,4 @@ pub mod Stepping
 pub mod Running
 pub mod Selecting
 pub mod Replaying
+pub mod Machines

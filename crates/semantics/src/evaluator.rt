@@ -1,21 +1,31 @@
 // Results of the evaluators as one number: a value or a truth value as itself, a fault as 2^32 and the number of its reason.
-pub(crate) mod action;
+mod action;
 mod arithmetic;
 mod condition;
-pub(crate) mod selection;
+mod selection;
 
 ghost use Rattle.std.specs.Prelude.{◌≡◌, List, ℕ, ◌+◌, ◌<◌, T, pos, length};
 ghost use Rattle.std.specs.Int.Signed.{le_z};
-ghost use Rattle.program.specs.Parts.Prepared.{Coded};
+ghost use Rattle.program.specs.Parts.Prepared.{Coded, Ordered};
 ghost use Rattle.semantics.specs.Parts.Coding as coding;
+ghost use Rattle.semantics.specs.Parts.Machines.{ordered_prop};
 ghost use Rattle.semantics.specs.Expression as spec;
 
 use program::prepared;
-use program::prepared::CODE;
+use program::prepared::{CODE, GRAPH};
 use signs::{Comparison, Operator, Reason, number};
 
 // The cells of a memory, and the program's numbers behind them.
 pub(crate) const MEMORY: usize = 1024;
+
+// A prepared program whose code is ordered: each arithmetic entry refers to lower ones. It is handed on by value: by reference each evaluator reads it from memory again, and
+// runs are a tenth slower.
+#[derive(Clone, Copy)]
+pub(crate) struct Machine<'a> {
+    pub(crate) code: &'a [u16; CODE],
+    pub(crate) graph: &'a [u16; GRAPH],
+    pub(crate) ghost ordered: { Ordered code.now } by { ordered_prop code.now },
+}
 
 pub(crate) fn is_fault(v: i64) -> bool
     ensures { result ≡ le_z (pos 4294967296) v }
@@ -151,16 +161,18 @@ fn indexed(size: u16, v: i64) -> i64
     v
 }
 
-// The value of an array's element, by its index.
-fn element(code: &[u16; CODE], memory: &[i32; MEMORY], x: u16, v: i64) -> i64
-    requires { T (coding.is_code v) }
-    ensures code { T (coding.is_code result) }
-    ensures evaluated { (ns : List ℕ) → Coded ns code.now → x < length ns
-        → coding.evaluated result ≡ spec.value_at memory.now (spec.place_of ns x (coding.evaluated v)) }
-{
-    let i = indexed(prepared::size_of(code, x), v);
-    if is_fault(i) {
-        return i;
+impl Machine<'_> {
+    // The value of an array's element, by its index.
+    fn element(self, memory: &[i32; MEMORY], x: u16, v: i64) -> i64
+        requires { T (coding.is_code v) }
+        ensures code { T (coding.is_code result) }
+        ensures evaluated { (ns : List ℕ) → Coded ns self.entry.code.now → x < length ns
+            → coding.evaluated result ≡ spec.value_at memory.now (spec.place_of ns x (coding.evaluated v)) }
+    {
+        let i = indexed(prepared::size_of(self.code, x), v);
+        if is_fault(i) {
+            return i;
+        }
+        cell_after(memory, prepared::first_cell(self.code, x), i as usize)
     }
-    cell_after(memory, prepared::first_cell(code, x), i as usize)
 }

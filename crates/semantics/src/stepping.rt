@@ -2,37 +2,27 @@
 
 ghost use Rattle.std.specs.Prelude.{◌≡◌, List, ℤ, pos, ℕ, ◌<◌, ◌+◌, min, length, replicate};
 ghost use Rattle.program.specs.Graph.{Graph, unnamed};
-ghost use Rattle.program.specs.Parts.Prepared.{Ordered, Coded, Prepared};
+ghost use Rattle.program.specs.Parts.Prepared.{Coded, Prepared};
 ghost use Rattle.semantics.specs.Action;
 ghost use Rattle.semantics.specs.Parts.Cells;
 ghost use Rattle.semantics.specs.Step as spec;
 ghost use Rattle.semantics.specs.Parts.Stepping;
 
-use crate::evaluator::{MEMORY, action};
+use crate::evaluator::{MEMORY, Machine};
 use crate::{Effect, Outcome, Run, Stepped};
 use program::prepared::{CELLS_MOST, CODE, GRAPH};
 use program::{Construction, Refusal, drawing, prepared, validation};
 
 // The most numbers behind a memory: one for each arithmetic entry.
-const NUMBERS_MOST: usize = 512;
-
-pub(crate) fn least(a: usize, b: usize) -> usize
-    ensures { result ≡ min a b }
-{
-    if a < b { a } else { b }
-}
+const NUMBERS_MOST: u16 = 512;
 
 // A memory's first 512 cells, into an array of zeros.
 fn put_memory(memory: &[i32], cells: &mut [i32; MEMORY])
     requires { cells.old ≡ replicate Cells.array_cells (pos 0) }
     ensures { Cells.Fronted memory.now cells.new }
 {
-    let end = least(memory.len(), CELLS_MOST);
-    let mut i: usize = 0;
-    while i < end {
-        cells[i] = memory[i];
-        i += 1;
-    }
+    let end = memory.len().min(CELLS_MOST);
+    cells[..end].copy_from_slice(&memory[..end]);
 }
 
 // A program's numbers, from cell 512 on.
@@ -40,11 +30,8 @@ fn put_numbers(code: &[u16; CODE], cells: &mut [i32])
     requires { length cells.old ≡ 1024 }
     ensures { Cells.Numbered code.now cells.old cells.new }
 {
-    let end = least(prepared::arithmetic_count(code) as usize, NUMBERS_MOST);
-    let mut n: usize = 0;
-    while n < end {
-        cells[CELLS_MOST + n] = prepared::number_at(code, n as u16);
-        n += 1;
+    for n in 0..prepared::arithmetic_count(code).min(NUMBERS_MOST) {
+        cells[CELLS_MOST + n as usize] = prepared::number_at(code, n);
     }
 }
 
@@ -67,43 +54,13 @@ fn leaves(graph: &[u16; GRAPH], edge: u16, node: u16) -> bool
     prepared::edge_source(graph, edge) == node
 }
 
-// Questions 12, 14 and 15 of a node, an edge and a memory of so many cells.
-fn ask_step(
-    code: &[u16; CODE],
-    graph: &[u16; GRAPH],
-    node: u16,
-    edge: u16,
-    cells: usize,
-) -> Result<(), Refusal>
-    ensures { (ns : List ℕ) (g : Graph) (m : List ℤ) → Prepared ns g code.now graph.now → length m ≡ cells
-        → result ≡ spec.step_validity ns g node m edge }
-{
-    let enough = validation::ask(cells == prepared::cell_count(code), 12, 0);
-    if validation::refused(enough) {
-        return enough;
-    }
-    let inside = validation::ask(node < prepared::node_count(graph), 14, 0);
-    if validation::refused(inside) {
-        return inside;
-    }
-    validation::ask(leaves(graph, edge, node), 15, 0)
-}
-
 // The run that has taken an edge to a node: past 65,535 edges the count stays.
 pub(crate) fn moved(run: Run, target: u16) -> Run
     ensures { result ≡ record { node = target; count = min (run.count + 1) 65535 } }
 {
-    let count = run.count;
-    if count < 65535 {
-        Run {
-            node: target,
-            count: count + 1,
-        }
-    } else {
-        Run {
-            node: target,
-            count: 65535,
-        }
+    Run {
+        node: target,
+        count: run.count.saturating_add(1),
     }
 }
 
@@ -111,13 +68,9 @@ pub(crate) fn moved(run: Run, target: u16) -> Run
 pub(crate) fn store(memory: &mut [i32], effect: Effect)
     ensures { memory.new ≡ Action.after memory.old effect }
 {
-    match effect {
-        Effect::Undefined(_) => {}
-        Effect::Unchanged => {}
-        Effect::Stored { cell, value } => {
-            if cell < memory.len() {
-                memory[cell] = value;
-            }
+    if let Effect::Stored { cell, value } = effect {
+        if cell < memory.len() {
+            memory[cell] = value;
         }
     }
 }
@@ -132,26 +85,11 @@ fn settled(run: Run, target: u16, effect: Effect, memory: &mut [i32]) -> Stepped
             run,
             outcome: Outcome::Undefined(fault),
         },
-        Effect::Unchanged => Stepped {
-            run: moved(run, target),
-            outcome: Outcome::Taken,
-        },
-        Effect::Stored { cell: _, value: _ } => Stepped {
+        _ => Stepped {
             run: moved(run, target),
             outcome: Outcome::Taken,
         },
     }
-}
-
-// The effect of an edge in a memory.
-fn edge_effect(code: &[u16; CODE], graph: &[u16; GRAPH], edge: u16, memory: &[i32]) -> Effect
-    requires { Ordered code.now }
-    ensures { (ns : List ℕ) (g : Graph) → Prepared ns g code.now graph.now → edge < length g.edges
-        → result ≡ spec.edge_effect ns g memory.now edge }
-{
-    let mut cells = [0i32; MEMORY];
-    copy_in(code, memory, &mut cells);
-    action::edge_effect(code, graph, &cells, edge)
 }
 
 // The reply of a refused step.
@@ -164,25 +102,46 @@ fn refused(run: Run, x: Refusal) -> Stepped
     }
 }
 
-// A step over a prepared program.
-fn step_prepared(
-    run: Run,
-    code: &[u16; CODE],
-    graph: &[u16; GRAPH],
-    edge: u16,
-    memory: &mut [i32],
-) -> Stepped
-    requires { Ordered code.now }
-    ensures { (ns : List ℕ) (g : Graph) → Prepared ns g code.now graph.now
-        → Stepping.StepsTo ns g run edge memory.old memory.new result }
-{
-    let v = ask_step(code, graph, run.node, edge, memory.len());
-    match v {
-        Ok(()) => {
-            let found = edge_effect(code, graph, edge, memory);
-            settled(run, prepared::edge_target(graph, edge), found, memory)
+impl Machine<'_> {
+    // Questions 12, 14 and 15 of a node, an edge and a memory of so many cells.
+    fn ask_step(self, node: u16, edge: u16, cells: usize) -> Result<(), Refusal>
+        ensures { (ns : List ℕ) (g : Graph) (m : List ℤ) → Prepared ns g self.entry.code.now self.entry.graph.now → length m ≡ cells
+            → result ≡ spec.step_validity ns g node m edge }
+    {
+        let enough = validation::ask(cells == prepared::cell_count(self.code), 12, 0);
+        if validation::refused(enough) {
+            return enough;
         }
-        Err(x) => refused(run, x),
+        let inside = validation::ask(node < prepared::node_count(self.graph), 14, 0);
+        if validation::refused(inside) {
+            return inside;
+        }
+        validation::ask(leaves(self.graph, edge, node), 15, 0)
+    }
+
+    // The effect of an edge in a memory, in a copy of it with the program's numbers behind.
+    fn copied_effect(self, edge: u16, memory: &[i32]) -> Effect
+        ensures { (ns : List ℕ) (g : Graph) → Prepared ns g self.entry.code.now self.entry.graph.now → edge < length g.edges
+            → result ≡ spec.edge_effect ns g memory.now edge }
+    {
+        let mut cells = [0i32; MEMORY];
+        copy_in(self.code, memory, &mut cells);
+        self.edge_effect(&cells, edge)
+    }
+
+    // A step over a prepared program.
+    fn step_prepared(self, run: Run, edge: u16, memory: &mut [i32]) -> Stepped
+        ensures { (ns : List ℕ) (g : Graph) → Prepared ns g self.entry.code.now self.entry.graph.now
+            → Stepping.StepsTo ns g run edge memory.old memory.new result }
+    {
+        let v = self.ask_step(run.node, edge, memory.len());
+        match v {
+            Ok(()) => {
+                let found = self.copied_effect(edge, memory);
+                settled(run, prepared::edge_target(self.graph, edge), found, memory)
+            }
+            Err(x) => refused(run, x),
+        }
     }
 }
 
@@ -210,7 +169,13 @@ impl Run {
         let mut graph = [0u16; GRAPH];
         let v = prepared::prepare(construction, program, &mut code, &mut graph);
         match v {
-            Ok(()) => step_prepared(self, &code, &graph, edge, memory),
+            Ok(()) => {
+                let machine = Machine {
+                    code: &code,
+                    graph: &graph,
+                };
+                machine.step_prepared(self, edge, memory)
+            }
             Err(x) => refused(self, x),
         }
     }

@@ -8,9 +8,9 @@ ghost use Rattle.semantics.specs.Action as spec;
 ghost use Rattle.semantics.specs.Parts.Coding as coding;
 ghost use Rattle.semantics.specs.Expression as expression;
 
-use super::{MEMORY, arithmetic, condition, indexed, is_fault, selection};
+use super::{MEMORY, Machine, indexed, is_fault};
 use crate::{Effect, Fault};
-use program::prepared::{CELLS_MOST, CODE, COMMANDS, CONDITIONS, GRAPH};
+use program::prepared::{CELLS_MOST, COMMANDS, CONDITIONS};
 use program::{ActionNode, prepared};
 use signs::Reason;
 
@@ -80,79 +80,6 @@ fn shifted(c: usize, i: usize) -> usize
     if CELLS_MOST <= c { 0 } else { c + i }
 }
 
-// The index of a store, as one number.
-fn store_index(code: &[u16; CODE], memory: &[i32; MEMORY], x: u16, i: u16) -> i64
-    requires { made.Ordered code.now }
-    ensures { (graph : List ℕ) → coding.IndexIn code.now memory.now x (arith_at (made.entries_in code.now graph) i) result }
-{
-    let v = arithmetic::any_operand(code, memory, i);
-    indexed(prepared::size_of(code, x), v)
-}
-
-// x := a.
-fn assigned(code: &[u16; CODE], memory: &[i32; MEMORY], x: u16, a: u16) -> Effect
-    requires { made.Ordered code.now }
-    ensures { (graph : List ℕ) → coding.EffectIn code.now memory.now
-        (assigns x (arith_at (made.entries_in code.now graph) a)) result }
-{
-    let v = arithmetic::any_value(code, memory, a);
-    stored(prepared::first_cell(code, x), v)
-}
-
-// A[i] := a.
-fn element_stored(code: &[u16; CODE], memory: &[i32; MEMORY], x: u16, i: u16, a: u16) -> Effect
-    requires { made.Ordered code.now }
-    ensures { (graph : List ℕ) → coding.EffectIn code.now memory.now
-        (stores x (arith_at (made.entries_in code.now graph) i) (arith_at (made.entries_in code.now graph) a)) result }
-{
-    let index = store_index(code, memory, x, i);
-    let v = arithmetic::any_operand(code, memory, a);
-    if is_fault(index) {
-        return failure(index);
-    }
-    stored(shifted(prepared::first_cell(code, x), index as usize), v)
-}
-
-// What an action does to a memory, a guard's without those before it.
-fn effect(
-    code: &[u16; CODE],
-    graph: &[u16; GRAPH],
-    memory: &[i32; MEMORY],
-    action: ActionNode,
-) -> Effect
-    requires { made.Ordered code.now }
-    ensures { coding.EffectIn code.now memory.now
-        (made.decoded_meaning (made.entries_in code.now graph.now) action) result }
-{
-    match action {
-        ActionNode::Nothing => Effect::Unchanged,
-        ActionNode::Assign(x, a) => assigned(code, memory, x, a),
-        ActionNode::Store(x, i, a) => element_stored(code, memory, x, i, a),
-        ActionNode::Holds(n) => passed(condition::truth(code, memory, CONDITIONS, n)),
-        ActionNode::Exit(n) => passed(condition::exit(code, graph, memory, COMMANDS, n)),
-        ActionNode::Guard(n) => passed(condition::truth(code, memory, CONDITIONS, n)),
-    }
-}
-
-// What an edge does to a memory: a guard of the deterministic graph comes after those of the lower edges out of its node.
-pub(crate) fn edge_effect(
-    code: &[u16; CODE],
-    graph: &[u16; GRAPH],
-    memory: &[i32; MEMORY],
-    e: u16,
-) -> Effect
-    requires { made.Ordered code.now }
-    ensures { coding.EffectIn code.now memory.now
-        (made.edge_meaning (made.entries_in code.now graph.now) graph.now e) result }
-{
-    if prepared::guards(graph, e) {
-        let v = selection::selected(code, graph, memory, e);
-        return passed(v);
-    }
-    let action = prepared::plain_action(graph, e);
-    effect(code, graph, memory, action)
-}
-
 // Puts a value into a cell, past the end nowhere; whether it is one.
 fn put(memory: &mut [i32], c: usize, v: i64) -> bool
     requires { T (coding.is_code v) }
@@ -167,51 +94,106 @@ fn put(memory: &mut [i32], c: usize, v: i64) -> bool
     true
 }
 
-// Performs x := a, where it is defined; whether it is.
-fn assign(code: &[u16; CODE], memory: &mut [i32; MEMORY], x: u16, a: u16) -> bool
-    requires { made.Ordered code.now }
-    ensures { (graph : List ℕ) → coding.Performs code.now memory.old
-        (assigns x (arith_at (made.entries_in code.now graph) a)) result memory.new }
-{
-    let v = arithmetic::any_value(code, memory, a);
-    put(memory, prepared::first_cell(code, x), v)
-}
-
-// Performs A[i] := a, where it is defined; whether it is.
-fn store_element(code: &[u16; CODE], memory: &mut [i32; MEMORY], x: u16, i: u16, a: u16) -> bool
-    requires { made.Ordered code.now }
-    ensures { (graph : List ℕ) → coding.Performs code.now memory.old
-        (stores x (arith_at (made.entries_in code.now graph) i) (arith_at (made.entries_in code.now graph) a)) result memory.new }
-{
-    let k = store_index(code, memory, x, i);
-    if is_fault(k) {
-        return false;
+impl Machine<'_> {
+    // The index of a store, as one number.
+    fn store_index(self, memory: &[i32; MEMORY], x: u16, i: u16) -> i64
+        ensures { (graph : List ℕ) → coding.IndexIn self.entry.code.now memory.now x (arith_at (made.entries_in self.entry.code.now graph) i) result }
+    {
+        let v = self.any_operand(memory, i);
+        indexed(prepared::size_of(self.code, x), v)
     }
-    let v = arithmetic::any_operand(code, memory, a);
-    put(
-        memory,
-        shifted(prepared::first_cell(code, x), k as usize),
-        v,
-    )
-}
 
-// Performs an action, a guard's without those before it, where it is defined; whether it is.
-pub(crate) fn perform(
-    code: &[u16; CODE],
-    graph: &[u16; GRAPH],
-    memory: &mut [i32; MEMORY],
-    action: ActionNode,
-) -> bool
-    requires { made.Ordered code.now }
-    ensures { coding.Performs code.now memory.old
-        (made.decoded_meaning (made.entries_in code.now graph.now) action) result memory.new }
-{
-    match action {
-        ActionNode::Nothing => true,
-        ActionNode::Assign(x, a) => assign(code, memory, x, a),
-        ActionNode::Store(x, i, a) => store_element(code, memory, x, i, a),
-        ActionNode::Holds(n) => condition::holds(code, memory, n) == 1,
-        ActionNode::Exit(n) => condition::exit(code, graph, memory, COMMANDS, n) == 1,
-        ActionNode::Guard(n) => condition::holds(code, memory, n) == 1,
+    // x := a.
+    fn assigned(self, memory: &[i32; MEMORY], x: u16, a: u16) -> Effect
+        ensures { (graph : List ℕ) → coding.EffectIn self.entry.code.now memory.now
+            (assigns x (arith_at (made.entries_in self.entry.code.now graph) a)) result }
+    {
+        let v = self.any_value(memory, a);
+        stored(prepared::first_cell(self.code, x), v)
+    }
+
+    // A[i] := a.
+    fn element_stored(self, memory: &[i32; MEMORY], x: u16, i: u16, a: u16) -> Effect
+        ensures { (graph : List ℕ) → coding.EffectIn self.entry.code.now memory.now
+            (stores x (arith_at (made.entries_in self.entry.code.now graph) i) (arith_at (made.entries_in self.entry.code.now graph) a)) result }
+    {
+        let index = self.store_index(memory, x, i);
+        let v = self.any_operand(memory, a);
+        if is_fault(index) {
+            return failure(index);
+        }
+        stored(
+            shifted(prepared::first_cell(self.code, x), index as usize),
+            v,
+        )
+    }
+
+    // What an action does to a memory, a guard's without those before it.
+    fn effect(self, memory: &[i32; MEMORY], action: ActionNode) -> Effect
+        ensures { coding.EffectIn self.entry.code.now memory.now
+            (made.decoded_meaning (made.entries_in self.entry.code.now self.entry.graph.now) action) result }
+    {
+        match action {
+            ActionNode::Nothing => Effect::Unchanged,
+            ActionNode::Assign(x, a) => self.assigned(memory, x, a),
+            ActionNode::Store(x, i, a) => self.element_stored(memory, x, i, a),
+            ActionNode::Holds(n) => passed(self.truth(memory, CONDITIONS, n)),
+            ActionNode::Exit(n) => passed(self.exit(memory, COMMANDS, n)),
+            ActionNode::Guard(n) => passed(self.truth(memory, CONDITIONS, n)),
+        }
+    }
+
+    // What an edge does to a memory: a guard of the deterministic graph comes after those of the lower edges out of its node.
+    pub(crate) fn edge_effect(self, memory: &[i32; MEMORY], e: u16) -> Effect
+        ensures { coding.EffectIn self.entry.code.now memory.now
+            (made.edge_meaning (made.entries_in self.entry.code.now self.entry.graph.now) self.entry.graph.now e) result }
+    {
+        if prepared::guards(self.graph, e) {
+            let v = self.selected(memory, e);
+            return passed(v);
+        }
+        let action = prepared::plain_action(self.graph, e);
+        self.effect(memory, action)
+    }
+
+    // Performs x := a, where it is defined; whether it is.
+    fn assign(self, memory: &mut [i32; MEMORY], x: u16, a: u16) -> bool
+        ensures { (graph : List ℕ) → coding.Performs self.entry.code.now memory.old
+            (assigns x (arith_at (made.entries_in self.entry.code.now graph) a)) result memory.new }
+    {
+        let v = self.any_value(memory, a);
+        put(memory, prepared::first_cell(self.code, x), v)
+    }
+
+    // Performs A[i] := a, where it is defined; whether it is.
+    fn store_element(self, memory: &mut [i32; MEMORY], x: u16, i: u16, a: u16) -> bool
+        ensures { (graph : List ℕ) → coding.Performs self.entry.code.now memory.old
+            (stores x (arith_at (made.entries_in self.entry.code.now graph) i) (arith_at (made.entries_in self.entry.code.now graph) a)) result memory.new }
+    {
+        let k = self.store_index(memory, x, i);
+        if is_fault(k) {
+            return false;
+        }
+        let v = self.any_operand(memory, a);
+        put(
+            memory,
+            shifted(prepared::first_cell(self.code, x), k as usize),
+            v,
+        )
+    }
+
+    // Performs an action, a guard's without those before it, where it is defined; whether it is.
+    pub(crate) fn perform(self, memory: &mut [i32; MEMORY], action: ActionNode) -> bool
+        ensures { coding.Performs self.entry.code.now memory.old
+            (made.decoded_meaning (made.entries_in self.entry.code.now self.entry.graph.now) action) result memory.new }
+    {
+        match action {
+            ActionNode::Nothing => true,
+            ActionNode::Assign(x, a) => self.assign(memory, x, a),
+            ActionNode::Store(x, i, a) => self.store_element(memory, x, i, a),
+            ActionNode::Holds(n) => self.holds(memory, n) == 1,
+            ActionNode::Exit(n) => self.exit(memory, COMMANDS, n) == 1,
+            ActionNode::Guard(n) => self.holds(memory, n) == 1,
+        }
     }
 }

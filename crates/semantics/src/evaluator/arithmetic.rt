@@ -1,10 +1,10 @@
 // The values of arithmetic expressions in a memory, over a prepared program. References are followed without a test: its code is ordered.
 ghost use Rattle.std.specs.Prelude.{◌≡◌, List, ℕ, ◌+◌, ◌*◌, ◌<◌, get_or};
-ghost use Rattle.program.specs.Parts.Prepared.{expressions_most, arithmetic_count_place, arith_in, entries_in, Ordered};
+ghost use Rattle.program.specs.Parts.Prepared.{expressions_most, arithmetic_count_place, arith_in, entries_in};
 ghost use Rattle.program.specs.Tree.{arith_at};
 ghost use Rattle.semantics.specs.Parts.Coding.{ValueIn};
 
-use super::{MEMORY, cell_value, element, is_fault, operate};
+use super::{MEMORY, Machine, cell_value, is_fault, operate};
 use program::prepared::CODE;
 use program::{ArithNode, decoding, prepared};
 
@@ -25,64 +25,62 @@ fn leaf_cell(code: &[u16; CODE], n: u16) -> u16
     code[4 * n as usize + 3]
 }
 
-// The value of arithmetic entry `n` as one number.
-#[cycle(operand_value)]
-fn value(code: &[u16; CODE], memory: &[i32; MEMORY], n: u16) -> i64
-    requires ordered { Ordered code.now }
-    requires inside { n < get_or code.now arithmetic_count_place 0 }
-    ensures { (graph : List ℕ) → ValueIn code.now memory.now (arith_at (entries_in code.now graph) n) result }
-{
-    let what = node(code, n);
-    match what {
-        ArithNode::Number(z) => z as i64,
-        ArithNode::Variable(x) => cell_value(memory, prepared::first_cell(code, x)),
-        ArithNode::Element(x, i) => {
-            let v = operand(code, memory, i);
-            element(code, memory, x, v)
-        }
-        ArithNode::Operator(o, p, q) => {
-            let a = operand(code, memory, p);
-            if is_fault(a) {
-                return a;
+impl Machine<'_> {
+    // The value of arithmetic entry `n` as one number.
+    #[cycle(operand_value)]
+    fn value(self, memory: &[i32; MEMORY], n: u16) -> i64
+        requires { n < get_or self.code.now arithmetic_count_place 0 }
+        ensures { (graph : List ℕ) → ValueIn self.entry.code.now memory.now (arith_at (entries_in self.entry.code.now graph) n) result }
+    {
+        let what = node(self.code, n);
+        match what {
+            ArithNode::Number(z) => z as i64,
+            ArithNode::Variable(x) => cell_value(memory, prepared::first_cell(self.code, x)),
+            ArithNode::Element(x, i) => {
+                let v = self.operand(memory, i);
+                self.element(memory, x, v)
             }
-            let b = operand(code, memory, q);
-            operate(o, a, b)
+            ArithNode::Operator(o, p, q) => {
+                let a = self.operand(memory, p);
+                if is_fault(a) {
+                    return a;
+                }
+                let b = self.operand(memory, q);
+                operate(o, a, b)
+            }
         }
     }
-}
 
-// The same of an entry that is often a leaf: its cell is read where it stands, without a call.
-#[cycle(operand_value)]
-fn operand(code: &[u16; CODE], memory: &[i32; MEMORY], n: u16) -> i64
-    requires ordered { Ordered code.now }
-    requires inside { n < get_or code.now arithmetic_count_place 0 }
-    ensures { (graph : List ℕ) → ValueIn code.now memory.now (arith_at (entries_in code.now graph) n) result }
-{
-    let c = leaf_cell(code, n) as usize;
-    if c < MEMORY {
-        return cell_value(memory, c);
+    // The same of an entry that is often a leaf: its cell is read where it stands, without a call.
+    #[cycle(operand_value)]
+    fn operand(self, memory: &[i32; MEMORY], n: u16) -> i64
+        requires { n < get_or self.code.now arithmetic_count_place 0 }
+        ensures { (graph : List ℕ) → ValueIn self.entry.code.now memory.now (arith_at (entries_in self.entry.code.now graph) n) result }
+    {
+        let c = leaf_cell(self.code, n) as usize;
+        if c < MEMORY {
+            return cell_value(memory, c);
+        }
+        self.value(memory, n)
     }
-    value(code, memory, n)
-}
 
-// The value of any entry: past the last it is the number 0.
-pub(crate) fn any_value(code: &[u16; CODE], memory: &[i32; MEMORY], n: u16) -> i64
-    requires { Ordered code.now }
-    ensures { (graph : List ℕ) → ValueIn code.now memory.now (arith_at (entries_in code.now graph) n) result }
-{
-    if n < prepared::arithmetic_count(code) {
-        return value(code, memory, n);
+    // The value of any entry: past the last it is the number 0.
+    pub(crate) fn any_value(self, memory: &[i32; MEMORY], n: u16) -> i64
+        ensures { (graph : List ℕ) → ValueIn self.entry.code.now memory.now (arith_at (entries_in self.entry.code.now graph) n) result }
+    {
+        if n < prepared::arithmetic_count(self.code) {
+            return self.value(memory, n);
+        }
+        0
     }
-    0
-}
 
-// The same of one that is often a leaf.
-pub(crate) fn any_operand(code: &[u16; CODE], memory: &[i32; MEMORY], n: u16) -> i64
-    requires { Ordered code.now }
-    ensures { (graph : List ℕ) → ValueIn code.now memory.now (arith_at (entries_in code.now graph) n) result }
-{
-    if n < prepared::arithmetic_count(code) {
-        return operand(code, memory, n);
+    // The same of one that is often a leaf.
+    pub(crate) fn any_operand(self, memory: &[i32; MEMORY], n: u16) -> i64
+        ensures { (graph : List ℕ) → ValueIn self.entry.code.now memory.now (arith_at (entries_in self.entry.code.now graph) n) result }
+    {
+        if n < prepared::arithmetic_count(self.code) {
+            return self.operand(memory, n);
+        }
+        0
     }
-    0
 }

@@ -4,65 +4,45 @@ ghost use Rattle.program.specs.Parts.Prepared as made;
 ghost use Rattle.semantics.specs.Parts.Coding as coding;
 ghost use Rattle.semantics.specs.Parts.Selecting as parts;
 
-use super::{MEMORY, both, condition, negated};
-use program::prepared::{CODE, GRAPH};
+use super::{MEMORY, Machine, both, negated};
 use program::{ActionNode, prepared};
 
-// The truth of an edge's own guard, as one number; of an edge that is no guard's, true.
-pub(crate) fn own(code: &[u16; CODE], graph: &[u16; GRAPH], memory: &[i32; MEMORY], e: u16) -> i64
-    requires { made.Ordered code.now }
-    ensures { coding.TruthIn code.now memory.now
-        (made.own_in (made.entries_in code.now graph.now) (made.action_in graph.now e)) result }
-{
-    let action = prepared::action(graph, e);
-    match action {
-        ActionNode::Nothing => 1,
-        ActionNode::Assign(_, _) => 1,
-        ActionNode::Store(_, _, _) => 1,
-        ActionNode::Holds(_) => 1,
-        ActionNode::Exit(_) => 1,
-        ActionNode::Guard(n) => condition::holds(code, memory, n),
+impl Machine<'_> {
+    // The truth of an edge's own guard, as one number; of an edge that is no guard's, true.
+    pub(crate) fn own(self, memory: &[i32; MEMORY], e: u16) -> i64
+        ensures { coding.TruthIn self.entry.code.now memory.now
+            (made.own_in (made.entries_in self.entry.code.now self.entry.graph.now) (made.action_in self.entry.graph.now e)) result }
+    {
+        let action = prepared::action(self.graph, e);
+        match action {
+            ActionNode::Guard(n) => self.holds(memory, n),
+            _ => 1,
+        }
     }
-}
 
-// A truth so far, and that the guard of edge `k` fails, where the edge leaves a node.
-fn and_fails(
-    code: &[u16; CODE],
-    graph: &[u16; GRAPH],
-    memory: &[i32; MEMORY],
-    node: u16,
-    k: u16,
-    v: i64,
-) -> i64
-    requires { made.Ordered code.now }
-    ensures { parts.FailsAfter code.now memory.now (parts.guard_at (made.entries_in code.now graph.now) graph.now node k) v result }
-{
-    if prepared::edge_source(graph, k) == node {
-        let a = own(code, graph, memory, k);
-        return both(v, negated(a));
+    // A truth so far, and that the guard of edge `k` fails, where the edge leaves a node.
+    fn and_fails(self, memory: &[i32; MEMORY], node: u16, k: u16, v: i64) -> i64
+        ensures { parts.FailsAfter self.entry.code.now memory.now (parts.guard_at (made.entries_in self.entry.code.now self.entry.graph.now) self.entry.graph.now node k) v result }
+    {
+        if prepared::edge_source(self.graph, k) == node {
+            let a = self.own(memory, k);
+            return both(v, negated(a));
+        }
+        v
     }
-    v
-}
 
-// The truth of an edge's guard after those of the lower edges out of its node, all worked out, its own last.
-pub(crate) fn selected(
-    code: &[u16; CODE],
-    graph: &[u16; GRAPH],
-    memory: &[i32; MEMORY],
-    e: u16,
-) -> i64
-    requires { made.Ordered code.now }
-    ensures { coding.TruthIn code.now memory.now
-        (graphs.selected (made.guards_in (made.entries_in code.now graph.now) graph.now (made.source_in graph.now e) e)
-        (made.own_in (made.entries_in code.now graph.now) (made.action_in graph.now e))) result }
-{
-    let node = prepared::edge_source(graph, e);
-    let mut v: i64 = 1;
-    let mut k: u16 = 0;
-    while k < e {
-        v = and_fails(code, graph, memory, node, k, v);
-        k += 1;
+    // The truth of an edge's guard after those of the lower edges out of its node, all worked out, its own last.
+    pub(crate) fn selected(self, memory: &[i32; MEMORY], e: u16) -> i64
+        ensures { coding.TruthIn self.entry.code.now memory.now
+            (graphs.selected (made.guards_in (made.entries_in self.entry.code.now self.entry.graph.now) self.entry.graph.now (made.source_in self.entry.graph.now e) e)
+            (made.own_in (made.entries_in self.entry.code.now self.entry.graph.now) (made.action_in self.entry.graph.now e))) result }
+    {
+        let node = prepared::edge_source(self.graph, e);
+        let mut v: i64 = 1;
+        for k in 0..e {
+            v = self.and_fails(memory, node, k, v);
+        }
+        let last = self.own(memory, e);
+        both(v, last)
     }
-    let last = own(code, graph, memory, e);
-    both(v, last)
 }

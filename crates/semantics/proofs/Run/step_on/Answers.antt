@@ -19,10 +19,6 @@ whole : {κ : Construction} {s : List ℕ} {run : Run} {e : ℕ} {m m' : List �
 unfolding step_row
 whole k = record { value = (k.reply, k.memory); numbers = ap stepped_numbers k.reply }
 
-pub step_prepared-requires : goal.step_prepared-requires
-step_prepared-requires c =
-    (c.prepare-v.ensures.prepared c.in-Ok.is).coded.ordered
-
 pub returns-in-Ok : goal.returns-in-Ok
 returns-in-Ok c =
     let made = c.prepare-v.ensures in

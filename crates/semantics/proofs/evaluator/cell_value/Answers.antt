@@ -5,7 +5,6 @@ use lib.IntN.{pos}
 use lib.ListN.{get_or, get_or-eq_default}
 use mir.Syntax.{w32}
 use mir.Val.{SFits}
-use Rattle.signs.proofs.Signed.{widens}
 use Rattle.signs.specs.Number.{in_range}
 use Rattle.semantics.specs.Parts.Coding.{evaluated, is_code}
 use Rattle.semantics.specs.Expression.{cell_value}
@@ -15,9 +14,6 @@ use Rattle.semantics.proofs.evaluator.cell_value.Goals.{After-result-1}
 
 fits : (c : After-result-1) → SFits w32 (get_or c.args.memory.now c.args.c (pos 0))
 fits c = record { sfits = c.result-1.given }
-
-pub overflow_cast-result : goal.overflow_cast-result
-overflow_cast-result c = widens _ (fits (goal.at.overflow_cast-result c).After-result-1)
 
 pub returns-then-c-memory : goal.returns-then-c-memory
 unfolding cell_value

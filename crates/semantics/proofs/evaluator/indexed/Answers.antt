@@ -7,7 +7,7 @@ use mir.Facts.{sfits_lit}
 use mir.Syntax.{w64}
 use mir.ValLaws.{to_z-of_z}
 use Rattle.signs.proofs.Signed.{less}
-use Rattle.semantics.proofs.Coded.{is_fault, tested, handed, natural, index_fault, index_negative, index_large, index_inside}
+use Rattle.semantics.proofs.Coded.{is_fault, tested, handed, index_fault, index_negative, index_large, index_inside}
 use Rattle.semantics.proofs.evaluator.indexed.Goals as goal
 use Rattle.semantics.proofs.evaluator.indexed.Goals.{Else-is_fault, Else-v-lt0}
 
@@ -27,9 +27,6 @@ returns-then-v-lt0 c =
     let below = less w64 c.args.v (pos 0) c.ranges.v (sfits_lit tt) c.if-v-lt0.true in
     rw (handed c.fault_code.result c.fault_code.type_inv)
     (index_negative _ c.args.v (no_fault (goal.at.returns-then-v-lt0 c).Else-is_fault) below _ c.fault_code.ensures.code c.fault_code.ensures.evaluated)
-
-pub overflow_cast-v : goal.overflow_cast-v
-overflow_cast-v c = natural _ c.ranges.v (not_negative (goal.at.overflow_cast-v c).Else-v-lt0)
 
 pub returns-then-size-v : goal.returns-then-size-v
 returns-then-size-v c =

@@ -2,7 +2,6 @@
 use mir.Syntax.{w32}
 use borrow.Author.Rules.{rules}
 use mir.Val.{SFits}
-use Rattle.signs.proofs.Signed.{widens}
 use Rattle.semantics.specs.Expression.{operated}
 use Rattle.semantics.proofs.Coded.{handed, small_handed}
 use Rattle.semantics.proofs.evaluator.value_code.Goals as goal
@@ -10,9 +9,6 @@ use Rattle.semantics.proofs.evaluator.value_code.Goals.{In-Ok}
 
 fits : (c : In-Ok) → SFits w32 c.in-Ok.z
 fits c = search rules
-
-pub overflow_cast-result : goal.overflow_cast-result
-overflow_cast-result c = widens c.in-Ok.z (fits (goal.at.overflow_cast-result c).In-Ok)
 
 pub returns-in-Ok : goal.returns-in-Ok
 unfolding operated

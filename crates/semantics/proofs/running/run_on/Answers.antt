@@ -16,12 +16,6 @@ whole : (κ : Construction) (s : List ℕ) (budget : ℕ) (m : List ℤ) {m' : L
 unfolding budget_reply run_row
 whole κ s budget m k = record { value = (k.reply, k.memory); numbers = ap ended_numbers k.reply }
 
-pub run_prepared-requires : goal.run_prepared-requires
-run_prepared-requires c =
-    let made = c.prepare_linked-v.ensures in
-    let fit = c.in-Ok.is in
-    record { ordered = (made.prepared.prepared fit).coded.ordered; linked = made.linked fit }
-
 pub returns-in-Ok : goal.returns-in-Ok
 returns-in-Ok c =
     let made = c.prepare_linked-v.ensures.prepared in

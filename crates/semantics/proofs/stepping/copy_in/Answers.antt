@@ -2,12 +2,5 @@
 use Rattle.semantics.proofs.Padding.{placed}
 use Rattle.semantics.proofs.stepping.copy_in.Goals as goal
 
-pub put_numbers-requires : goal.put_numbers-requires
-put_numbers-requires c = c.put_memory.ensures.room
-
 pub returns : goal.returns
 returns c ns coded = placed ns _ coded _ _ _ c.put_memory.ensures c.put_numbers.ensures
-
-pub put_memory-requires : goal.put_memory-requires
-put_memory-requires c =
-    c.requires

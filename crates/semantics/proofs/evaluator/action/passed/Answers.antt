@@ -1,5 +1,5 @@
 -- `evaluator::action::passed`: a fault, true or false.
-use mathlib.Core.Path.{◌≡◌, sym, ◌∙◌}
+use mathlib.Core.Path.{◌≡◌}
 use mathlib.Core.Bool.{false}
 use mir.Syntax.{w64}
 use mir.ValLaws.{to_z-of_z}
@@ -7,9 +7,6 @@ use Rattle.semantics.specs.Action.{pass}
 use Rattle.semantics.proofs.Coded.{is_fault, tested, fault_decided, truth_decided, one_decided, other_bits}
 use Rattle.semantics.proofs.evaluator.action.passed.Goals as goal
 use Rattle.semantics.proofs.evaluator.action.passed.Goals.{Else-is_fault}
-
-pub failure-requires : goal.failure-requires
-failure-requires c = sym c.is_fault.ensures ∙ c.if-is_fault.true
 
 pub returns-then-is_fault : goal.returns-then-is_fault
 unfolding pass

@@ -1,5 +1,5 @@
 -- `evaluator::action::stored`: a fault, or a number of 32 bits.
-use mathlib.Core.Path.{◌≡◌, sym, ◌∙◌}
+use mathlib.Core.Path.{◌≡◌}
 use mathlib.Core.Bool.{false}
 use mir.Syntax.{w32, w64}
 use mir.Val.{SFits}
@@ -8,9 +8,6 @@ use Rattle.semantics.specs.Action.{store_to}
 use Rattle.semantics.proofs.Coded.{is_fault, tested, fault_evaluated, number_evaluated, code_small, narrow}
 use Rattle.semantics.proofs.evaluator.action.stored.Goals as goal
 use Rattle.semantics.proofs.evaluator.action.stored.Goals.{Else-is_fault}
-
-pub failure-requires : goal.failure-requires
-failure-requires c = sym c.is_fault.ensures ∙ c.if-is_fault.true
 
 pub returns-then-is_fault : goal.returns-then-is_fault
 unfolding store_to

@@ -1,5 +1,0 @@
--- The cycle of calls {`semantics::evaluator::condition::exit`}: a part is lower than what it is a part of, so the measure is `bound`.
-use Rattle.semantics.proofs.evaluator.condition.+exit.Given as goal
-
-abbrev pub decreases-exit : goal.decreases-exit
-decreases-exit l = l.bound

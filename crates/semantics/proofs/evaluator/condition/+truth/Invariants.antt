@@ -1,5 +1,0 @@
--- The cycle of calls {`semantics::evaluator::condition::truth`}: a part is lower than what it is a part of, so the measure is `bound`.
-use Rattle.semantics.proofs.evaluator.condition.+truth.Given as goal
-
-abbrev pub decreases-truth : goal.decreases-truth
-decreases-truth l = l.bound
