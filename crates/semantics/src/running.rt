@@ -135,12 +135,8 @@ impl Runner<'_> {
         ensures { (ns : List ℕ) (g : Graph) → Prepared ns g self.entry.machine.code.now self.entry.machine.graph.now
             → Running.EndsAs (spec.budgeted ns g budget memory.old) memory.new result }
     {
-        let v = validation::ask(
-            memory.len() == prepared::cell_count(self.machine.code),
-            12,
-            0,
-        );
-        match v {
+        let cells = prepared::cell_count(self.machine.code);
+        match validation::ask(memory.len() == cells, 12, 0) {
             Ok(()) => self.run_copied(budget, memory),
             Err(x) => refused(x),
         }
@@ -156,8 +152,7 @@ pub fn run_on(construction: Construction, program: &[u8], budget: u16, memory: &
 {
     let mut code = [0u16; CODE];
     let mut graph = [0u16; GRAPH];
-    let v = prepared::prepare_linked(construction, program, &mut code, &mut graph);
-    match v {
+    match prepared::prepare_linked(construction, program, &mut code, &mut graph) {
         Ok(()) => {
             let machine = Machine {
                 code: &code,

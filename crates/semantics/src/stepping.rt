@@ -108,14 +108,8 @@ impl Machine<'_> {
         ensures { (ns : List ℕ) (g : Graph) (m : List ℤ) → Prepared ns g self.entry.code.now self.entry.graph.now → length m ≡ cells
             → result ≡ spec.step_validity ns g node m edge }
     {
-        let enough = validation::ask(cells == prepared::cell_count(self.code), 12, 0);
-        if validation::refused(enough) {
-            return enough;
-        }
-        let inside = validation::ask(node < prepared::node_count(self.graph), 14, 0);
-        if validation::refused(inside) {
-            return inside;
-        }
+        validation::ask(cells == prepared::cell_count(self.code), 12, 0)?;
+        validation::ask(node < prepared::node_count(self.graph), 14, 0)?;
         validation::ask(leaves(self.graph, edge, node), 15, 0)
     }
 
@@ -134,8 +128,7 @@ impl Machine<'_> {
         ensures { (ns : List ℕ) (g : Graph) → Prepared ns g self.entry.code.now self.entry.graph.now
             → Stepping.StepsTo ns g run edge memory.old memory.new result }
     {
-        let v = self.ask_step(run.node, edge, memory.len());
-        match v {
+        match self.ask_step(run.node, edge, memory.len()) {
             Ok(()) => {
                 let found = self.copied_effect(edge, memory);
                 settled(run, prepared::edge_target(self.graph, edge), found, memory)
@@ -167,8 +160,7 @@ impl Run {
     {
         let mut code = [0u16; CODE];
         let mut graph = [0u16; GRAPH];
-        let v = prepared::prepare(construction, program, &mut code, &mut graph);
-        match v {
+        match prepared::prepare(construction, program, &mut code, &mut graph) {
             Ok(()) => {
                 let machine = Machine {
                     code: &code,

@@ -21,10 +21,10 @@ whole k = record { value = (k.reply, k.memory); numbers = ap stepped_numbers k.r
 
 pub returns-in-Ok : goal.returns-in-Ok
 returns-in-Ok c =
-    let made = c.prepare-v.ensures in
+    let made = c.prepare.ensures in
     whole (program_replied _ _ _ _ _ (sym made.asked ∙ c.in-Ok.is) _ _ (c.step_prepared.ensures _ _ (made.prepared c.in-Ok.is)))
 
 pub returns-in-Err : goal.returns-in-Err
 returns-in-Err c =
-    let made = c.prepare-v.ensures in
+    let made = c.prepare.ensures in
     rw c.refused.ensures (whole (program_refused _ _ _ _ _ _ (sym made.asked ∙ c.in-Err.is)))

@@ -18,11 +18,11 @@ whole κ s budget m k = record { value = (k.reply, k.memory); numbers = ap ended
 
 pub returns-in-Ok : goal.returns-in-Ok
 returns-in-Ok c =
-    let made = c.prepare_linked-v.ensures.prepared in
+    let made = c.prepare_linked.ensures.prepared in
     let fit = c.in-Ok.is in
     whole _ _ _ _ (rw (program_budgeted_lem _ _ (sym made.asked ∙ fit) _ _) (c.run_prepared.ensures _ _ (made.prepared fit)))
 
 pub returns-in-Err : goal.returns-in-Err
 returns-in-Err c =
-    let made = c.prepare_linked-v.ensures.prepared in
+    let made = c.prepare_linked.ensures.prepared in
     whole _ _ _ _ (rw (refused_budgeted _ _ _ (sym made.asked ∙ c.in-Err.is) _ _) (record { reply = c.refused.ensures; memory = refl }))

@@ -13,7 +13,7 @@ use Rattle.semantics.proofs.evaluator.Machine.step_prepared.Goals.{In-Ok}
 -- the questions, all answered yes
 fit : (c : In-Ok) (ns : List ℕ) (g : Graph) → Prepared ns g c.args.self.code.now c.args.self.graph.now
     → step_validity ns g c.args.run.node c.args.memory.now c.args.edge ≡ Ok tt
-fit c ns g p = sym (c.ask_step-v.ensures ns g c.args.memory.now p refl) ∙ c.in-Ok.is
+fit c ns g p = sym (c.ask_step.ensures ns g c.args.memory.now p refl) ∙ c.in-Ok.is
 
 pub returns-in-Ok : goal.returns-in-Ok
 returns-in-Ok c ns g p =
@@ -23,4 +23,4 @@ returns-in-Ok c ns g p =
 
 pub returns-in-Err : goal.returns-in-Err
 returns-in-Err c ns g p =
-    rw c.refused.ensures (step_refused ns g _ _ _ _ (sym (c.ask_step-v.ensures ns g c.args.memory.now p refl) ∙ c.in-Err.is))
+    rw c.refused.ensures (step_refused ns g _ _ _ _ (sym (c.ask_step.ensures ns g c.args.memory.now p refl) ∙ c.in-Err.is))
