@@ -8,3 +8,7 @@ pub returns-in-Comparison : goal.returns-in-Comparison
 unfolding boolean_made
 returns-in-Comparison c graph =
     rw (handed c.comparison.result c.comparison.type_inv, boolean_told _ _ _ (c.boolean_node-node.ensures graph) c.in-Comparison.is) (c.comparison.ensures graph _)
+
+-- the check finds this one alone: it stands so that a wrong table is refused for what differs
+pub returns-in_default : goal.returns-in_default
+returns-in_default c graph = rw (handed c.truth.result c.truth.type_inv) (c.truth.ensures graph)

@@ -34,7 +34,7 @@ pub returns-in_default : goal.returns-in_default
 unfolding reason_numbered
 returns-in_default c =
     let k = c.args.k in
-    let high : 36 ≤ k = omega (arith, c.if-k-le31.false, c.in_default.in_default-own.rest.1, c.in_default.in_default-own.rest.0.1, c.in_default.in_default-own.rest.0.0.1, c.in_default.in_default-own.rest.0.0.0.1) in
+    let high : 36 ≤ k = omega arith in
     ⊎_elim
     (λ e. rw (← e))
     (λ h.
