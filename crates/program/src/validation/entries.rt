@@ -82,7 +82,7 @@ fn check_arithmetic(
         // a number: P and Q together
         0 => {
             let r = operands::unused(e.r);
-            operands::settled(0, 0, r, at)
+            operands::settled(Ok(()), Ok(()), r, at)
         }
         // variable P
         1 => {
