@@ -58,18 +58,17 @@ fn command_kind(s: &[u8], l: Layout, n: u16) -> u8
     requires { Layouts.LaidOut s.now l }
     ensures { result ≡ (File.entry s.now Table.Commands n).kind }
 {
-    let span = l.commands;
-    file::byte_at(s, span.start + 7 * file::long(n))
+    file::byte_at(s, l.commands.start + 7 * n as usize)
 }
 
 // Whether entry `x` of a sort's table is of that sort.
+#[tactic(auto, unfolding(crate::specs::Questions::of_sort))]
 fn of_sort(s: &[u8], l: Layout, sort: Sort, x: u16) -> bool
     requires { Layouts.LaidOut s.now l }
     ensures { result ≡ Questions.of_sort s.now sort x }
 {
     match sort {
-        Sort::Expression => true,
-        Sort::Condition => true,
+        Sort::Expression | Sort::Condition => true,
         Sort::Command => kinds::is_command(command_kind(s, l, x)),
         Sort::Guarded => kinds::is_guarded(command_kind(s, l, x)),
     }
