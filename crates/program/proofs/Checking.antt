@@ -1,16 +1,18 @@
 -- Laws of the checks of an entry: its answer by those of its operands.
+use Rattle.std.specs.Prelude.{Ok, Err}
 use mathlib.Core.Path.{◌≡◌, refl, sym, ◌∙◌, ap}
 use mathlib.Core.Bool.{Bool, true, false, false≢true, not, ◌&&◌, ◌||◌}
 use mathlib.Core.List.{List, [], ◌∷◌}
 use Prim.Native.Nat.{ℕ}
 use Rattle.program.specs.Asking.{ask, in_turn, Validity}
-use Rattle.program.specs.Parts.Checking.{OperandChecked, any_answer, Standing, EntryChecked}
+use Rattle.program.specs.Parts.Checking.{Answer, has, OperandChecked, any_has, Standing, EntryChecked}
 use Rattle.program.specs.Parts.Counting.{Counted}
 use Rattle.program.specs.Parts.Layouts.{LaidOut}
 use Rattle.program.specs.File.{span_of, entry}
 use Rattle.program.specs.Kind.{Role, Half, Roles, Unknown, Known, shape}
 use Rattle.program.specs.Questions.{named, points, same_table, limit, each_operand, shape_validity, entry_validity, refers_to, shape_uses, entry_uses}
 use Rattle.program.specs.declared.Entry.{Entry}
+use Rattle.program.specs.declared.validation.operands.Flaw.TheVariants.{Unnamed, Astray}
 use Rattle.program.specs.declared.Layout.{Layout}
 use Rattle.program.specs.declared.Table.{Table}
 use Rattle.program.specs.declared.Table.TheVariants.{Arithmetic, Boolean, Commands}
@@ -22,25 +24,29 @@ use Rattle.program.proofs.Tests.{three}
 module _ (s : List ℕ) (t : Table) (n : ℕ) (role : Role) (x : ℕ) where
   -- an operand that refers to no entry: question 8 is answered yes, or no
   module _ (anywhere : points s t n role x ≡ true) (none : (u : Table) (k : ℕ) → refers_to u k role x ≡ 0) {a : List ℕ} where
-    pub named_checked : named s role x ≡ true → OperandChecked s t n role x a a 0
+    pub named_checked : named s role x ≡ true → OperandChecked s t n role x a a (Ok tt)
+    unfolding has
     named_checked h =
         record { eight = rw h refl; nine = rw anywhere refl; counted = λ h k. counted_none a _ (λ u m l. none u m) }
 
-    pub unnamed_checked : named s role x ≡ false → OperandChecked s t n role x a a 8
+    pub unnamed_checked : named s role x ≡ false → OperandChecked s t n role x a a (Err Unnamed)
+    unfolding has
     unnamed_checked h =
         record { eight = rw h refl; nine = rw anywhere refl; counted = λ h k. counted_none a _ (λ u m l. none u m) }
 
   -- a reference: question 9 is answered yes, and it is counted, or no
   module _ (reference : named s role x ≡ true) {a b : List ℕ} where
-    pub pointing_checked : points s t n role x ≡ true → Counted a b (λ u k. refers_to u k role x) → OperandChecked s t n role x a b 0
+    pub pointing_checked : points s t n role x ≡ true → Counted a b (λ u k. refers_to u k role x) → OperandChecked s t n role x a b (Ok tt)
+    unfolding has
     pointing_checked h counted = record { eight = rw reference refl; nine = rw h refl; counted = λ _ _. counted }
 
-    pub astray_checked : points s t n role x ≡ false → OperandChecked s t n role x a b 9
+    pub astray_checked : points s t n role x ≡ false → OperandChecked s t n role x a b (Err Astray)
+    unfolding has
     astray_checked h =
         record { eight = rw reference refl; nine = rw h refl; counted = λ _ k. absurd (false≢true (sym h ∙ k)) }
 
 -- half of a number
-pub half_checked : (s : List ℕ) (t : Table) (n x : ℕ) {a : List ℕ} → OperandChecked s t n Half x a a 0
+pub half_checked : (s : List ℕ) (t : Table) (n x : ℕ) {a : List ℕ} → OperandChecked s t n Half x a a (Ok tt)
 unfolding named points refers_to
 half_checked s t n x = named_checked s t n Half x refl (λ u k. refl) refl
 
@@ -60,7 +66,7 @@ module _ (s : List ℕ) (l : Layout) (laid : LaidOut s l) where
   unfolding same_table span_of
   conditions_limit n = laid_limit s l laid.same Commands n Boolean
 
-none_of : (a b c : Bool) → not (not a || not b || not c) ≡ (a && b && c)
+none_of : (a b c : Bool) → not (not a || (not b || (not c || false))) ≡ (a && b && c)
 none_of true true true = refl
 none_of true true false = refl
 none_of true false true = refl
@@ -86,8 +92,8 @@ module _ (s : List ℕ) (t : Table) (n : ℕ) {e : Entry} {at : ℕ} (here : Sta
 
   -- one of a known kind
   module _ {x : Roles} (shaped : shape t e.kind ≡ Known x) where
-    pub known_checked : {a b c d : List ℕ} {p q r : ℕ} {v : Validity} → OperandChecked s t n x.p e.p a b p → OperandChecked s t n x.q e.q b c q → OperandChecked s t n x.r e.r c d r → v ≡ in_turn (ask (not (any_answer 8 p q r)) 8 at ∷ ask (not (any_answer 9 p q r)) 9 at ∷ []) → EntryChecked s t n a d v
-    unfolding entry_validity shape_validity entry_uses shape_uses each_operand any_answer
+    pub known_checked : {a b c d : List ℕ} {p q r : Answer} {v : Validity} → OperandChecked s t n x.p e.p a b p → OperandChecked s t n x.q e.q b c q → OperandChecked s t n x.r e.r c d r → v ≡ in_turn (ask (not (any_has Unnamed p q r)) 8 at ∷ ask (not (any_has Astray p q r)) 9 at ∷ []) → EntryChecked s t n a d v
+    unfolding entry_validity shape_validity entry_uses shape_uses each_operand any_has
     known_checked f g h v =
         let known = sym told ∙ shaped in
         let p = rw here.read at f in

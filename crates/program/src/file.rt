@@ -57,12 +57,6 @@ pub fn entry_at(s: &[u8], at: usize) -> Entry
     }
 }
 
-pub(crate) fn long(x: u16) -> usize
-    ensures { result ≡ x }
-{
-    x as usize
-}
-
 // What is allowed of the names.
 pub(crate) fn names_field() -> Field
     ensures { result ≡ spec.names_field }

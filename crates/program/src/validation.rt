@@ -18,6 +18,7 @@ pub(crate) mod uses;
 use crate::{file, kinds, reader};
 
 // One question: its answer, and its number and place when that is no.
+#[tactic(auto, unfolding(crate::specs::Asking::ask))]
 pub fn ask(yes: bool, number: u8, offset: usize) -> Result<(), Refusal>
     ensures { result ≡ Asking.ask yes number offset }
 {
@@ -28,25 +29,21 @@ pub fn ask(yes: bool, number: u8, offset: usize) -> Result<(), Refusal>
     }
 }
 
+#[tactic(auto, unfolding(crate::specs::Asking::is_refused))]
 pub fn refused(v: Result<(), Refusal>) -> bool
     ensures { result ≡ Asking.is_refused v }
 {
-    match v {
-        Ok(()) => false,
-        Err(_) => true,
-    }
+    v.is_err()
 }
 
 // Whether a length is whole entries, as many as allowed.
+#[tactic(auto, unfolding(crate::specs::Questions::whole_entries))]
 fn whole_entries(field: Field, len: u16) -> bool
     requires { 0 < field.width }
     ensures { result ≡ spec.whole_entries field len }
 {
-    if len % field.width != 0 {
-        return false;
-    }
     let count = len / field.width;
-    field.least <= count && count <= field.most
+    len % field.width == 0 && field.least <= count && count <= field.most
 }
 
 // Questions 2 to 4 of a head in a file of `end` bytes.
@@ -97,7 +94,7 @@ fn check_names(s: &[u8], names: u16) -> Result<(), Refusal>
     for i in 0..names {
         let size = file::size_at(s, i);
         total += file::cells_of(size);
-        ask(in_bounds(size, total), 6, 3 + 2 * file::long(i))?;
+        ask(in_bounds(size, total), 6, 3 + 2 * i as usize)?;
     }
     Ok(())
 }
@@ -122,13 +119,13 @@ fn check_table(
 }
 
 // How many of a table's entries are to be used once: all but the last command.
+#[tactic(auto, unfolding(crate::specs::Questions::to_be_used))]
 fn to_be_used(table: Table, count: u16) -> u16
     ensures { result ≡ spec.to_be_used table count }
 {
     match table {
-        Table::Arithmetic => count,
-        Table::Boolean => count,
-        Table::Commands => if 0 < count { count - 1 } else { 0 },
+        Table::Arithmetic | Table::Boolean => count,
+        Table::Commands => count.saturating_sub(1),
     }
 }
 
@@ -141,7 +138,7 @@ fn check_uses(s: &[u8], l: Layout, table: Table, counts: &[u8]) -> Result<(), Re
     let count = to_be_used(table, span.count);
     for n in 0..count {
         let used = counts[uses::slot(table, n)] == 1;
-        ask(used, 10, span.start + 7 * file::long(n))?;
+        ask(used, 10, span.start + 7 * n as usize)?;
     }
     Ok(())
 }
@@ -152,7 +149,7 @@ fn check_last(s: &[u8], l: Layout) -> Result<(), Refusal>
     ensures { result ≡ spec.last_validity s.now }
 {
     let last = to_be_used(Table::Commands, l.commands.count);
-    let at = l.commands.start + 7 * file::long(last);
+    let at = l.commands.start + 7 * last as usize;
     ask(kinds::is_command(file::byte_at(s, at)), 11, at)
 }
 
@@ -236,7 +233,7 @@ pub fn initial_part<'a>(s: &'a [u8]) -> &'a [u8]
     let h = reader::heads(s);
     match h.initial {
         Err(_) => &s[..0],
-        Ok(found) => part(s, found.content, file::long(found.length)),
+        Ok(found) => part(s, found.content, found.length as usize),
     }
 }
 
@@ -244,13 +241,6 @@ pub fn initial_part<'a>(s: &'a [u8]) -> &'a [u8]
 pub fn part<'a>(s: &'a [u8], start: usize, count: usize) -> &'a [u8]
     ensures { result.now ≡ take count (drop start s.now) }
 {
-    if s.len() <= start {
-        return &s[..0];
-    }
-    if count <= s.len() - start {
-        let end = start + count;
-        &s[start..end]
-    } else {
-        &s[start..]
-    }
+    let rest = &s[s.len().min(start)..];
+    &rest[..rest.len().min(count)]
 }

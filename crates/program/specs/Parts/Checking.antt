@@ -1,6 +1,7 @@
--- What the checks of an entry's operands promise each other: questions 8 and 9 of an operand are answered as one number, and its use is counted
+-- What the checks of an entry's operands promise each other: questions 8 and 9 of an operand are answered as yes or its flaw, and its use is counted
 -- on the way. No public contract cites these.
-use Rattle.std.specs.Prelude.{ℕ, Bool, true, not, ◌||◌, List, [], ◌∷◌, ◌≡◌, eqb, Ok}
+use Rattle.std.specs.Prelude.{ℕ, Bool, true, false, not, List, [], ◌∷◌, ◌≡◌, Result, Ok, Err}
+use Rattle.std.specs.List.{list_any}
 use Rattle.program.specs.Asking.{in_turn, Validity}
 use Rattle.program.specs.Parts.Counting.{Counted}
 use Rattle.program.specs.File.{entry_count, entry_offset, entry}
@@ -8,19 +9,32 @@ use Rattle.program.specs.Kind.{Role}
 use Rattle.program.specs.Parts.Jumping.{may_jump, Noted, NotedTo}
 use Rattle.program.specs.Questions.{named, points, entry_validity, table_validity, refers_to, entry_uses, table_uses, uses_validity}
 use Rattle.program.specs.declared.Entry.{Entry}
+use Rattle.program.specs.declared.validation.operands.Flaw.{Flaw}
+use Rattle.program.specs.declared.validation.operands.Flaw.TheVariants.{Unnamed, Astray}
 use Rattle.program.specs.declared.Table.{Table}
 use Rattle.program.specs.declared.Table.TheVariants.{Arithmetic, Boolean, Commands}
 
--- the answer r to questions 8 and 9 of an operand x of entry n of table t: the number of the one that is answered no; where both are answered yes, the
--- operand is counted
-pub record OperandChecked (s : List ℕ) (t : Table) (n : ℕ) (role : Role) (x : ℕ) (before after : List ℕ) (r : ℕ) : Type 0 where
-  pub eight : eqb r 8 ≡ not (named s role x)
-  pub nine : eqb r 9 ≡ not (points s t n role x)
-  pub counted : named s role x ≡ true → points s t n role x ≡ true → Counted before after (λ u k. refers_to u k role x)
+-- the answer to questions 8 and 9 of an operand: yes to both, or what is wrong with it
+abbrev pub Answer : Type 0
+Answer = Result (Unit {0}) Flaw
 
--- whether one of three operands has this answer
-unfoldable pub any_answer : ℕ → ℕ → ℕ → ℕ → Bool
-any_answer number p q r = eqb p number || eqb q number || eqb r number
+-- whether an answer is this flaw
+unfoldable pub has : Flaw → Answer → Bool
+has f (Ok _) = false
+has Unnamed (Err Unnamed) = true
+has Unnamed (Err Astray) = false
+has Astray (Err Unnamed) = false
+has Astray (Err Astray) = true
+
+-- whether one of three operands has this flaw
+unfoldable pub any_has : Flaw → Answer → Answer → Answer → Bool
+any_has f p q r = list_any (has f) (p ∷ q ∷ r ∷ [])
+
+-- the answer r to questions 8 and 9 of an operand x of entry n of table t; where both are answered yes, the operand is counted
+pub record OperandChecked (s : List ℕ) (t : Table) (n : ℕ) (role : Role) (x : ℕ) (before after : List ℕ) (r : Answer) : Type 0 where
+  pub eight : has Unnamed r ≡ not (named s role x)
+  pub nine : has Astray r ≡ not (points s t n role x)
+  pub counted : named s role x ≡ true → points s t n role x ≡ true → Counted before after (λ u k. refers_to u k role x)
 
 -- e is entry n of table t and stands at `at`
 pub record Standing (s : List ℕ) (t : Table) (n : ℕ) (e : Entry) (at : ℕ) : Type 0 where

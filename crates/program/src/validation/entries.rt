@@ -76,24 +76,22 @@ fn check_arithmetic(
     requires { Layouts.LaidOut s.now l × spec.Standing s.now Table.Arithmetic n e at }
     ensures { spec.EntryChecked s.now Table.Arithmetic n uses.old uses.new result }
 {
-    let names = l.names;
-    let kind = e.kind;
-    match kind {
+    match e.kind {
         // a number: P and Q together
         0 => {
             let r = operands::unused(e.r);
-            operands::settled(0, 0, r, at)
+            operands::settled(Ok(()), Ok(()), r, at)
         }
         // variable P
         1 => {
-            let p = operands::variable(s, names.count, e.p);
+            let p = operands::variable(s, l.names.count, e.p);
             let q = operands::unused(e.q);
             let r = operands::unused(e.r);
             operands::settled(p, q, r, at)
         }
         // element of array P at index Q
         2 => {
-            let p = operands::array(s, names.count, e.p);
+            let p = operands::array(s, l.names.count, e.p);
             let q = operands::reference(s, l, Sort::Expression, n, e.q, uses);
             let r = operands::unused(e.r);
             operands::settled(p, q, r, at)
@@ -116,13 +114,11 @@ fn check_boolean(
     requires { Layouts.LaidOut s.now l × spec.Standing s.now Table.Boolean n e at }
     ensures { spec.EntryChecked s.now Table.Boolean n uses.old uses.new result }
 {
-    let expressions = l.arithmetic;
-    let kind = e.kind;
-    match kind {
+    match e.kind {
         // true
         0 => no_operand(e, at),
         // a comparison of P and Q
-        1..=3 => two_references(s, l, Sort::Expression, expressions.count, e, at, uses),
+        1..=3 => two_references(s, l, Sort::Expression, l.arithmetic.count, e, at, uses),
         // P ∧ Q, P && Q
         4..=5 => two_references(s, l, Sort::Condition, n, e, at, uses),
         // ¬P
@@ -143,25 +139,21 @@ fn check_command(
     requires { Layouts.LaidOut s.now l × spec.Standing s.now Table.Commands n e at }
     ensures { spec.EntryChecked s.now Table.Commands n uses.old uses.new result }
 {
-    let names = l.names;
-    let expressions = l.arithmetic;
-    let conditions = l.boolean;
-    let kind = e.kind;
-    match kind {
+    match e.kind {
         // skip
         0 => no_operand(e, at),
         // variable P := Q
         1 => {
-            let p = operands::variable(s, names.count, e.p);
-            let q = operands::reference(s, l, Sort::Expression, expressions.count, e.q, uses);
+            let p = operands::variable(s, l.names.count, e.p);
+            let q = operands::reference(s, l, Sort::Expression, l.arithmetic.count, e.q, uses);
             let r = operands::unused(e.r);
             operands::settled(p, q, r, at)
         }
         // array P at Q := R
         2 => {
-            let p = operands::array(s, names.count, e.p);
-            let q = operands::reference(s, l, Sort::Expression, expressions.count, e.q, uses);
-            let r = operands::reference(s, l, Sort::Expression, expressions.count, e.r, uses);
+            let p = operands::array(s, l.names.count, e.p);
+            let q = operands::reference(s, l, Sort::Expression, l.arithmetic.count, e.q, uses);
+            let r = operands::reference(s, l, Sort::Expression, l.arithmetic.count, e.r, uses);
             operands::settled(p, q, r, at)
         }
         // P ; Q
@@ -170,7 +162,7 @@ fn check_command(
         4..=5 => one_reference(s, l, Sort::Guarded, n, e, at, uses),
         // guarded P → Q
         6 => {
-            let p = operands::reference(s, l, Sort::Condition, conditions.count, e.p, uses);
+            let p = operands::reference(s, l, Sort::Condition, l.boolean.count, e.p, uses);
             let q = operands::reference(s, l, Sort::Command, n, e.q, uses);
             let r = operands::unused(e.r);
             operands::settled(p, q, r, at)
@@ -196,7 +188,7 @@ pub(super) fn check_entry(
     requires { Layouts.LaidOut s.now l × (start ≡ File.table_start s.now table) }
     ensures { spec.EntryNoted s.now table n uses.old uses.new jumps.old jumps.new result }
 {
-    let at = start + 7 * file::long(n);
+    let at = start + 7 * n as usize;
     let e = file::entry_at(s, at);
     match table {
         Table::Arithmetic => check_arithmetic(s, l, n, e, at, uses),

@@ -27,15 +27,8 @@ fn command_at(s: &[u8], start: usize, bound: u16, n: u16) -> CommandNode
     if bound <= n {
         return CommandNode::Skip;
     }
-    let e = file::entry_at(s, start + 7 * file::long(n));
+    let e = file::entry_at(s, start + 7 * n as usize);
     decoding::command_kind(e.kind as u16, e.p, e.q, e.r)
-}
-
-// The lower of two entries.
-fn lower(a: u16, b: u16) -> u16
-    ensures { result ≡ min a b }
-{
-    if a < b { a } else { b }
 }
 
 // The lowest of `found` and of the jumps outside every do in command entry `n`, a part of entry `bound`.
@@ -43,23 +36,17 @@ fn lowest(s: &[u8], start: usize, bound: u16, n: u16, found: u16) -> u16
     requires { spec.CommandsFrom s.now start }
     ensures { result ≡ spec.lowest (part_at (File.entry s.now) bound n) found }
 {
-    let node = command_at(s, start, bound, n);
-    match node {
-        CommandNode::Skip => found,
-        CommandNode::Assign(_, _) => found,
-        CommandNode::Store(_, _, _) => found,
-        CommandNode::Sequence(p, q) => {
+    match command_at(s, start, bound, n) {
+        CommandNode::Sequence(p, q) | CommandNode::Choice(p, q) => {
             let first = lowest(s, start, n, p, found);
             lowest(s, start, n, q, first)
         }
-        CommandNode::Conditional(p) => lowest(s, start, n, p, found),
-        CommandNode::Iteration(_) => found,
-        CommandNode::Guarded(_, p) => lowest(s, start, n, p, found),
-        CommandNode::Choice(p, q) => {
-            let first = lowest(s, start, n, p, found);
-            lowest(s, start, n, q, first)
-        }
-        CommandNode::Jump(_) => lower(n, found),
+        CommandNode::Conditional(p) | CommandNode::Guarded(_, p) => lowest(s, start, n, p, found),
+        CommandNode::Jump(_) => n.min(found),
+        CommandNode::Skip
+        | CommandNode::Assign(_, _)
+        | CommandNode::Store(_, _, _)
+        | CommandNode::Iteration(_) => found,
     }
 }
 
@@ -69,7 +56,7 @@ fn check_lowest(s: &[u8], start: usize, count: u16) -> Result<(), Refusal>
     ensures { result ≡ Questions.jumps_validity s.now }
 {
     let found = lowest(s, start, count, count - 1, count);
-    ask(count <= found, 20, start + 7 * file::long(found))
+    ask(count <= found, 20, start + 7 * found as usize)
 }
 
 // Question 20, where questions 1 to 4 are answered yes and it is noted whether a command may be a jump.

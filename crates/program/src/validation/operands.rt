@@ -1,5 +1,5 @@
 // Questions 8 and 9 of an operand, and the counting of its use for question 10. What an operand is, is known where its entry's kind is told apart, so
-// there is a function for each role. The answer is 0, or the number of the question that is answered no.
+// there is a function for each role.
 
 ghost use Rattle.std.specs.Prelude.{◌≡◌, not, List, [], ◌∷◌, ℕ};
 ghost use Rattle.program.specs.Asking;
@@ -12,37 +12,45 @@ ghost use Rattle.program.specs.Questions;
 use super::{ask, uses};
 use crate::{Layout, Refusal, Sort, Table, file, kinds};
 
+// What is wrong with an operand: question 8 is answered no, since it is unused and not zero, or names nothing of the right sort; or question 9, since it is a
+// reference that does not point as it must.
+#[derive(Clone, Copy, PartialEq, Eq)]
+pub(super) enum Flaw {
+    Unnamed,
+    Astray,
+}
+
 // An unused operand is zero.
-pub(super) fn unused(x: u16) -> u8
+pub(super) fn unused(x: u16) -> Result<(), Flaw>
     ensures { (s : List ℕ) (t : Table) (n : ℕ) (counts : List ℕ) → spec.OperandChecked s t n Kind.Unused x counts counts result }
 {
-    if x == 0 { 0 } else { 8 }
+    if x == 0 { Ok(()) } else { Err(Flaw::Unnamed) }
 }
 
 // The name of a variable.
-pub(super) fn variable(s: &[u8], names: u16, x: u16) -> u8
+pub(super) fn variable(s: &[u8], names: u16, x: u16) -> Result<(), Flaw>
     requires { names ≡ File.name_count s.now }
     ensures { (t : Table) (n : ℕ) (counts : List ℕ) → spec.OperandChecked s.now t n Kind.Variable x counts counts result }
 {
     if x < names {
         if file::size_at(s, x) == 0 {
-            return 0;
+            return Ok(());
         }
     }
-    8
+    Err(Flaw::Unnamed)
 }
 
 // The name of an array.
-pub(super) fn array(s: &[u8], names: u16, x: u16) -> u8
+pub(super) fn array(s: &[u8], names: u16, x: u16) -> Result<(), Flaw>
     requires { names ≡ File.name_count s.now }
     ensures { (t : Table) (n : ℕ) (counts : List ℕ) → spec.OperandChecked s.now t n Kind.Array x counts counts result }
 {
     if x < names {
         if 0 < file::size_at(s, x) {
-            return 0;
+            return Ok(());
         }
     }
-    8
+    Err(Flaw::Unnamed)
 }
 
 // The kind of command entry `n`.
@@ -50,18 +58,17 @@ fn command_kind(s: &[u8], l: Layout, n: u16) -> u8
     requires { Layouts.LaidOut s.now l }
     ensures { result ≡ (File.entry s.now Table.Commands n).kind }
 {
-    let span = l.commands;
-    file::byte_at(s, span.start + 7 * file::long(n))
+    file::byte_at(s, l.commands.start + 7 * n as usize)
 }
 
 // Whether entry `x` of a sort's table is of that sort.
+#[tactic(auto, unfolding(crate::specs::Questions::of_sort))]
 fn of_sort(s: &[u8], l: Layout, sort: Sort, x: u16) -> bool
     requires { Layouts.LaidOut s.now l }
     ensures { result ≡ Questions.of_sort s.now sort x }
 {
     match sort {
-        Sort::Expression => true,
-        Sort::Condition => true,
+        Sort::Expression | Sort::Condition => true,
         Sort::Command => kinds::is_command(command_kind(s, l, x)),
         Sort::Guarded => kinds::is_guarded(command_kind(s, l, x)),
     }
@@ -75,7 +82,7 @@ pub(super) fn reference(
     limit: u16,
     x: u16,
     uses: &mut [u8; 1024],
-) -> u8
+) -> Result<(), Flaw>
     requires { Layouts.LaidOut s.now l }
     ensures { (t : Table) (n : ℕ) → limit ≡ Questions.limit s.now t n (Kind.table_of sort)
         → spec.OperandChecked s.now t n (Kind.To sort) x uses.old uses.new result }
@@ -83,27 +90,23 @@ pub(super) fn reference(
     if x < limit {
         if of_sort(s, l, sort, x) {
             uses::count_reference(uses, sort, x);
-            return 0;
+            return Ok(());
         }
     }
-    9
-}
-
-// Whether one of three operands has this answer.
-fn any_answer(number: u8, p: u8, q: u8, r: u8) -> bool
-    ensures { result ≡ spec.any_answer number p q r }
-{
-    if p == number {
-        return true;
-    }
-    q == number || r == number
+    Err(Flaw::Astray)
 }
 
 // Questions 8 and 9 of the entry at a place, by the answers of its operands.
-pub(super) fn settled(p: u8, q: u8, r: u8, at: usize) -> Result<(), Refusal>
+pub(super) fn settled(
+    p: Result<(), Flaw>,
+    q: Result<(), Flaw>,
+    r: Result<(), Flaw>,
+    at: usize,
+) -> Result<(), Refusal>
     ensures { result ≡ Asking.in_turn
-        (Asking.ask (not (spec.any_answer 8 p q r)) 8 at ∷ Asking.ask (not (spec.any_answer 9 p q r)) 9 at ∷ []) }
+        (Asking.ask (not (spec.any_has Flaw.Unnamed p q r)) 8 at ∷ Asking.ask (not (spec.any_has Flaw.Astray p q r)) 9 at ∷ []) }
 {
-    ask(!any_answer(8, p, q, r), 8, at)?;
-    ask(!any_answer(9, p, q, r), 9, at)
+    let answers = [p, q, r];
+    ask(!answers.contains(&Err(Flaw::Unnamed)), 8, at)?;
+    ask(!answers.contains(&Err(Flaw::Astray)), 9, at)
 }

@@ -8,45 +8,32 @@ ghost use Rattle.program.specs.Questions;
 use crate::{Sort, Table, file, kinds};
 
 // The most entries that a table has.
+#[tactic(auto, unfolding(crate::specs::Parts::Counting::capacity))]
 pub(crate) fn capacity(table: Table) -> u16
     ensures { result ≡ spec.capacity table }
 {
-    let field = file::table_field(table);
-    field.most
+    file::table_field(table).most
 }
 
 // The slot of entry `n` of a table.
+#[tactic(auto, unfolding(crate::specs::Parts::Counting::slot))]
 pub(crate) fn slot(table: Table, n: u16) -> usize
     ensures { result ≡ spec.slot table n }
 {
     match table {
-        Table::Arithmetic => file::long(n),
-        Table::Boolean => 512 + file::long(n),
-        Table::Commands => 768 + file::long(n),
+        Table::Arithmetic => n as usize,
+        Table::Boolean => 512 + n as usize,
+        Table::Commands => 768 + n as usize,
     }
 }
 
-// One more, two at most.
-fn one_more(n: u8) -> u8
-    ensures { result ≡ min 2 (n + 1) }
-{
-    if n < 2 { n + 1 } else { 2 }
-}
-
-fn bump(uses: &mut [u8], k: usize)
-    requires { k < length uses.old }
-    ensures { uses.new ≡ set uses.old k (min 2 (get_or uses.old k 0 + 1)) }
-{
-    let n = uses[k];
-    uses[k] = one_more(n);
-}
-
-// Counts a reference `x` to an entry of a sort.
+// Counts a reference `x` to an entry of a sort: one more in its slot, two at most.
 pub(super) fn count_reference(uses: &mut [u8; 1024], sort: Sort, x: u16)
     ensures { spec.Counted uses.old uses.new (λ u n. Questions.refers_to u n (Kind.To sort) x) }
 {
     let table = kinds::table_of(sort);
     if x < capacity(table) {
-        bump(uses, slot(table, x));
+        let k = slot(table, x);
+        uses[k] = uses[k].saturating_add(1).min(2);
     }
 }

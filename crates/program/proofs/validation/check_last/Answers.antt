@@ -17,6 +17,6 @@ overflow_add-at c = record { fits = omega (arith, c.requires.inside Commands) }
 pub returns : goal.returns
 unfolding last_validity last_command entry entry_at span_of to_be_used
 returns c =
-    let last = c.long.ensures ∙ c.to_be_used-last.ensures ∙ ap (to_be_used Commands) (laid_count _ _ c.requires.same Commands) in
+    let last = c.to_be_used-last.ensures ∙ ap (to_be_used Commands) (laid_count _ _ c.requires.same Commands) in
     let at = entry_in _ Commands _ _ _ (laid_start _ _ c.requires.same Commands) last in
     c.ask.ensures ∙ (λ i. ask ((c.is_command.ensures ∙ ap is_command (c.byte_at.ensures ∙ ap (byte_at c.args.s.now) at)) i) 11 (at i))

@@ -1,11 +1,11 @@
 -- `program::validation::check_names` meets its contract.
-use Prim.Native.Nat.{ℕ, ◌+◌, ◌*◌, ◌<◌}
+use Prim.Native.Nat.{◌<◌}
 use borrow.Author.Rules.{rules}
 use mathlib.Core.Path.{sym, refl, ap, ◌∙◌, ◌≡◌}
 use native.Mathlib.Numerals.{add-one}
 use native.Mathlib.Omega.{arith}
 use Rattle.program.specs.FirstSuch.{first_of}
-use Rattle.program.specs.Asking.{ask, ask_each}
+use Rattle.program.specs.Asking.{ask_each}
 use Rattle.program.specs.File.{name_count, name_offset, first_cell}
 use Rattle.program.specs.Questions.{name_validity}
 use Rattle.program.proofs.Asking.{each_raised, each_more}
@@ -35,7 +35,7 @@ asked c =
       ← c.cells_of-total.ensures,
       ← c.in_bounds.ensures,
     )
-    (c.ask.ensures ∙ ap (λ (k : ℕ). ask c.in_bounds.result 6 (3 + 2 * k)) c.long.ensures)
+    c.ask.ensures
 
 pub returns-in_err-ask : goal.returns-in_err-ask
 returns-in_err-ask c =

@@ -33,7 +33,7 @@ asked c slots =
     let t = c.args.table in
     let start = ap (λ (x : Span). x.start) c.span_of-span.ensures ∙ laid_start _ _ c.requires.0.same t in
     let h : c.loop-n.n < capacity t = omega (arith, slots) in
-    use_asked _ _ t c.loop-n.n _ _ c.requires.1 h c.slot.ensures (entry_in _ t _ _ _ start c.long.ensures) c.ask.ensures
+    use_asked _ _ t c.loop-n.n _ _ c.requires.1 h c.slot.ensures (entry_in _ t _ _ _ start refl) c.ask.ensures
 
 pub loop-n-init : goal.loop-n-init
 unfolding ask_each first_of

@@ -19,4 +19,4 @@ returns-in-Err c = rw (fifth (goal.at.returns-in-Err c).After-heads-h, c.in-Err.
 pub returns-in-Ok : goal.returns-in-Ok
 unfolding initial_part head_content
 returns-in-Ok c =
-    rw (fifth (goal.at.returns-in-Ok c).After-heads-h, c.in-Ok.is, ← c.long.ensures) c.part.ensures
+    rw (fifth (goal.at.returns-in-Ok c).After-heads-h, c.in-Ok.is) c.part.ensures

@@ -11,12 +11,12 @@ use Rattle.program.proofs.validation.entries.check_entry.Goals as goal
 use Rattle.program.proofs.validation.entries.check_entry.Goals.{After-entry_at-e}
 
 -- what is read is the entry, and it stands there
-standing : (c : After-entry_at-e) {t : Table} → c.args.table ≡ t → Standing c.args.s.now t c.args.n c.entry_at-e.result (c.args.start + 7 * c.long.result)
+standing : (c : After-entry_at-e) {t : Table} → c.args.table ≡ t → Standing c.args.s.now t c.args.n c.entry_at-e.result (c.args.start + 7 * c.args.n)
 standing c e =
     let start = c.requires.1 ∙ ap (table_start c.args.s.now) e in
     record {
-      read = entry_read _ _ _ _ _ c.entry_at-e.ensures start c.long.ensures;
-      place = entry_in _ _ _ _ _ start c.long.ensures;
+      read = entry_read _ _ _ _ _ c.entry_at-e.ensures start refl;
+      place = entry_in _ _ _ _ _ start refl;
     }
 
 pub overflow_add-at : goal.overflow_add-at

@@ -1,4 +1,5 @@
 -- `program::validation::jumps::check_lowest` meets its contract.
+use mathlib.Core.Path.{refl}
 use native.Mathlib.Omega.{arith}
 use Rattle.program.specs.declared.Table.TheVariants.{Commands}
 use Rattle.program.proofs.Loose.{last_lowest, asked_lowest}
@@ -17,4 +18,4 @@ overflow_add-start c = record { fits = omega (arith, c.requires.from.inside) }
 pub returns : goal.returns
 returns c =
     asked_lowest c.args.s.now (last_lowest c.requires c.lowest-found.ensures)
-    (rw (← c.requires.counted, ← entry_in _ Commands _ _ _ c.requires.from.starts c.long.ensures) c.ask.ensures)
+    (rw (← c.requires.counted, ← entry_in _ Commands _ _ c.lowest-found.result c.requires.from.starts refl) c.ask.ensures)

@@ -1,5 +1,5 @@
 -- `program::validation::jumps::command_at` meets its contract.
-use mathlib.Core.Path.{◌∙◌, ap}
+use mathlib.Core.Path.{refl, ◌∙◌, ap}
 use native.Mathlib.Omega.{arith}
 use borrow.Author.Tests.{lt-ltb, le-ltb}
 use Rattle.program.specs.Kind.{command_kind}
@@ -19,4 +19,4 @@ pub returns : goal.returns
 unfolding command_form
 returns c =
     rw (lt-ltb _ _ c.if-bound-n.false)
-    (c.command_kind.ensures ∙ ap command_kind (entry_read _ Commands _ _ _ c.entry_at-e.ensures c.requires.starts c.long.ensures))
+    (c.command_kind.ensures ∙ ap command_kind (entry_read _ Commands _ _ _ c.entry_at-e.ensures c.requires.starts refl))

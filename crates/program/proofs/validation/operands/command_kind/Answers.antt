@@ -1,16 +1,16 @@
 -- `program::validation::operands::command_kind` meets its contract.
-use mathlib.Core.Path.{◌∙◌, ap}
+use mathlib.Core.Path.{refl, ◌∙◌, ap}
 use native.Mathlib.Omega.{arith}
 use Rattle.program.specs.File.{byte_at, span_of, entry, entry_at}
 use Rattle.program.specs.declared.Table.TheVariants.{Commands}
 use Rattle.program.proofs.Reading.{laid_start, entry_in}
 use Rattle.program.proofs.validation.operands.command_kind.Goals as goal
 
-pub overflow_add-span : goal.overflow_add-span
+pub overflow_add-l : goal.overflow_add-l
 unfolding span_of
-overflow_add-span c = record { fits = omega (arith, c.requires.inside Commands) }
+overflow_add-l c = record { fits = omega (arith, c.requires.inside Commands) }
 
 pub returns : goal.returns
 unfolding entry entry_at span_of
 returns c =
-    c.byte_at.ensures ∙ ap (byte_at c.args.s.now) (entry_in _ Commands _ _ _ (laid_start _ _ c.requires.same Commands) c.long.ensures)
+    c.byte_at.ensures ∙ ap (byte_at c.args.s.now) (entry_in _ Commands _ _ _ (laid_start _ _ c.requires.same Commands) refl)
