@@ -1,0 +1,52 @@
+-- The cycle of calls {`Machine::boolean_negative`}: a part is lower than what it is a part of, so the measure is `bound`.
+use Rattle.std.proofs.Common.{◌≡◌, ℕ, ◌<◌, [], arith}
+use Rattle.program.specs.Tree.{boolean_made}
+use Rattle.signs.specs.Lists.{any_of}
+use Rattle.program.specs.declared.BooleanNode.{BooleanNode}
+use Rattle.program.proofs.Forms.{BooleanParts}
+use Rattle.program.proofs.Laws.{boolean_told, boolean_lower}
+use Rattle.analysis.specs.Index.{boolean_indexes, any_negative}
+use Rattle.analysis.proofs.Negative.{any_append}
+use Rattle.analysis.proofs.evaluator.Machine.+boolean_negative.Goals as goal
+use Rattle.analysis.proofs.evaluator.Machine.+boolean_negative.Goals.{After-boolean_node-node}
+
+-- a part in the same table may be asked about
+lower : (t : ℕ) (c : After-boolean_node-node t) {k : BooleanNode} → c.boolean_node-node.result ≡ k → BooleanParts k → c.args.n < t
+lower t c told p = omega (arith, boolean_lower _ _ _ (c.boolean_node-node.ensures []) told p)
+
+pub boolean_negative-a-requires : goal.boolean_negative-a-requires
+boolean_negative-a-requires t c = (lower t (goal.at.boolean_negative-a-requires t c).After-boolean_node-node c.in-Both.is tt, c.requires)
+
+pub boolean_negative-b-requires : goal.boolean_negative-b-requires
+boolean_negative-b-requires t c = (lower t (goal.at.boolean_negative-b-requires t c).After-boolean_node-node c.in-Both.is tt, c.requires)
+
+pub boolean_negative-a-requires-in-AndThen : goal.boolean_negative-a-requires-in-AndThen
+boolean_negative-a-requires-in-AndThen t c = (lower t (goal.at.boolean_negative-a-requires-in-AndThen t c).After-boolean_node-node c.in-AndThen.is tt, c.requires)
+
+pub boolean_negative-b-requires-in-AndThen : goal.boolean_negative-b-requires-in-AndThen
+boolean_negative-b-requires-in-AndThen t c = (lower t (goal.at.boolean_negative-b-requires-in-AndThen t c).After-boolean_node-node c.in-AndThen.is tt, c.requires)
+
+pub boolean_negative-requires : goal.boolean_negative-requires
+boolean_negative-requires t c = (lower t (goal.at.boolean_negative-requires t c).After-boolean_node-node c.in-Not.is tt, c.requires)
+
+pub returns-in-True : goal.returns-in-True
+unfolding boolean_made boolean_indexes any_negative any_of
+returns-in-True t c graph = rw (boolean_told _ _ _ (c.boolean_node-node.ensures graph) c.in-True.is)
+
+pub returns-in-Comparison : goal.returns-in-Comparison
+unfolding boolean_made boolean_indexes
+returns-in-Comparison t c graph = rw (boolean_told _ _ _ (c.boolean_node-node.ensures graph) c.in-Comparison.is, any_append) (c.either_negative.ensures graph)
+
+pub returns-in-Both : goal.returns-in-Both
+unfolding boolean_made boolean_indexes
+returns-in-Both t c graph =
+    rw (boolean_told _ _ _ (c.boolean_node-node.ensures graph) c.in-Both.is, any_append, c.boolean_negative-a.ensures graph, c.boolean_negative-b.ensures graph)
+
+pub returns-in-AndThen : goal.returns-in-AndThen
+unfolding boolean_made boolean_indexes
+returns-in-AndThen t c graph =
+    rw (boolean_told _ _ _ (c.boolean_node-node.ensures graph) c.in-AndThen.is, any_append, c.boolean_negative-a-in-AndThen.ensures graph, c.boolean_negative-b-in-AndThen.ensures graph)
+
+pub returns-in-Not : goal.returns-in-Not
+unfolding boolean_made boolean_indexes
+returns-in-Not t c graph = rw (boolean_told _ _ _ (c.boolean_node-node.ensures graph) c.in-Not.is) (c.boolean_negative.ensures graph)
