@@ -29,8 +29,7 @@ impl Machine<'_> {
     {
         let node = prepared::arith_node(self.code, bound, n);
         match node {
-            ArithNode::Number(_) => false,
-            ArithNode::Variable(_) => false,
+            ArithNode::Number(_) | ArithNode::Variable(_) => false,
             ArithNode::Element(_, i) => {
                 let here = self.index_negative(rho, n, i);
                 let under = self.arith_negative(rho, n, i);
@@ -64,12 +63,7 @@ impl Machine<'_> {
         match node {
             BooleanNode::True => false,
             BooleanNode::Comparison(_, p, q) => self.either_negative(rho, p, q),
-            BooleanNode::Both(p, q) => {
-                let a = self.boolean_negative(rho, n, p);
-                let b = self.boolean_negative(rho, n, q);
-                a | b
-            }
-            BooleanNode::AndThen(p, q) => {
+            BooleanNode::Both(p, q) | BooleanNode::AndThen(p, q) => {
                 let a = self.boolean_negative(rho, n, p);
                 let b = self.boolean_negative(rho, n, q);
                 a | b
@@ -115,9 +109,10 @@ impl Machine<'_> {
             ActionNode::Nothing => false,
             ActionNode::Assign(_, a) => self.arith_negative(rho, EXPRESSIONS, a),
             ActionNode::Store(_, i, a) => self.store_negative(rho, i, a),
-            ActionNode::Holds(n) => self.boolean_negative(rho, CONDITIONS, n),
+            ActionNode::Holds(n) | ActionNode::Guard(n) => {
+                self.boolean_negative(rho, CONDITIONS, n)
+            }
             ActionNode::Exit(n) => self.exit_negative(rho, COMMANDS, n),
-            ActionNode::Guard(n) => self.boolean_negative(rho, CONDITIONS, n),
         }
     }
 }

@@ -129,16 +129,12 @@ impl Machine<'_> {
                 assigned_sets(x, values)
             }
             ActionNode::Store(x, i, a) => self.element_stored(rho, x, i, a),
-            ActionNode::Holds(n) => {
+            ActionNode::Holds(n) | ActionNode::Guard(n) => {
                 let t = self.truths(rho, CONDITIONS, n);
                 unchanged(t.holds)
             }
             ActionNode::Exit(n) => {
                 let t = self.exit_truths(rho, COMMANDS, n);
-                unchanged(t.holds)
-            }
-            ActionNode::Guard(n) => {
-                let t = self.truths(rho, CONDITIONS, n);
                 unchanged(t.holds)
             }
         }

@@ -1,5 +1,5 @@
 -- The cycle of calls {`Machine::arith_negative`}: a part is lower than what it is a part of, so the measure is `bound`.
-use Rattle.std.proofs.Common.{◌≡◌, ℕ, ◌<◌, [], arith}
+use Rattle.std.proofs.Common.{◌≡◌, ℕ, ◌<◌, [], inl, inr, arith}
 use Rattle.program.specs.Tree.{arith_made}
 use Rattle.signs.specs.Lists.{any_of}
 use Rattle.program.specs.declared.ArithNode.{ArithNode}
@@ -25,11 +25,11 @@ arith_negative-b-requires t c = (lower t (goal.at.arith_negative-b-requires t c)
 
 pub returns-in-Number : goal.returns-in-Number
 unfolding arith_made arith_indexes any_negative any_of
-returns-in-Number t c graph = rw (arith_told _ _ _ (c.arith_node-node.ensures graph) c.in-Number.is)
-
-pub returns-in-Variable : goal.returns-in-Variable
-unfolding arith_made arith_indexes any_negative any_of
-returns-in-Variable t c graph = rw (arith_told _ _ _ (c.arith_node-node.ensures graph) c.in-Variable.is)
+returns-in-Number t c graph =
+    elim c.in-Number.is [
+      | inl e ↦ rw (arith_told _ _ _ (c.arith_node-node.ensures graph) e.1)
+      | inr e ↦ rw (arith_told _ _ _ (c.arith_node-node.ensures graph) e.1)
+    ]
 
 pub returns-in-Element : goal.returns-in-Element
 unfolding arith_made arith_indexes

@@ -1,5 +1,5 @@
 -- The cycle of calls {`Machine::boolean_negative`}: a part is lower than what it is a part of, so the measure is `bound`.
-use Rattle.std.proofs.Common.{◌≡◌, ℕ, ◌<◌, [], arith}
+use Rattle.std.proofs.Common.{◌≡◌, ℕ, ◌<◌, [], inl, inr, arith}
 use Rattle.program.specs.Tree.{boolean_made}
 use Rattle.signs.specs.Lists.{any_of}
 use Rattle.program.specs.declared.BooleanNode.{BooleanNode}
@@ -15,16 +15,14 @@ lower : (t : ℕ) (c : After-boolean_node-node t) {k : BooleanNode} → c.boolea
 lower t c told p = omega (arith, boolean_lower _ _ _ (c.boolean_node-node.ensures []) told p)
 
 pub boolean_negative-a-requires : goal.boolean_negative-a-requires
-boolean_negative-a-requires t c = (lower t (goal.at.boolean_negative-a-requires t c).After-boolean_node-node c.in-Both.is tt, c.requires)
+boolean_negative-a-requires t c =
+    let w = (goal.at.boolean_negative-a-requires t c).After-boolean_node-node in
+    (elim c.in-Both.is [ inl e ↦ lower t w e tt | inr e ↦ lower t w e tt ], c.requires)
 
 pub boolean_negative-b-requires : goal.boolean_negative-b-requires
-boolean_negative-b-requires t c = (lower t (goal.at.boolean_negative-b-requires t c).After-boolean_node-node c.in-Both.is tt, c.requires)
-
-pub boolean_negative-a-requires-in-AndThen : goal.boolean_negative-a-requires-in-AndThen
-boolean_negative-a-requires-in-AndThen t c = (lower t (goal.at.boolean_negative-a-requires-in-AndThen t c).After-boolean_node-node c.in-AndThen.is tt, c.requires)
-
-pub boolean_negative-b-requires-in-AndThen : goal.boolean_negative-b-requires-in-AndThen
-boolean_negative-b-requires-in-AndThen t c = (lower t (goal.at.boolean_negative-b-requires-in-AndThen t c).After-boolean_node-node c.in-AndThen.is tt, c.requires)
+boolean_negative-b-requires t c =
+    let w = (goal.at.boolean_negative-b-requires t c).After-boolean_node-node in
+    (elim c.in-Both.is [ inl e ↦ lower t w e tt | inr e ↦ lower t w e tt ], c.requires)
 
 pub boolean_negative-requires : goal.boolean_negative-requires
 boolean_negative-requires t c = (lower t (goal.at.boolean_negative-requires t c).After-boolean_node-node c.in-Not.is tt, c.requires)
@@ -40,12 +38,10 @@ returns-in-Comparison t c graph = rw (boolean_told _ _ _ (c.boolean_node-node.en
 pub returns-in-Both : goal.returns-in-Both
 unfolding boolean_made boolean_indexes
 returns-in-Both t c graph =
-    rw (boolean_told _ _ _ (c.boolean_node-node.ensures graph) c.in-Both.is, any_append, c.boolean_negative-a.ensures graph, c.boolean_negative-b.ensures graph)
-
-pub returns-in-AndThen : goal.returns-in-AndThen
-unfolding boolean_made boolean_indexes
-returns-in-AndThen t c graph =
-    rw (boolean_told _ _ _ (c.boolean_node-node.ensures graph) c.in-AndThen.is, any_append, c.boolean_negative-a-in-AndThen.ensures graph, c.boolean_negative-b-in-AndThen.ensures graph)
+    elim c.in-Both.is [
+      | inl e ↦ rw (boolean_told _ _ _ (c.boolean_node-node.ensures graph) e, any_append, c.boolean_negative-a.ensures graph, c.boolean_negative-b.ensures graph)
+      | inr e ↦ rw (boolean_told _ _ _ (c.boolean_node-node.ensures graph) e, any_append, c.boolean_negative-a.ensures graph, c.boolean_negative-b.ensures graph)
+    ]
 
 pub returns-in-Not : goal.returns-in-Not
 unfolding boolean_made boolean_indexes

@@ -1,4 +1,5 @@
 -- `Machine::may_be_negative` meets its contract.
+use Rattle.std.proofs.Common.{inl, inr}
 use Rattle.signs.specs.Lists.{any_of}
 use Rattle.program.specs.Parts.Prepared.{decoded_meaning}
 use Rattle.program.proofs.Laws.{arith_whole, boolean_whole, command_whole}
@@ -26,16 +27,11 @@ pub returns-in-Holds : goal.returns-in-Holds
 unfolding decoded_meaning may_be_negative index_sets
 returns-in-Holds c =
     let s = c.args in
-    rw (c.in-Holds.is, boolean_whole s.self.code.now s.self.graph.now c.in-Holds.n) (c.boolean_negative.ensures s.self.graph.now)
+    let found = rw (← boolean_whole s.self.code.now s.self.graph.now c.in-Holds.n) at (c.boolean_negative.ensures s.self.graph.now) in
+    elim c.in-Holds.is [ inl e ↦ rw e found | inr e ↦ rw e found ]
 
 pub returns-in-Exit : goal.returns-in-Exit
 unfolding decoded_meaning may_be_negative index_sets
 returns-in-Exit c =
     let s = c.args in
     rw (c.in-Exit.is, command_whole s.self.code.now s.self.graph.now c.in-Exit.n) c.exit_negative.ensures
-
-pub returns-in-Guard : goal.returns-in-Guard
-unfolding decoded_meaning may_be_negative index_sets
-returns-in-Guard c =
-    let s = c.args in
-    rw (c.in-Guard.is, boolean_whole s.self.code.now s.self.graph.now c.in-Guard.n) (c.boolean_negative-in-Guard.ensures s.self.graph.now)

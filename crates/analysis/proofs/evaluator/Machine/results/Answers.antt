@@ -1,4 +1,5 @@
 -- `Machine::results` meets its contract.
+use Rattle.std.proofs.Common.{inl, inr}
 use Rattle.program.specs.Parts.Prepared.{decoded_meaning}
 use Rattle.program.proofs.Laws.{arith_whole, boolean_whole, command_whole}
 use Rattle.analysis.proofs.Alike.{no_results, condition_results, assign_results}
@@ -24,8 +25,8 @@ pub returns-in-Holds : goal.returns-in-Holds
 unfolding decoded_meaning
 returns-in-Holds c =
     let s = c.args in
-    rw (c.in-Holds.is, boolean_whole s.self.code.now s.self.graph.now c.in-Holds.n)
-    (condition_results _ (rw (← c.truths-t.ensures s.self.graph.now) c.unchanged-in-Holds.ensures))
+    let found = condition_results _ (rw (boolean_whole s.self.code.now s.self.graph.now c.in-Holds.n, ← c.truths-t.ensures s.self.graph.now) c.unchanged-in-Holds.ensures) in
+    elim c.in-Holds.is [ inl e ↦ rw e found | inr e ↦ rw e found ]
 
 pub returns-in-Exit : goal.returns-in-Exit
 unfolding decoded_meaning
@@ -33,10 +34,3 @@ returns-in-Exit c =
     let s = c.args in
     rw (c.in-Exit.is, command_whole s.self.code.now s.self.graph.now c.in-Exit.n)
     (condition_results _ (rw (← c.exit_truths-t.ensures) c.unchanged-in-Exit.ensures))
-
-pub returns-in-Guard : goal.returns-in-Guard
-unfolding decoded_meaning
-returns-in-Guard c =
-    let s = c.args in
-    rw (c.in-Guard.is, boolean_whole s.self.code.now s.self.graph.now c.in-Guard.n)
-    (condition_results _ (rw (← c.truths-t-in-Guard.ensures s.self.graph.now) c.unchanged-in-Guard.ensures))
