@@ -31,14 +31,10 @@ impl Machine<'_> {
         match node {
             ArithNode::Number(_) | ArithNode::Variable(_) => false,
             ArithNode::Element(_, i) => {
-                let here = self.index_negative(rho, n, i);
-                let under = self.arith_negative(rho, n, i);
-                here | under
+                self.index_negative(rho, n, i) || self.arith_negative(rho, n, i)
             }
             ArithNode::Operator(_, p, q) => {
-                let a = self.arith_negative(rho, n, p);
-                let b = self.arith_negative(rho, n, q);
-                a | b
+                self.arith_negative(rho, n, p) || self.arith_negative(rho, n, q)
             }
         }
     }
@@ -49,9 +45,7 @@ impl Machine<'_> {
             result ≡ (spec.any_negative (spec.arith_indexes rho.now (arith_at (entries_in self.entry.code.now graph) p))
             || spec.any_negative (spec.arith_indexes rho.now (arith_at (entries_in self.entry.code.now graph) q))) }
     {
-        let a = self.arith_negative(rho, EXPRESSIONS, p);
-        let b = self.arith_negative(rho, EXPRESSIONS, q);
-        a | b
+        self.arith_negative(rho, EXPRESSIONS, p) || self.arith_negative(rho, EXPRESSIONS, q)
     }
 
     // Whether one in boolean entry `n`, a part of entry `bound`, may be.
@@ -64,9 +58,7 @@ impl Machine<'_> {
             BooleanNode::True => false,
             BooleanNode::Comparison(_, p, q) => self.either_negative(rho, p, q),
             BooleanNode::Both(p, q) | BooleanNode::AndThen(p, q) => {
-                let a = self.boolean_negative(rho, n, p);
-                let b = self.boolean_negative(rho, n, q);
-                a | b
+                self.boolean_negative(rho, n, p) || self.boolean_negative(rho, n, q)
             }
             BooleanNode::Not(p) => self.boolean_negative(rho, n, p),
         }
@@ -81,9 +73,7 @@ impl Machine<'_> {
         match node {
             CommandNode::Guarded(g, _) => self.boolean_negative(rho, CONDITIONS, g),
             CommandNode::Choice(p, q) => {
-                let a = self.exit_negative(rho, n, p);
-                let b = self.exit_negative(rho, n, q);
-                a | b
+                self.exit_negative(rho, n, p) || self.exit_negative(rho, n, q)
             }
             _ => false,
         }
@@ -96,9 +86,7 @@ impl Machine<'_> {
             || (spec.any_negative (spec.arith_indexes rho.now (arith_at (entries_in self.entry.code.now graph) i))
             || spec.any_negative (spec.arith_indexes rho.now (arith_at (entries_in self.entry.code.now graph) a)))) }
     {
-        let here = self.index_negative(rho, EXPRESSIONS, i);
-        let under = self.either_negative(rho, i, a);
-        here | under
+        self.index_negative(rho, EXPRESSIONS, i) || self.either_negative(rho, i, a)
     }
 
     // Whether an index expression in an action may be negative.

@@ -14,15 +14,6 @@ use Rattle.analysis.proofs.evaluator.Machine.+arith_negative.Goals.{After-arith_
 lower : (t : ℕ) (c : After-arith_node-node t) {k : ArithNode} → c.arith_node-node.result ≡ k → ArithParts k → c.args.n < t
 lower t c told p = omega (arith, arith_lower _ _ _ (c.arith_node-node.ensures []) told p)
 
-pub arith_negative-under-requires : goal.arith_negative-under-requires
-arith_negative-under-requires t c = (lower t (goal.at.arith_negative-under-requires t c).After-arith_node-node c.in-Element.is tt, c.requires)
-
-pub arith_negative-a-requires : goal.arith_negative-a-requires
-arith_negative-a-requires t c = (lower t (goal.at.arith_negative-a-requires t c).After-arith_node-node c.in-Operator.is tt, c.requires)
-
-pub arith_negative-b-requires : goal.arith_negative-b-requires
-arith_negative-b-requires t c = (lower t (goal.at.arith_negative-b-requires t c).After-arith_node-node c.in-Operator.is tt, c.requires)
-
 pub returns-in-Number : goal.returns-in-Number
 unfolding arith_made arith_indexes any_negative any_of
 returns-in-Number t c graph =
@@ -31,12 +22,34 @@ returns-in-Number t c graph =
       | inr e ↦ rw (arith_told _ _ _ (c.arith_node-node.ensures graph) e.1)
     ]
 
-pub returns-in-Element : goal.returns-in-Element
-unfolding arith_made arith_indexes
-returns-in-Element t c graph =
-    rw (arith_told _ _ _ (c.arith_node-node.ensures graph) c.in-Element.is, any_first, c.index_negative-here.ensures graph, c.arith_negative-under.ensures graph)
+pub arith_negative-requires : goal.arith_negative-requires
+arith_negative-requires t c = (lower t (goal.at.arith_negative-requires t c).After-arith_node-node c.in-Element.is tt, c.requires)
 
-pub returns-in-Operator : goal.returns-in-Operator
+pub arith_negative-requires-in-Operator : goal.arith_negative-requires-in-Operator
+arith_negative-requires-in-Operator t c = (lower t (goal.at.arith_negative-requires-in-Operator t c).After-arith_node-node c.in-Operator.is tt, c.requires)
+
+pub arith_negative-requires-else-arith_negative : goal.arith_negative-requires-else-arith_negative
+arith_negative-requires-else-arith_negative t c =
+    (lower t (goal.at.arith_negative-requires-else-arith_negative t c).After-arith_node-node c.in-Operator.is tt, c.requires)
+
+pub returns-then-index_negative : goal.returns-then-index_negative
 unfolding arith_made arith_indexes
-returns-in-Operator t c graph =
-    rw (arith_told _ _ _ (c.arith_node-node.ensures graph) c.in-Operator.is, any_append, c.arith_negative-a.ensures graph, c.arith_negative-b.ensures graph)
+returns-then-index_negative t c graph =
+    rw (arith_told _ _ _ (c.arith_node-node.ensures graph) c.in-Element.is, any_first, ← c.index_negative.ensures graph, c.if-index_negative.true)
+
+pub returns-else-index_negative : goal.returns-else-index_negative
+unfolding arith_made arith_indexes
+returns-else-index_negative t c graph =
+    rw (arith_told _ _ _ (c.arith_node-node.ensures graph) c.in-Element.is, any_first, ← c.index_negative.ensures graph, c.if-index_negative.false)
+    (c.arith_negative.ensures graph)
+
+pub returns-then-arith_negative : goal.returns-then-arith_negative
+unfolding arith_made arith_indexes
+returns-then-arith_negative t c graph =
+    rw (arith_told _ _ _ (c.arith_node-node.ensures graph) c.in-Operator.is, any_append, ← c.arith_negative-in-Operator.ensures graph, c.if-arith_negative.true)
+
+pub returns-else-arith_negative : goal.returns-else-arith_negative
+unfolding arith_made arith_indexes
+returns-else-arith_negative t c graph =
+    rw (arith_told _ _ _ (c.arith_node-node.ensures graph) c.in-Operator.is, any_append, ← c.arith_negative-in-Operator.ensures graph, c.if-arith_negative.false)
+    (c.arith_negative-else-arith_negative.ensures graph)
