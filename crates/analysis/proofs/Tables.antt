@@ -1,5 +1,5 @@
 -- The set table behind a program's code: how it is put there, and what is read out of it.
-use Rattle.std.proofs.Common.{◌≡◌, ℕ, ◌-◌, ◌<◌, List, [], ◌++◌, length, get_or, take, drop, ap, ◌∙◌, append-nil, arith, length-drop, length-take-le, take_all, get_or-take, drop_at, ext_get_or}
+use Rattle.std.proofs.Common.{◌≡◌, ℕ, ◌<◌, List, [], ◌++◌, length, get_or, take, drop, ap, ◌∙◌, append-nil, arith, length-drop, length-take-le, take_all, get_or-take, drop_at, ext_get_or}
 use Rattle.std.proofs.lemmas.List.{drop_all}
 use borrow.Rule.Slice.PartMut.{put_mid}
 use lib.ListN.{get_or-append}
@@ -35,5 +35,5 @@ module _ {code : List ℕ} (t : Tabled code) where
   code_long = omega (arith, length-drop table_place code, ap length t.behind, table_long)
 
   -- an operator by the part of the code from the table on
-  pub table_read : (o : Operator) (a b : ℕ) → operate_by (take (length code - table_place) (drop table_place code)) o a b ≡ operate o a b
-  table_read o a b = ap (λ (l : List ℕ). operate_by l o a b) (take_all (length code - table_place) (drop table_place code) (omega (arith, length-drop table_place code)) ∙ t.behind) ∙ table_rule o a b
+  pub table_read : (o : Operator) (a b : ℕ) → operate_by (take 320 (drop table_place code)) o a b ≡ operate o a b
+  table_read o a b = ap (λ (l : List ℕ). operate_by l o a b) (take_all 320 (drop table_place code) (omega (arith, ap length t.behind, table_long)) ∙ t.behind) ∙ table_rule o a b

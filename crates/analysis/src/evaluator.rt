@@ -1,13 +1,23 @@
 // The sign analysis over a prepared program, in an abstract memory that is lent as an array: zeros after the last name's set.
 mod arithmetic;
-pub(crate) mod condition;
-pub(crate) mod index;
+mod condition;
+mod index;
 pub(crate) mod results;
 
 ghost use Rattle.std.specs.Prelude.{◌≡◌, if◌then◌else◌, slice_index};
 ghost use Rattle.analysis.specs.Signs as spec;
+ghost use Rattle.analysis.specs.Parts.Tabled.{Tabled, tabled_prop};
 
+use program::prepared::{CODE, GRAPH};
 use signs::{Sign, sets};
+
+// A prepared program with the set table of `signs` behind its code. It is handed on by value, as two references.
+#[derive(Clone, Copy)]
+pub(crate) struct Machine<'a> {
+    pub(crate) code: &'a [u16; CODE],
+    pub(crate) graph: &'a [u16; GRAPH],
+    pub(crate) ghost tabled: { Tabled code.now } by { tabled_prop code.now },
+}
 
 // The set of a name.
 fn set_of(rho: &[u8], x: u16) -> u8

@@ -12,7 +12,7 @@ ghost use Rattle.analysis.specs.Soundness;
 ghost use Rattle.analysis.specs.Parts.Tabled;
 ghost use Rattle.analysis.specs.Verdict as spec;
 
-use crate::evaluator::{condition, index as indices, results};
+use crate::evaluator::{Machine, results};
 use crate::membership::INDEX;
 use crate::{
     Change, Mark, Marking, RecordList, Spot, Verdict, WrongByte, lists, membership, set_table,
@@ -104,14 +104,14 @@ fn picked(
     match query {
         Query::MissingResult => {
             let action = prepared::plain_action(graph, e);
-            let found = results::results(code, graph, rho, action);
+            let found = Machine { code, graph }.results(rho, action);
             let names = prepared::name_count(code);
             let node = prepared::edge_target(graph, e);
             any_missing(index, solution, names, rho, weight, node, found)
         }
         Query::NegativeIndex => {
             let action = prepared::action(graph, e);
-            indices::may_be_negative(code, graph, rho, action)
+            Machine { code, graph }.may_be_negative(rho, action)
         }
     }
 }
@@ -167,7 +167,7 @@ fn first_missing(
     let count = prepared::edge_count(graph);
     let mut e = first;
     while e < count {
-        let t = condition::own_truths(code, graph, rho, e);
+        let t = Machine { code, graph }.own_truths(rho, e);
         if guard_missing(code, graph, index, solution, rho, weight, e, t.holds) {
             return Some(e);
         }
@@ -325,9 +325,10 @@ fn ever_negative(code: &[u16; CODE], graph: &[u16; GRAPH]) -> bool
     ensures { result ≡ false → (e : ℕ) → e < slice_index graph.now Prepared.edge_count_place → parts.NeverNegative code.now graph.now e }
 {
     let widest = [7u8; 32];
+    let machine = Machine { code, graph };
     (0..prepared::edge_count(graph)).any(|e| {
         let action = prepared::action(graph, e);
-        indices::may_be_negative(code, graph, &widest, action)
+        machine.may_be_negative(&widest, action)
     })
 }
 

@@ -5,6 +5,7 @@ ghost use Rattle.program.specs.Parts.Prepared.{code_length};
 ghost use Rattle.signs.specs.Grid as spec;
 ghost use Rattle.analysis.specs.Parts.Tabled as parts;
 
+use crate::evaluator::Machine;
 use program::prepared::{CODE, TABLE};
 use signs::{Operator, grid};
 
@@ -19,10 +20,12 @@ pub(crate) fn put(code: &mut [u16; CODE])
     }
 }
 
-// An operator on two sets, out of it.
-pub(crate) fn operate(code: &[u16], operator: Operator, a: u8, b: u8) -> u8
-    requires { parts.Tabled code.now }
-    ensures { result ≡ spec.operate operator a b }
-{
-    grid::operate_by(&code[TABLE..], operator, a, b)
+impl Machine<'_> {
+    // An operator on two sets, out of it.
+    pub(crate) fn operate(self, operator: Operator, a: u8, b: u8) -> u8
+        ensures { result ≡ spec.operate operator a b }
+    {
+        let code = self.code;
+        grid::operate_by(&code[TABLE..], operator, a, b)
+    }
 }

@@ -13,7 +13,7 @@ ghost use Rattle.analysis.specs.Solver as spec;
 ghost use Rattle.analysis.specs.Parts.Solving as parts;
 ghost use Rattle.analysis.specs.Parts.Tabled.{Tabled, Ready};
 
-use crate::evaluator::{condition, results};
+use crate::evaluator::{Machine, results};
 use crate::membership::INDEX;
 use crate::{Change, RecordList, Solved, Solving, WrongByte, lists, membership, set_table};
 use program::prepared::{CODE, GRAPH, NAMES_MOST};
@@ -113,7 +113,7 @@ fn offer_edge(
         → parts.found_in (2 + names_in code.now) buffer.new result ≡ spec.offer_results ns g room ρ (parts.found_in (2 + names_in code.now) buffer.old p) e }
 {
     let names = prepared::name_count(code);
-    let found = results::results(code, graph, rho, action);
+    let found = Machine { code, graph }.results(rho, action);
     offer_results(
         index,
         buffer,
@@ -174,7 +174,7 @@ fn offer_guarded(
     let mut progress = p;
     let mut e = first;
     while e < count {
-        let t = condition::own_truths(code, graph, rho, e);
+        let t = Machine { code, graph }.own_truths(rho, e);
         progress = offer_guard(
             code, graph, index, buffer, rho, weight, e, t.holds, progress,
         );

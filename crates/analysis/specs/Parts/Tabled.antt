@@ -1,5 +1,6 @@
 -- A prepared program with the set table of `signs` behind its code. No public contract cites these.
 use Rattle.std.specs.Prelude.{◌≡◌, ℕ, ◌<◌, List, drop, slice_index}
+use Rattle.std.specs.Coded.{Coded-set, coded_list, coded_ℕ}
 use Rattle.program.specs.Graph.{Graph}
 use Rattle.program.specs.Parts.Prepared.{table_place, Prepared, Linked}
 use Rattle.signs.specs.Grid.{set_table}
@@ -7,6 +8,10 @@ use Rattle.signs.specs.Grid.{set_table}
 -- code with the set table behind it
 pub record Tabled (code : List ℕ) : Type 0 where
   pub behind : drop table_place code ≡ set_table
+
+-- that it is there is told in one way, so a struct can hold it as a ghost field
+pub tabled_prop : (code : List ℕ) → IsProp (Tabled code)
+tabled_prop code a b = λ i. record { behind = Coded-set (coded_list coded_ℕ) _ _ a.behind b.behind i }
 
 -- the same, and nothing changed before it
 pub record TablePut (old code : List ℕ) : Type 0 where

@@ -7,11 +7,10 @@ ghost use Rattle.program.specs.Meaning as action;
 ghost use Rattle.signs.specs.Sign as sign;
 ghost use Rattle.analysis.specs.Parts.Changing.{packed, name_for, Before, ResultsIn};
 ghost use Rattle.analysis.specs.Results as spec;
-ghost use Rattle.analysis.specs.Parts.Tabled.{Tabled};
 
-use super::{arithmetic, condition, may_index, set_of};
+use super::{Machine, may_index, set_of};
 use program::ActionNode;
-use program::prepared::{CODE, COMMANDS, CONDITIONS, EXPRESSIONS, GRAPH, NAMES_MOST};
+use program::prepared::{COMMANDS, CONDITIONS, EXPRESSIONS, NAMES_MOST};
 use signs::{Sign, sets};
 
 // A set before others, where it is to be there.
@@ -105,48 +104,39 @@ pub(crate) fn unchanged(holds: bool) -> u64
     if holds { 96 } else { 32 }
 }
 
-// A[i] := a.
-fn element_stored(code: &[u16; CODE], rho: &[u8; 32], x: u16, i: u16, a: u16) -> u64
-    requires { Tabled code.now }
-    ensures { (graph : List ℕ) → ResultsIn rho.now
-        (action.stores x (arith_at (entries_in code.now graph) i) (arith_at (entries_in code.now graph) a)) result }
-{
-    let index = arithmetic::signs(code, rho, EXPRESSIONS, i);
-    if may_index(index) {
-        let values = arithmetic::signs(code, rho, EXPRESSIONS, a);
-        return stored_sets(x, set_of(rho, x), values);
+impl Machine<'_> {
+    // A[i] := a.
+    fn element_stored(self, rho: &[u8; 32], x: u16, i: u16, a: u16) -> u64
+        ensures { (graph : List ℕ) → ResultsIn rho.now
+            (action.stores x (arith_at (entries_in self.entry.code.now graph) i) (arith_at (entries_in self.entry.code.now graph) a)) result }
+    {
+        let index = self.signs(rho, EXPRESSIONS, i);
+        if may_index(index) {
+            let values = self.signs(rho, EXPRESSIONS, a);
+            return stored_sets(x, set_of(rho, x), values);
+        }
+        unchanged(false)
     }
-    unchanged(false)
-}
 
-// The results of an action.
-pub(crate) fn results(
-    code: &[u16; CODE],
-    graph: &[u16; GRAPH],
-    rho: &[u8; 32],
-    action: ActionNode,
-) -> u64
-    requires { Tabled code.now }
-    ensures { ResultsIn rho.now (decoded_meaning (entries_in code.now graph.now) action) result }
-{
-    match action {
-        ActionNode::Nothing => unchanged(true),
-        ActionNode::Assign(x, a) => {
-            let values = arithmetic::signs(code, rho, EXPRESSIONS, a);
-            assigned_sets(x, values)
-        }
-        ActionNode::Store(x, i, a) => element_stored(code, rho, x, i, a),
-        ActionNode::Holds(n) => {
-            let t = condition::truths(code, rho, CONDITIONS, n);
-            unchanged(t.holds)
-        }
-        ActionNode::Exit(n) => {
-            let t = condition::exit_truths(code, graph, rho, COMMANDS, n);
-            unchanged(t.holds)
-        }
-        ActionNode::Guard(n) => {
-            let t = condition::truths(code, rho, CONDITIONS, n);
-            unchanged(t.holds)
+    // The results of an action.
+    pub(crate) fn results(self, rho: &[u8; 32], action: ActionNode) -> u64
+        ensures { ResultsIn rho.now (decoded_meaning (entries_in self.entry.code.now self.entry.graph.now) action) result }
+    {
+        match action {
+            ActionNode::Nothing => unchanged(true),
+            ActionNode::Assign(x, a) => {
+                let values = self.signs(rho, EXPRESSIONS, a);
+                assigned_sets(x, values)
+            }
+            ActionNode::Store(x, i, a) => self.element_stored(rho, x, i, a),
+            ActionNode::Holds(n) | ActionNode::Guard(n) => {
+                let t = self.truths(rho, CONDITIONS, n);
+                unchanged(t.holds)
+            }
+            ActionNode::Exit(n) => {
+                let t = self.exit_truths(rho, COMMANDS, n);
+                unchanged(t.holds)
+            }
         }
     }
 }

@@ -58,10 +58,6 @@ pub returns : goal.returns
 returns c ns g ρ node x y o =
     sym (no_guard x y o c.loop-e.e (c.loop-e.invariant node o) (omega (arith, c.loop-e-test.false, c.edge_count-count.ensures)))
 
-pub own_truths-t-requires : goal.own_truths-t-requires
-own_truths-t-requires c =
-    c.requires.2
-
 pub guard_missing-requires : goal.guard_missing-requires
 guard_missing-requires c =
     c.requires.0

@@ -62,7 +62,3 @@ pub returns : goal.returns
 returns c =
     let l = c.loop-e in
     record { extended = l.invariant.0; offers = λ ns g ρ room node x y q o. all_along c.requires.0 _ x _ _ l.e (omega (arith, c.loop-e-test.false, c.edge_count-count.ensures)) (l.invariant.2 ns g ρ room node x y q o) }
-
-pub own_truths-t-requires : goal.own_truths-t-requires
-own_truths-t-requires c =
-    c.requires.3

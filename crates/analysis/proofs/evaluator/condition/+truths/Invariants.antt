@@ -1,5 +1,0 @@
--- The cycle of calls {`analysis::evaluator::condition::truths`}: a part is lower than what it is a part of, so the measure is `bound`.
-use Rattle.analysis.proofs.evaluator.condition.+truths.Given as goal
-
-abbrev pub decreases-truths : goal.decreases-truths
-decreases-truths l = l.bound

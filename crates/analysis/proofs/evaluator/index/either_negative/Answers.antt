@@ -1,8 +1,0 @@
--- `evaluator::index::either_negative`: both are whole trees.
-use Rattle.program.proofs.Laws.{arith_whole}
-use Rattle.analysis.proofs.evaluator.index.either_negative.Goals as goal
-
-pub returns : goal.returns
-returns c graph =
-    let s = c.args in
-    rw (arith_whole s.code.now graph s.p, arith_whole s.code.now graph s.q, c.arith_negative-a.ensures graph, c.arith_negative-b.ensures graph)
