@@ -308,15 +308,7 @@ fn first_initial(index: &[u16; INDEX], initial: &[u8], solution: &[u8], names: u
     requires { parts.Filled names solution.now index.now × (0 < names) × (names ≤ 32) × (Records.whole_records names initial.now ≡ true) }
     ensures { (ns : List ℕ) → length ns ≡ names → result ≡ spec.missing_initial ns initial.now solution.now }
 {
-    let count = record_count(initial, names);
-    let mut k: u16 = 0;
-    while k < count {
-        if !initial_listed(index, initial, solution, names, k) {
-            return Some(k);
-        }
-        k += 1;
-    }
-    None
+    (0..record_count(initial, names)).find(|k| !initial_listed(index, initial, solution, names, *k))
 }
 
 // Whether an index of an edge may be negative in the widest abstract memory; if none may, none may in any.
