@@ -1,7 +1,7 @@
 -- What an accepted solution is closed under: it has every start record at node 0 and, for each of its records and each edge out of its node, every
 -- result at the edge's target.
 use Rattle.program.specs.Asking.{Validity}
-use Rattle.std.specs.Prelude.{Err, Ok, None, Option, Some}
+use Rattle.std.specs.Prelude.{Err, Ok, None, Option, Some, is_some}
 use Rattle.std.proofs.Common.{◌≡◌, ℕ, Bool, true, false, not, ◌&&◌, T, eqb, ltb, List, [], ◌∷◌, length, sym, refl, ap, ◌∙◌, subst, arith, eqb→eq, ltb→lt}
 use mathlib.Core.List.{Memᴰ}
 use mir.Facts.{and_yes}
@@ -15,12 +15,11 @@ use Rattle.semantics.specs.Step.{leaves}
 use Rattle.analysis.specs.Index.{may_be_negative}
 use Rattle.analysis.specs.Records.{initial_width, record_width, record_count, record_at, records_of, node_of, memory_of, same_signs, gives, listed, has_at, has_initial, both_whole, initial_formed, solution_formed}
 use Rattle.analysis.specs.Results.{results}
-use Rattle.analysis.specs.Verdict.{missing_initial, is_here, spot_at, first_spot, missing_result, mark_of, index_mark, verdict_by, verdict_unless_refused, unless_malformed, verdict_over}
+use Rattle.analysis.specs.Verdict.{missing_initial, spot_at, first_spot, missing_result, mark_of, index_mark, verdict_by, verdict_unless_refused, unless_malformed, verdict_over}
 use Rattle.analysis.specs.declared.Mark.{Mark}
 use Rattle.analysis.specs.declared.Mark.TheVariants.{Clean}
 use Rattle.analysis.specs.declared.RecordList.{RecordList}
 use Rattle.analysis.specs.declared.Spot.{Spot}
-use Rattle.analysis.specs.declared.Spot.TheVariants.{At as Here, Nowhere}
 use Rattle.analysis.specs.declared.Verdict.{Verdict}
 use Rattle.analysis.specs.declared.Verdict.TheVariants.{Accepted}
 use Rattle.analysis.proofs.Tabulated.{member_any_of, at_any_of}
@@ -48,14 +47,14 @@ none_fails {A} p {x} xs e m = by (p x) refl
 -- what an accepted verdict says
 pub record Judged (ns : List ℕ) (g : Graph) (initial solution : List ℕ) (mark : Mark) : Type 0 where
   pub initial_there : missing_initial ns initial solution ≡ None
-  pub results_there : missing_result ns g solution ≡ Nowhere
+  pub results_there : missing_result ns g solution ≡ None
   pub marked : index_mark ns g solution ≡ mark
 
-by_missing : (k : Option ℕ) (spot : Spot) (m mark : Mark) → verdict_by k spot m ≡ Accepted mark → (k ≡ None) × (spot ≡ Nowhere) × (m ≡ mark)
+by_missing : (k : Option ℕ) (spot : Option Spot) (m mark : Mark) → verdict_by k spot m ≡ Accepted mark → (k ≡ None) × (spot ≡ None) × (m ≡ mark)
 unfolding verdict_by
 by_missing (Some k) spot m mark e = absurd (let z : ◌≡◌ {A = ℕ} 0 1 = cc in omega arith)
-by_missing None (Here k e) m mark p = absurd (let z : ◌≡◌ {A = ℕ} 0 1 = cc in omega arith)
-by_missing None Nowhere m mark e = (refl, refl, cc)
+by_missing None (Some x) m mark p = absurd (let z : ◌≡◌ {A = ℕ} 0 1 = cc in omega arith)
+by_missing None None m mark e = (refl, refl, cc)
 
 pub not_refused_accepted : (v : Validity) (w : Verdict) (mark : Mark) → verdict_unless_refused v w ≡ Accepted mark → (v ≡ Ok tt) × (w ≡ Accepted mark)
 unfolding verdict_unless_refused
@@ -76,13 +75,12 @@ accepted ns g initial solution mark e =
     let missing = by_missing (missing_initial ns initial solution) (missing_result ns g solution) (index_mark ns g solution) mark second in
     record { initial_there = missing.0; results_there = missing.1; marked = missing.2 }
 
--- nowhere is the one spot that is nowhere
-nowhere_only : (x : Spot) → is_here x ≡ false → x ≡ Nowhere
-unfolding is_here
-nowhere_only (Here k e) p = absurd (subst T p tt)
-nowhere_only Nowhere p = refl
+-- what is not some is none
+pub none_only : {A : Type 0} (x : Option A) → is_some x ≡ false → x ≡ None
+none_only (Some y) p = absurd (subst T p tt)
+none_only None p = refl
 
-no_edge : (k : ℕ) (e : Option ℕ) → spot_at k e ≡ Nowhere → e ≡ None
+no_edge : (k : ℕ) (e : Option ℕ) → spot_at k e ≡ None → e ≡ None
 unfolding spot_at
 no_edge k (Some e) p = absurd (let z : ◌≡◌ {A = ℕ} 0 1 = cc in omega arith)
 no_edge k None p = refl
@@ -94,11 +92,11 @@ second_fails false b t e = absurd t
 
 module _ (ns : List ℕ) (g : Graph) (solution : List ℕ) where
   -- where there is no first spot, no edge is picked that leaves the node of a record
-  pub never_picked : (picks : List ℕ → ℕ → Bool) → first_spot ns g solution picks ≡ Nowhere → (node : ℕ) (ρ : List ℕ) → T (has_at ns solution node ρ) → (e : ℕ) → T (leaves g e node) → picks ρ e ≡ false
-  unfolding first_spot has_at listed records_of gives leaves is_here
+  pub never_picked : (picks : List ℕ → ℕ → Bool) → first_spot ns g solution picks ≡ None → (node : ℕ) (ρ : List ℕ) → T (has_at ns solution node ρ) → (e : ℕ) → T (leaves g e node) → picks ρ e ≡ false
+  unfolding first_spot has_at listed records_of gives leaves
   never_picked picks none node ρ has e l =
       let w = at_any_of (gives ns node ρ) (record_at (record_width ns) solution) (record_count (record_width ns) solution) has in
-      by (record_at (record_width ns) solution w.0) w.2 (no_edge w.0 _ (first_nothing is_here Nowhere refl nowhere_only _ _ none w.0 w.1))
+      by (record_at (record_width ns) solution w.0) w.2 (no_edge w.0 _ (first_nothing is_some None refl none_only _ _ none w.0 w.1))
     where
       by : (r : List ℕ) → T (gives ns node ρ r) → first_such (length g.edges) (λ e. leaves g e (node_of r) && picks (memory_of ns r) e) ≡ None → picks ρ e ≡ false
       by r t none =
@@ -138,6 +136,6 @@ module _ (ns : List ℕ) (g : Graph) (initial solution : List ℕ) (mark : Mark)
   clean_index clean node ρ has e l =
       never_picked ns g solution (λ ρ e. may_be_negative ρ (meaning (edge_at g e).action)) (no_spot _ (j.marked ∙ clean)) node ρ has e l
     where
-      no_spot : (x : Spot) → mark_of x ≡ Clean → x ≡ Nowhere
-      no_spot (Here k e) p = absurd (let z : ◌≡◌ {A = ℕ} 0 1 = cc in omega arith)
-      no_spot Nowhere p = refl
+      no_spot : (x : Option Spot) → mark_of x ≡ Clean → x ≡ None
+      no_spot (Some y) p = absurd (let z : ◌≡◌ {A = ℕ} 0 1 = cc in omega arith)
+      no_spot None p = refl

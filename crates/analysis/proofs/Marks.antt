@@ -1,6 +1,6 @@
 -- The index mark is the same for every construction: where an action has an index that may be negative, its own guard has it or that of a lower edge out of its node, so
 -- the first such edge is the same without the earlier guards. Of index sets this uses only that those of ∧ are its sides' and those of ¬ its part's.
-use Rattle.std.specs.Prelude.{Ok, None, Option, Some}
+use Rattle.std.specs.Prelude.{Ok, None, Option, Some, is_some}
 use Rattle.std.proofs.Common.{◌≡◌, ℕ, zero, suc, ◌<◌, ◌≤◌, Bool, true, false, not, ◌&&◌, ◌||◌, ltb, List, [], ◌∷◌, map, length, get_or, sym, refl, ap, ◌∙◌, arith, lt-ltb, eq-eqb, eqb-true}
 use mathlib.Core.Bool.{false≢true, or_assoc, or-true, or-false}
 use mathlib.Core.List.{flat_map}
@@ -21,8 +21,7 @@ use Rattle.program.proofs.Tests.{two, both}
 use Rattle.semantics.specs.Step.{leaves}
 use Rattle.analysis.specs.Index.{boolean_indexes, index_sets, any_negative, may_be_negative}
 use Rattle.analysis.specs.Records.{record_width, record_count, record_at, node_of, memory_of}
-use Rattle.analysis.specs.Verdict.{is_here, spot_at, first_spot, mark_of, index_mark}
-use Rattle.analysis.specs.declared.Spot.TheVariants.{Nowhere}
+use Rattle.analysis.specs.Verdict.{spot_at, first_spot, mark_of, index_mark}
 use Rattle.analysis.proofs.Negative.{any_append}
 
 -- the first that passes is the same for two tests, where what passes the second passes the first, and what passes the first passes the second or comes after one that does
@@ -124,7 +123,7 @@ module _ (g : Graph) (follows : (e : ℕ) → e < length g.edges → Follows (be
   unfolding index_mark first_spot
   own_mark ns solution =
       ap mark_of
-      (first_same is_here Nowhere (record_count (record_width ns) solution) _ _
+      (first_same is_some None (record_count (record_width ns) solution) _ _
       (λ k h. ap (spot_at k) (node_same (node_of (record_at (record_width ns) solution k)) (memory_of ns (record_at (record_width ns) solution k)))))
 
 -- ---- the graph of the actions without their earlier guards
@@ -147,7 +146,7 @@ module _ (g : Graph) where
   unfolding index_mark first_spot leaves plain_edge
   plain_mark ns solution =
       ap mark_of
-      (first_same is_here Nowhere (record_count (record_width ns) solution) _ _
+      (first_same is_some None (record_count (record_width ns) solution) _ _
       (λ k h. ap (spot_at k) (same (node_of (record_at (record_width ns) solution k)) (memory_of ns (record_at (record_width ns) solution k)))))
     where
       same : (node : ℕ) (ρ : List ℕ)

@@ -23,7 +23,6 @@ use Rattle.analysis.specs.declared.Solving.{Solving}
 use Rattle.analysis.specs.declared.Solving.TheVariants.{Finished, Full, Refused as Halts, Malformed as Unfit}
 use Rattle.analysis.specs.declared.Split.{Split}
 use Rattle.analysis.specs.declared.Spot.{Spot}
-use Rattle.analysis.specs.declared.Spot.TheVariants.{At as Here, Nowhere}
 use Rattle.analysis.specs.declared.Verdict.{Verdict}
 use Rattle.analysis.specs.declared.Verdict.TheVariants.{Refused as Refuses, Malformed, InitialMissing, ResultMissing, Accepted}
 use Rattle.analysis.specs.declared.WrongByte.{WrongByte}
@@ -79,11 +78,11 @@ unfolding unless_malformed QuestionsOnly
 formed_asked list (Ok _) w q x e = q x e
 formed_asked list (Err y) w q x e = never cc
 
-found_asked : (f : Option ℕ) (spot : Spot) (mark : Mark) → QuestionsOnly (verdict_by f spot mark)
+found_asked : (f : Option ℕ) (spot : Option Spot) (mark : Mark) → QuestionsOnly (verdict_by f spot mark)
 unfolding verdict_by QuestionsOnly
 found_asked (Some k) spot mark x e = never cc
-found_asked None (Here k k') mark x e = never cc
-found_asked None Nowhere mark x e = never cc
+found_asked None (Some y) mark x e = never cc
+found_asked None None mark x e = never cc
 
 pub verdict_asked : (κ : Construction) (s initial solution : List ℕ) → QuestionsOnly (verdict κ s initial solution)
 unfolding verdict verdict_over both_whole

@@ -1,5 +1,5 @@
 -- A solution is searched through its index: what is found of one abstract memory, of the results of an edge, and of the edges out of a node.
-use Rattle.std.specs.Prelude.{None, Option, Some}
+use Rattle.std.specs.Prelude.{None, Option, Some, is_some, MatchOption}
 use Rattle.std.proofs.Common.{◌≡◌, ℕ, suc, ◌+◌, ◌*◌, ◌/◌, ◌%◌, ◌<◌, ◌≤◌, Bool, true, false, cond, not, ◌&&◌, eqb, List, [], ◌∷◌, map, length, get_or, set, sym, refl, ap, ◌∙◌, arith, lt-ltb, eq-eqb}
 use mathlib.Core.Bool.{false≢true}
 use native.Mathlib.Decide.{ℕ_discrete, dec_lt}
@@ -14,7 +14,7 @@ use Rattle.program.specs.Meaning.{meaning}
 use Rattle.program.specs.Parts.Preceding.{plain}
 use Rattle.program.specs.Parts.Prepared.{Prepared, Following, entries_in, source_in, target_in, action_in, decoded_meaning, is_guard_node, edge_count_place}
 use Rattle.program.specs.declared.ActionNode.{ActionNode}
-use Rattle.program.proofs.Laws.{first_at, first_more, first_such_lem, none_such, such_stops, such_goes_on}
+use Rattle.program.proofs.Laws.{first_at, first_more, first_such_lem, none_such}
 use Rattle.semantics.specs.Parts.Selecting.{Opens}
 use Rattle.semantics.specs.Step.{leaves}
 use Rattle.semantics.proofs.Opened.{opens}
@@ -25,12 +25,12 @@ use Rattle.analysis.specs.Parts.Membership.{among, changed, Front}
 use Rattle.analysis.specs.Parts.RecordParts.{padded}
 use Rattle.analysis.specs.Records.{initial_width, record_width, record_count, record_at, record_for, node_of, memory_of, has_at}
 use Rattle.analysis.specs.Signs.{truths_in}
-use Rattle.analysis.specs.Verdict.{missing_initial, is_here, first_spot}
+use Rattle.analysis.specs.Verdict.{missing_initial, first_spot}
 use Rattle.analysis.specs.declared.Change.{Change}
 use Rattle.analysis.specs.declared.Spot.{Spot}
-use Rattle.analysis.specs.declared.Spot.TheVariants.{At as Here, Nowhere}
 use Rattle.analysis.specs.declared.judging.Query.{Query}
 use Rattle.analysis.specs.declared.judging.Query.TheVariants.{MissingResult, NegativeIndex}
+use Rattle.analysis.proofs.Accepted.{none_only}
 use Rattle.analysis.proofs.Alike.{truths_alike, negative_alike}
 use Rattle.analysis.proofs.Among.{has_among}
 use Rattle.analysis.proofs.Digits.{sets_none, sets_next}
@@ -233,29 +233,23 @@ module _ {ns : List ℕ} {g : Graph} {code graph : List ℕ} {q : Query} {soluti
       (memory_reads solution k (names_in code) ns same_names (omega (arith, same_names, x.prepared.coded.few)) (record_inside (length solution) (2 + names_in code) k h) rho p)
 
 -- the first record that a query finds something at, as a loop finds it
-only_nowhere : (x : Spot) → is_here x ≡ false → x ≡ Nowhere
-unfolding is_here
-only_nowhere (Here k e) p = absurd (false≢true (sym p))
-only_nowhere Nowhere p = refl
-
 module _ (ns : List ℕ) (g : Graph) (solution : List ℕ) (q : Query) where
   abbrev pub NowhereTo : ℕ → Type 0
-  NowhereTo k = first_of is_here Nowhere k (spot_of ns g solution q) ≡ Nowhere
+  NowhereTo k = first_of is_some None k (spot_of ns g solution q) ≡ None
 
   pub nowhere_none : NowhereTo 0
   unfolding first_of
   nowhere_none = refl
 
-  pub spot_here : (k : ℕ) → k < record_count (record_width ns) solution → NowhereTo k → (spot : Spot) → spot ≡ spot_of ns g solution q k → is_here spot ≡ true
+  pub spot_here : (k : ℕ) → k < record_count (record_width ns) solution → NowhereTo k → (spot : Option Spot) → spot ≡ spot_of ns g solution q k → is_some spot ≡ true
       → spot ≡ first_spot ns g solution (picks ns g solution q)
-  unfolding first_spot spot_of first_picked is_here
-  spot_here k h e spot p t = p ∙ sym (first_at is_here Nowhere refl only_nowhere _ (spot_of ns g solution q) k h e (ap is_here (sym p) ∙ t))
+  unfolding first_spot spot_of first_picked
+  spot_here k h e spot p t = p ∙ sym (first_at is_some None refl none_only _ (spot_of ns g solution q) k h e (ap is_some (sym p) ∙ t))
 
-  pub spot_beyond : (k : ℕ) → NowhereTo k → (spot : Spot) → spot ≡ spot_of ns g solution q k → is_here spot ≡ false → NowhereTo (suc k)
-  unfolding is_here
-  spot_beyond k e spot p t = first_more is_here Nowhere refl only_nowhere (spot_of ns g solution q) k e (sym p ∙ only_nowhere spot t)
+  pub spot_beyond : (k : ℕ) → NowhereTo k → (spot : Option Spot) → spot ≡ spot_of ns g solution q k → is_some spot ≡ false → NowhereTo (suc k)
+  spot_beyond k e spot p t = first_more is_some None refl none_only (spot_of ns g solution q) k e (sym p ∙ none_only spot t)
 
-  pub spot_nowhere : (k : ℕ) → k ≡ record_count (record_width ns) solution → NowhereTo k → Nowhere ≡ first_spot ns g solution (picks ns g solution q)
+  pub spot_nowhere : (k : ℕ) → k ≡ record_count (record_width ns) solution → NowhereTo k → None ≡ first_spot ns g solution (picks ns g solution q)
   unfolding first_spot spot_of first_picked
   spot_nowhere k p e = sym (rw (← p) e)
 
@@ -274,30 +268,17 @@ module _ {names : ℕ} (ns : List ℕ) (e : length ns ≡ names) (few : names �
   pub start_unchanged : (rho : List ℕ) → rho ≡ padded initial (names * k) names → (s : ℕ) → set (record_at (initial_width ns) initial k) 32 s ≡ record_at (initial_width ns) initial k
   start_unchanged rho p s = set_out _ 32 s (omega (arith, (start_read rho p).sized))
 
--- the first start record that is missing, as a loop finds it
-module _ (ns : List ℕ) (names : ℕ) (initial solution : List ℕ) (e : length ns ≡ names) where
-  abbrev is_missing : ℕ → Bool
+-- the first start record that is missing, by what is known of those passed and of the one found
+module _ (ns : List ℕ) (initial solution : List ℕ) where
+  abbrev pub is_missing : ℕ → Bool
   is_missing k = not (has_at ns solution 0 (record_at (initial_width ns) initial k))
 
-  abbrev pub NoneMissing : ℕ → Type 0
-  NoneMissing k = first_such k is_missing ≡ None
-
-  pub none_looked : NoneMissing 0
-  unfolding first_such first_of
-  none_looked = refl
-
-  pub start_listed : (k : ℕ) → NoneMissing k → has_at ns solution 0 (record_at (initial_width ns) initial k) ≡ true → NoneMissing (suc k)
-  start_listed k n p = such_goes_on is_missing k n (ap not p)
-
-  counts : (count : ℕ) → count ≡ record_count names initial → record_count (initial_width ns) initial ≡ count
-  unfolding initial_width
-  counts count c = ap (λ (n : ℕ). record_count n initial) e ∙ sym c
-
-  pub start_missing : (k count : ℕ) → count ≡ record_count names initial → k < count → NoneMissing k → has_at ns solution 0 (record_at (initial_width ns) initial k) ≡ false
-      → missing_initial ns initial solution ≡ Some k
-  unfolding missing_initial
-  start_missing k count c h n p = such_stops (record_count (initial_width ns) initial) is_missing k (omega (arith, counts count c)) n (ap not p)
-
-  pub starts_listed : (k count : ℕ) → count ≡ record_count names initial → k ≡ count → NoneMissing k → missing_initial ns initial solution ≡ None
-  unfolding missing_initial
-  starts_listed k count c h n = ap (λ (m : ℕ). first_such m is_missing) (counts count c ∙ sym h) ∙ n
+  pub missing_found : {names : ℕ} → length ns ≡ names → (count : ℕ) → count ≡ record_count names initial → (r : Option ℕ)
+      → MatchOption r ((k : ℕ) → 0 ≤ k → k < count → is_missing k ≡ false) (λ k. (0 ≤ k) × (k < count) × (is_missing k ≡ true) × ((j : ℕ) → 0 ≤ j → j < k → is_missing j ≡ false))
+      → r ≡ missing_initial ns initial solution
+  unfolding missing_initial initial_width
+  missing_found e count p None h = sym (none_such _ is_missing (λ k l. h k (omega arith) (omega (arith, p, ap (λ (n : ℕ). record_count n initial) e))))
+  missing_found e count p (Some k) h =
+      sym
+      (first_such_lem _ is_missing k
+      (record { below = omega (arith, h.1, p, ap (λ (n : ℕ). record_count n initial) e); passes = h.2; before = λ j l. h.3 j (omega arith) l }))

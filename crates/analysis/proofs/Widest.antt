@@ -1,4 +1,5 @@
 -- An index that is never negative in the widest abstract memory, which has every sign for every name, is negative in none.
+use Rattle.std.specs.Prelude.{None}
 use Rattle.std.proofs.Common.{◌≡◌, ℕ, zero, suc, ◌<◌, ◌≤◌, Bool, true, false, cond, ◌&&◌, ◌||◌, T, List, ◌∷◌, ◌++◌, length, get_or, drop, replicate, sym, refl, ap, ◌∙◌, subst, arith, length-take}
 use native.Mathlib.Decide.{dec_lt}
 use lib.ListN.{get_or-eq_default}
@@ -19,8 +20,7 @@ use Rattle.analysis.specs.Index.{arith_indexes, boolean_indexes, index_sets, any
 use Rattle.analysis.specs.Parts.Judging.{picks, first_picked, spot_of, widest, NeverNegative}
 use Rattle.analysis.specs.Records.{record_width, record_count, record_at, node_of, memory_of}
 use Rattle.analysis.specs.Signs.{may_index, signs_in}
-use Rattle.analysis.specs.Verdict.{is_here, spot_at, first_spot}
-use Rattle.analysis.specs.declared.Spot.TheVariants.{Nowhere}
+use Rattle.analysis.specs.Verdict.{spot_at, first_spot}
 use Rattle.analysis.specs.declared.judging.Query.TheVariants.{NegativeIndex}
 use Rattle.analysis.proofs.Negative.{SomeMinus, any_append}
 use Rattle.analysis.proofs.Searching.{NowhereTo, nowhere_none, spot_beyond, spot_nowhere}
@@ -109,7 +109,7 @@ module _ {ns : List ℕ} {g : Graph} {code graph : List ℕ} (p : Prepared ns g 
   unfolding picks NeverNegative
   unpicked e h ρ small = never ρ _ small (ap (may_be_negative widest) (sym (p.edge e h).action) ∙ none e (omega (arith, p.edges)))
 
-  nowhere_at : (k : ℕ) → spot_of ns g solution NegativeIndex k ≡ Nowhere
+  nowhere_at : (k : ℕ) → spot_of ns g solution NegativeIndex k ≡ None
   unfolding spot_of spot_at first_picked memory_of
   nowhere_at k = ap (spot_at k) (none_such (length g.edges) _ (λ e h. and_false (leaves g e (node_of r)) (unpicked e h (memory_of ns r) short)))
     where
@@ -124,9 +124,8 @@ module _ {ns : List ℕ} {g : Graph} {code graph : List ℕ} (p : Prepared ns g 
       and_false false p = refl
 
   nowhere_to : (k : ℕ) → NowhereTo ns g solution NegativeIndex k
-  unfolding is_here
   nowhere_to zero = nowhere_none ns g solution NegativeIndex
-  nowhere_to (suc k) = spot_beyond ns g solution NegativeIndex k (nowhere_to k) Nowhere (sym (nowhere_at k)) refl
+  nowhere_to (suc k) = spot_beyond ns g solution NegativeIndex k (nowhere_to k) None (sym (nowhere_at k)) refl
 
-  pub none_negative : first_spot ns g solution (picks ns g solution NegativeIndex) ≡ Nowhere
+  pub none_negative : first_spot ns g solution (picks ns g solution NegativeIndex) ≡ None
   none_negative = sym (spot_nowhere ns g solution NegativeIndex (record_count (record_width ns) solution) refl (nowhere_to _))

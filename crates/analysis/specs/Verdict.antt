@@ -1,5 +1,5 @@
 -- The verdict on a candidate solution, for a graph g whose names have the sizes ns (document 01, "Signs": "Verdict"; book, Definition 4.29).
-use Rattle.std.specs.Prelude.{ℕ, Bool, true, false, not, ◌&&◌, List, [], ◌∷◌, length, Err, Ok, None, Option, Some}
+use Rattle.std.specs.Prelude.{ℕ, Bool, not, ◌&&◌, List, [], ◌∷◌, length, Err, Ok, None, Option, Some, is_some}
 use Rattle.signs.specs.Lists.{any_of}
 use Rattle.program.specs.Asking.{ask_plain, then_ask, Validity}
 use Rattle.program.specs.File.{sizes}
@@ -20,7 +20,6 @@ use Rattle.analysis.specs.declared.Marking.TheVariants.{Refused as Declined, Mal
 use Rattle.analysis.specs.declared.RecordList.{RecordList}
 use Rattle.analysis.specs.declared.RecordList.TheVariants.{Initial, Solution}
 use Rattle.analysis.specs.declared.Spot.{Spot}
-use Rattle.analysis.specs.declared.Spot.TheVariants.{At as Here, Nowhere}
 use Rattle.analysis.specs.declared.Verdict.{Verdict}
 use Rattle.analysis.specs.declared.Verdict.TheVariants.{Refused as Refuses, Malformed, InitialMissing, ResultMissing, Accepted}
 
@@ -31,42 +30,38 @@ missing_initial ns initial solution =
     (λ k. not (has_at ns solution 0 (record_at (initial_width ns) initial k)))
 
 -- a spot: the first edge that was found for record k, or none
-unfoldable pub is_here : Spot → Bool
-is_here (Here k e) = true
-is_here Nowhere = false
-
-unfoldable pub spot_at : ℕ → Option ℕ → Spot
-spot_at k (Some e) = Here k e
-spot_at k None = Nowhere
+unfoldable pub spot_at : ℕ → Option ℕ → Option Spot
+spot_at k (Some e) = Some (record { «record» = k; edge = e })
+spot_at k None = None
 
 -- "lowest record, then lowest arrow": the first record, and the first edge leaving its node, that a test of the abstract memory and the edge picks
-unfoldable pub first_spot : List ℕ → Graph → List ℕ → (List ℕ → ℕ → Bool) → Spot
+unfoldable pub first_spot : List ℕ → Graph → List ℕ → (List ℕ → ℕ → Bool) → Option Spot
 first_spot ns g solution picks =
-    first_of is_here Nowhere (record_count (record_width ns) solution)
+    first_of is_some None (record_count (record_width ns) solution)
     (λ k.
     let r = record_at (record_width ns) solution k in
     spot_at k (first_such (length g.edges) (λ e. leaves g e (node_of r) && picks (memory_of ns r) e)))
 
 -- "42, a result missing at the arrow's target"
-unfoldable pub missing_result : List ℕ → Graph → List ℕ → Spot
+unfoldable pub missing_result : List ℕ → Graph → List ℕ → Option Spot
 missing_result ns g solution =
     first_spot ns g solution
     (λ ρ e. any_of (λ σ. not (has_at ns solution (edge_at g e).target σ)) (results ρ (meaning (edge_at g e).action)))
 
 -- "index clean if at no record does an arrow leaving its node hold an index expression … whose set has minus; else the lowest record, then its
 -- lowest such arrow, are named"
-unfoldable pub mark_of : Spot → Mark
-mark_of Nowhere = Clean
-mark_of (Here k e) = Unclean k e
+unfoldable pub mark_of : Option Spot → Mark
+mark_of None = Clean
+mark_of (Some x) = Unclean x.«record» x.edge
 
 unfoldable pub index_mark : List ℕ → Graph → List ℕ → Mark
 index_mark ns g solution = mark_of (first_spot ns g solution (λ ρ e. may_be_negative ρ (meaning (edge_at g e).action)))
 
 -- the verdict by what is missing: 41, else 42, "else accepted"
-unfoldable pub verdict_by : Option ℕ → Spot → Mark → Verdict
+unfoldable pub verdict_by : Option ℕ → Option Spot → Mark → Verdict
 verdict_by (Some k) spot mark = InitialMissing k
-verdict_by None (Here k e) mark = ResultMissing k e
-verdict_by None Nowhere mark = Accepted mark
+verdict_by None (Some x) mark = ResultMissing x.«record» x.edge
+verdict_by None None mark = Accepted mark
 
 -- a verdict where no question is refused, and where no record of a list is malformed
 unfoldable pub verdict_unless_refused : Validity → Verdict → Verdict

@@ -217,7 +217,7 @@ fn spot_at(
     index: &[u16; INDEX],
     solution: &[u8],
     k: u16,
-) -> Spot
+) -> Option<Spot>
     requires { parts.Searchable code.now graph.now solution.now index.now × (k < Records.record_count (2 + parts.names_in code.now) solution.now) }
     ensures { (ns : List ℕ) (g : Graph.Graph)
         → parts.Searched ns g code.now graph.now query solution.now index.now
@@ -229,20 +229,8 @@ fn spot_at(
     let mut rho = [0u8; 32];
     lists::read_memory(&mut rho, solution, at + 2, names);
     let weight = membership::weight(index, solution, at + 2, names);
-    let found = first_picked(query, code, graph, index, solution, &rho, weight, node);
-    match found {
-        Some(e) => Spot::At { record: k, edge: e },
-        None => Spot::Nowhere,
-    }
-}
-
-fn is_here(spot: Spot) -> bool
-    ensures { result ≡ spec.is_here spot }
-{
-    match spot {
-        Spot::At { record: _, edge: _ } => true,
-        Spot::Nowhere => false,
-    }
+    let edge = first_picked(query, code, graph, index, solution, &rho, weight, node)?;
+    Some(Spot { record: k, edge })
 }
 
 // The number of records of a width in a list of at most 4,096.
@@ -260,23 +248,20 @@ fn first_spot(
     graph: &[u16; GRAPH],
     index: &[u16; INDEX],
     solution: &[u8],
-) -> Spot
+) -> Option<Spot>
     requires { parts.Searchable code.now graph.now solution.now index.now }
     ensures { (ns : List ℕ) (g : Graph.Graph)
         → parts.Searched ns g code.now graph.now query solution.now index.now
         → result ≡ spec.first_spot ns g solution.now (parts.picks ns g solution.now query) }
 {
     let names = prepared::name_count(code);
-    let records = record_count(solution, 2 + names);
-    let mut k: u16 = 0;
-    while k < records {
+    for k in 0..record_count(solution, 2 + names) {
         let spot = spot_at(query, code, graph, index, solution, k);
-        if is_here(spot) {
+        if spot.is_some() {
             return spot;
         }
-        k += 1;
     }
-    Spot::Nowhere
+    None
 }
 
 // Whether a solution has start record k at node 0.
@@ -308,15 +293,7 @@ fn first_initial(index: &[u16; INDEX], initial: &[u8], solution: &[u8], names: u
     requires { parts.Filled names solution.now index.now × (0 < names) × (names ≤ 32) × (Records.whole_records names initial.now ≡ true) }
     ensures { (ns : List ℕ) → length ns ≡ names → result ≡ spec.missing_initial ns initial.now solution.now }
 {
-    let count = record_count(initial, names);
-    let mut k: u16 = 0;
-    while k < count {
-        if !initial_listed(index, initial, solution, names, k) {
-            return Some(k);
-        }
-        k += 1;
-    }
-    None
+    (0..record_count(initial, names)).find(|k| !initial_listed(index, initial, solution, names, *k))
 }
 
 // Whether an index of an edge may be negative in the widest abstract memory; if none may, none may in any.
@@ -333,12 +310,13 @@ fn ever_negative(code: &[u16; CODE], graph: &[u16; GRAPH]) -> bool
 }
 
 // The index mark, by what was found.
-fn mark_at(spot: Spot) -> Mark
+#[tactic(auto, unfolding(crate::specs::Verdict::mark_of))]
+fn mark_at(spot: Option<Spot>) -> Mark
     ensures { result ≡ spec.mark_of spot }
 {
     match spot {
-        Spot::At { record, edge } => Mark::Unclean { record, edge },
-        Spot::Nowhere => Mark::Clean,
+        Some(Spot { record, edge }) => Mark::Unclean { record, edge },
+        None => Mark::Clean,
     }
 }
 
@@ -370,8 +348,8 @@ fn judge_results(
 {
     let spot = first_spot(Query::MissingResult, code, graph, index, solution);
     match spot {
-        Spot::At { record, edge } => Verdict::ResultMissing { record, edge },
-        Spot::Nowhere => Verdict::Accepted(mark_of(code, graph, index, solution)),
+        Some(Spot { record, edge }) => Verdict::ResultMissing { record, edge },
+        None => Verdict::Accepted(mark_of(code, graph, index, solution)),
     }
 }
 

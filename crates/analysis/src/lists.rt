@@ -55,17 +55,9 @@ fn memory_formed(code: &[u16; CODE], names: usize, bytes: &[u8], at: usize) -> R
     if all_formed(code, names, bytes, at) {
         return Ok(());
     }
-    let mut i: usize = 0;
-    while i < names {
-        let v = validation::ask(
-            byte_formed(prepared::size_of(code, i as u16), bytes[at + i]),
-            17,
-            at + i,
-        );
-        if validation::refused(v) {
-            return v;
-        }
-        i += 1;
+    for i in 0..names {
+        let yes = byte_formed(prepared::size_of(code, i as u16), bytes[at + i]);
+        validation::ask(yes, 17, at + i)?;
     }
     Ok(())
 }
@@ -76,14 +68,8 @@ pub(crate) fn initial_formed(code: &[u16; CODE], bytes: &[u8]) -> Result<(), Ref
     ensures { (ns : List ℕ) → Prepared.Coded ns code.now → result ≡ spec.initial_formed ns bytes.now }
 {
     let names = prepared::name_count(code);
-    let count = bytes.len() / names;
-    let mut k: usize = 0;
-    while k < count {
-        let v = memory_formed(code, names, bytes, names * k);
-        if validation::refused(v) {
-            return v;
-        }
-        k += 1;
+    for k in 0..bytes.len() / names {
+        memory_formed(code, names, bytes, names * k)?;
     }
     Ok(())
 }
@@ -99,10 +85,7 @@ fn record_formed(
     requires { (names ≤ 32) × (at + 2 + names ≤ length bytes.now) }
     ensures { (ns : List ℕ) → parts.SizesIn ns code.now names → result ≡ parts.record_formed ns nodes bytes.now at }
 {
-    let node = validation::ask(file::word_at(bytes, at) < nodes, 17, at);
-    if validation::refused(node) {
-        return node;
-    }
+    validation::ask(file::word_at(bytes, at) < nodes, 17, at)?;
     memory_formed(code, names, bytes, at + 2)
 }
 
@@ -113,14 +96,8 @@ pub(crate) fn solution_formed(code: &[u16; CODE], nodes: u16, bytes: &[u8]) -> R
 {
     let names = prepared::name_count(code);
     let width = 2 + names;
-    let count = bytes.len() / width;
-    let mut k: usize = 0;
-    while k < count {
-        let v = record_formed(code, names, nodes, bytes, width * k);
-        if validation::refused(v) {
-            return v;
-        }
-        k += 1;
+    for k in 0..bytes.len() / width {
+        record_formed(code, names, nodes, bytes, width * k)?;
     }
     Ok(())
 }

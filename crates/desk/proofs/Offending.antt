@@ -1,8 +1,9 @@
 -- The offending record lies inside its list.
 use Rattle.program.specs.Asking.{Validity}
-use Rattle.std.specs.Prelude.{Err, Ok, None, Option, Some}
+use Rattle.std.specs.Prelude.{Err, Ok, None, Option, Some, is_some}
+use Rattle.analysis.proofs.Accepted.{none_only}
 use mathlib.Core.Path.{◌≡◌, refl, sym, ◌∙◌, ap}
-use mathlib.Core.Bool.{Bool, false, false≢true}
+use mathlib.Core.Bool.{Bool}
 use mathlib.Core.List.{List, map}
 use Prim.Native.Nat.{ℕ, ◌+◌, ◌/◌, ◌≤◌, ◌<◌}
 use native.Mathlib.Omega.{arith}
@@ -14,12 +15,11 @@ use Rattle.program.specs.declared.Construction.{Construction}
 use Rattle.program.specs.Questions.{validity}
 use Rattle.program.proofs.Laws.{sizes_length, first_found, such_first}
 use Rattle.analysis.specs.Records.{initial_width, record_width, record_count, record_at}
-use Rattle.analysis.specs.Verdict.{missing_initial, is_here, spot_at, first_spot, missing_result, verdict_by, verdict_unless_refused, unless_malformed, verdict_over, verdict, verdict_row, offending}
+use Rattle.analysis.specs.Verdict.{missing_initial, spot_at, first_spot, missing_result, verdict_by, verdict_unless_refused, unless_malformed, verdict_over, verdict, verdict_row, offending}
 use Rattle.analysis.specs.declared.Mark.{Mark}
 use Rattle.analysis.specs.declared.Mark.TheVariants.{Clean, Unclean}
 use Rattle.analysis.specs.declared.RecordList.{RecordList}
 use Rattle.analysis.specs.declared.Spot.{Spot}
-use Rattle.analysis.specs.declared.Spot.TheVariants.{At as Here, Nowhere}
 use Rattle.analysis.specs.declared.Verdict.{Verdict}
 use Rattle.analysis.specs.declared.Verdict.TheVariants.{Refused as Refuses, Malformed, InitialMissing, ResultMissing, Accepted}
 use Rattle.desk.specs.Parts.Heads.{verdict_head, verdict_behind}
@@ -72,7 +72,7 @@ module _ (initials solutions : ℕ) where
         later = λ k a e. never (cc);
       }
 
-  found_named : (f : Option ℕ) (spot : Spot) (mark : Mark) → ((k : ℕ) → f ≡ Some k → k < initials) → ((k e : ℕ) → spot ≡ Here k e → k < solutions)
+  found_named : (f : Option ℕ) (spot : Option Spot) (mark : Mark) → ((k : ℕ) → f ≡ Some k → k < initials) → ((x : Spot) → spot ≡ Some x → x.«record» < solutions)
       → Named initials solutions (verdict_by f spot mark)
   unfolding verdict_by
   found_named (Some j) spot mark p q =
@@ -80,34 +80,29 @@ module _ (initials solutions : ℕ) where
         first = λ k e. p k (let same : j ≡ k = cc in ap Some same);
         later = λ k a e. never (cc);
       }
-  found_named None (Here j b) mark p q =
+  found_named None (Some x) mark p q =
       record {
         first = λ k e. never (cc);
-        later = λ k a e. let same : j ≡ k = cc in q k b (ap (λ (i : ℕ). Here i b) same);
+        later = λ k a e. let same : x.«record» ≡ k = cc in rw (← same) (q x refl);
       }
-  found_named None Nowhere mark p q =
+  found_named None None mark p q =
       record {
         first = λ k e. never (cc);
         later = λ k a e. never (cc);
       }
 
 -- 41 and 42 are found among the records
-at_same : (j : ℕ) (f : Option ℕ) (k e : ℕ) → spot_at j f ≡ Here k e → j ≡ k
+at_same : (j : ℕ) (f : Option ℕ) (x : Spot) → spot_at j f ≡ Some x → j ≡ x.«record»
 unfolding spot_at
-at_same j (Some a) k e p = cc
-at_same j None k e p = never (cc)
+at_same j (Some a) x p = let same : record { «record» = j; edge = a } ≡ x = cc in ap (λ (y : Spot). y.«record») same
+at_same j None x p = never (cc)
 
-only_nowhere : (x : Spot) → is_here x ≡ false → x ≡ Nowhere
-unfolding is_here
-only_nowhere (Here k e) p = absurd (false≢true (sym p))
-only_nowhere Nowhere p = refl
-
-spot_there : (ns : List ℕ) (g : Graph) (solution : List ℕ) (picks : List ℕ → ℕ → Bool) (k e : ℕ) → first_spot ns g solution picks ≡ Here k e
-    → k < record_count (record_width ns) solution
-unfolding first_spot is_here
-spot_there ns g solution picks k e p =
-    let found = first_found is_here Nowhere refl only_nowhere _ _ (ap is_here p) in
-    let same = at_same found.at _ k e (sym found.answer ∙ p) in
+spot_there : (ns : List ℕ) (g : Graph) (solution : List ℕ) (picks : List ℕ → ℕ → Bool) (x : Spot) → first_spot ns g solution picks ≡ Some x
+    → x.«record» < record_count (record_width ns) solution
+unfolding first_spot
+spot_there ns g solution picks x p =
+    let found = first_found is_some None refl none_only _ _ (ap is_some p) in
+    let same = at_same found.at _ x (sym found.answer ∙ p) in
     omega (arith, found.below)
 
 over_named : (ns : List ℕ) (g : Graph) (initial solution : List ℕ)
@@ -116,7 +111,7 @@ unfolding verdict_over missing_initial missing_result
 over_named ns g initial solution =
     unless_named _ _ _ _
     (formed_named _ _ _ _ _
-    (formed_named _ _ _ _ _ (found_named _ _ _ _ _ (λ k e. (such_first _ _ k e).below) (λ k e p. spot_there ns g solution _ k e p))))
+    (formed_named _ _ _ _ _ (found_named _ _ _ _ _ (λ k e. (such_first _ _ k e).below) (λ x p. spot_there ns g solution _ x p))))
 
 -- so the part that a row names lies inside its list
 pub offending_inside : (κ : Construction) (s initial solution : List ℕ) → let t = judged κ s initial solution in told_at t 5 + told_at t 6 ≤ length (list_named initial solution (told_at t 0))

@@ -50,7 +50,6 @@ use Rattle.analysis.specs.declared.Solving.{Solving}
 use Rattle.analysis.specs.declared.Solving.TheVariants.{Refused as SolveRefused, Malformed as SolveMalformed}
 use Rattle.analysis.specs.declared.Split.{Split}
 use Rattle.analysis.specs.declared.Spot.{Spot}
-use Rattle.analysis.specs.declared.Spot.TheVariants.{At as Here, Nowhere}
 use Rattle.analysis.specs.declared.Verdict.{Verdict}
 use Rattle.analysis.specs.declared.Verdict.TheVariants.{Refused as Declines, Malformed}
 use Rattle.analysis.specs.declared.WrongByte.{WrongByte}
@@ -188,11 +187,11 @@ verdict_formed list (Err y) d p q =
       wrong = λ w e. let same : wrong_byte list y ≡ w = cc in rw (← same) (p y refl).near;
     }
 
-verdict_found : (f : Option ℕ) (spot : Spot) (mark : Mark) → VerdictTold (verdict_by f spot mark)
+verdict_found : (f : Option ℕ) (spot : Option Spot) (mark : Mark) → VerdictTold (verdict_by f spot mark)
 unfolding verdict_by
 verdict_found (Some k) spot mark = record { refused = λ x e. never (cc); wrong = λ w e. never (cc) }
-verdict_found None (Here k e) mark = record { refused = λ x e. never (cc); wrong = λ w e. never (cc) }
-verdict_found None Nowhere mark = record { refused = λ x e. never (cc); wrong = λ w e. never (cc) }
+verdict_found None (Some x) mark = record { refused = λ x e. never (cc); wrong = λ w e. never (cc) }
+verdict_found None None mark = record { refused = λ x e. never (cc); wrong = λ w e. never (cc) }
 
 both_short : (ns initial solution : List ℕ) → length ns ≤ 32 → both_whole ns initial solution ≡ Ok tt → (length initial ≤ 139264) × (length solution ≤ 139264)
 unfolding both_whole initial_width record_width

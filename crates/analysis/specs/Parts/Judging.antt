@@ -49,7 +49,7 @@ unfoldable pub first_picked : List ℕ → Graph → List ℕ → Query → ℕ 
 first_picked ns g solution q node ρ = first_such (length g.edges) (λ e. leaves g e node && picks ns g solution q ρ e)
 
 -- and of record k and the edges out of its node
-unfoldable pub spot_of : List ℕ → Graph → List ℕ → Query → ℕ → Spot
+unfoldable pub spot_of : List ℕ → Graph → List ℕ → Query → ℕ → Option Spot
 spot_of ns g solution q k =
     let r = record_at (record_width ns) solution k in
     spot_at k (first_picked ns g solution q (node_of r) (memory_of ns r))

@@ -5,12 +5,12 @@ use Rattle.analysis.specs.Verdict.{missing_result, verdict_by}
 use Rattle.analysis.specs.declared.Verdict.TheVariants.{Accepted}
 use Rattle.analysis.proofs.judging.judge_results.Goals as goal
 
-pub returns-in-At : goal.returns-in-At
+pub returns-in-Some : goal.returns-in-Some
 unfolding missing_result picks any_missing verdict_by
-returns-in-At c ns g x = rw (sym (c.first_spot-spot.ensures ns g x) ∙ c.in-At.is)
+returns-in-Some c ns g x = rw (sym (c.first_spot-spot.ensures ns g x) ∙ c.in-Some.is)
 
-pub returns-in-Nowhere : goal.returns-in-Nowhere
+pub returns-in-None : goal.returns-in-None
 unfolding missing_result picks any_missing verdict_by
-returns-in-Nowhere c ns g x =
-    rw (sym (c.first_spot-spot.ensures ns g x) ∙ c.in-Nowhere.is)
+returns-in-None c ns g x =
+    rw (sym (c.first_spot-spot.ensures ns g x) ∙ c.in-None.is)
     (ap Accepted (c.mark_of.ensures ns g (record { prepared = x.prepared; formed = x.formed; filled = λ q. x.filled refl })))

@@ -8,7 +8,7 @@ use Rattle.analysis.proofs.Judged.{ready_names}
 use Rattle.analysis.proofs.Laid.{record_inside}
 use Rattle.analysis.proofs.Searching.{node_read, node_low, memory_read}
 use Rattle.analysis.proofs.judging.spot_at.Goals as goal
-use Rattle.analysis.proofs.judging.spot_at.Goals.{After-first_picked-found, Start}
+use Rattle.analysis.proofs.judging.spot_at.Goals.{After-first_picked, Start}
 
 -- the record is inside the solution
 inside : (c : Start) → (2 + names_in c.args.code.now) * c.args.k + (2 + names_in c.args.code.now) ≤ length c.args.solution.now
@@ -32,8 +32,8 @@ pub weight-weight-requires : goal.weight-weight-requires
 weight-weight-requires c =
     (c.requires.0.indexed.factored, rw c.name_count-names.ensures (ready_names c.requires.0.ready).1, rw c.name_count-names.ensures (omega (arith, inside (goal.at.weight-weight-requires c).Start)))
 
-pub first_picked-found-requires : goal.first_picked-found-requires
-first_picked-found-requires c = (
+pub first_picked-requires : goal.first_picked-requires
+first_picked-requires c = (
   record {
     count = c.requires.0.count;
     indexed = c.requires.0.indexed;
@@ -44,20 +44,20 @@ first_picked-found-requires c = (
 )
 
 -- what was found
-picked : (c : After-first_picked-found) (ns : List ℕ) (g : Graph)
+picked : (c : After-first_picked) (ns : List ℕ) (g : Graph)
     → Searched ns g c.args.code.now c.args.graph.now c.args.query c.args.solution.now c.args.index.now
-    → spot_at c.args.k c.first_picked-found.result ≡ spot_of ns g c.args.solution.now c.args.query c.args.k
+    → spot_at c.args.k c.first_picked.result ≡ spot_of ns g c.args.solution.now c.args.query c.args.k
 unfolding spot_of
 picked c ns g x =
     let h = c.requires.1 in
     let node = rw c.name_count-names.ensures at c.word_at-node.ensures in
     let memory = rw c.name_count-names.ensures at c.read_memory.ensures in
-    rw (node_read x _ h _ node, ← c.first_picked-found.ensures ns g _ x (memory_read x _ h _ memory) (node_low x _ h _ node))
+    rw (node_read x _ h _ node, ← c.first_picked.ensures ns g _ x (memory_read x _ h _ memory) (node_low x _ h _ node))
 
-pub returns-in-Some : goal.returns-in-Some
+pub returns : goal.returns
 unfolding spot_at
-returns-in-Some c ns g x = rw (← picked (goal.at.returns-in-Some c).After-first_picked-found ns g x, c.in-Some.is)
+returns c ns g x = rw (← picked (goal.at.returns c).After-first_picked ns g x, c.in_ok-edge.was)
 
-pub returns-in-None : goal.returns-in-None
+pub returns-in_err-edge : goal.returns-in_err-edge
 unfolding spot_at
-returns-in-None c ns g x = rw (← picked (goal.at.returns-in-None c).After-first_picked-found ns g x, c.in-None.is)
+returns-in_err-edge c ns g x = rw (c.from_residual.ensures, ← picked (goal.at.returns-in_err-edge c).After-first_picked ns g x, c.in_err-edge.was)

@@ -1,14 +1,10 @@
 -- `lists::solution_formed`: each record passed is well formed.
 use Rattle.std.specs.Prelude.{Ok}
-use Rattle.std.proofs.Common.{◌≡◌, ℕ, ◌+◌, ◌-◌, ◌*◌, ◌≤◌, List}
+use Rattle.std.proofs.Common.{◌≡◌, ℕ, ◌+◌, ◌*◌, List}
 use Rattle.program.specs.Asking.{ask_each}
 use Rattle.program.specs.Parts.Prepared.{Coded}
 use Rattle.analysis.specs.Parts.RecordParts.{record_formed}
 use Rattle.analysis.proofs.lists.solution_formed.Given as goal
 
 abbrev pub invariant-loop-k : goal.invariant-loop-k
-invariant-loop-k l =
-    (l.k ≤ l.count) × ((ns : List ℕ) → Coded ns l.code → ask_each l.k (λ k. record_formed ns l.nodes l.bytes ((2 + l.names) * k)) ≡ Ok tt)
-
-abbrev pub decreases-loop-k : goal.decreases-loop-k
-decreases-loop-k l = l.count - l.k
+invariant-loop-k l = (ns : List ℕ) → Coded ns l.code → ask_each l.k (λ k. record_formed ns l.nodes l.bytes ((2 + l.names) * k)) ≡ Ok tt
