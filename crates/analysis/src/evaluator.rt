@@ -27,10 +27,11 @@ fn set_of(rho: &[u8], x: u16) -> u8
 }
 
 // Whether an index of these signs can be in an array.
+#[tactic(auto, unfolding(crate::specs::Signs::may_index))]
 fn may_index(set: u8) -> bool
     ensures { result ≡ spec.may_index set }
 {
-    sets::has(set, Sign::Zero) | sets::has(set, Sign::Plus)
+    sets::has(set, Sign::Zero) || sets::has(set, Sign::Plus)
 }
 
 // The set of an array's element, by the index's set.

@@ -71,10 +71,7 @@ fn of_name(x: u16, sets: u64) -> u64
     requires { sets < 72057594037927936 }
     ensures { result ≡ 64 * sets + name_for x }
 {
-    if x < NAMES_MOST {
-        return 64 * sets + x as u64;
-    }
-    64 * sets + NAMES_MOST as u64
+    64 * sets + x.min(NAMES_MOST) as u64
 }
 
 // Variable `x` with each sign of its value.
