@@ -17,20 +17,20 @@ pub loop-e-init : goal.loop-e-init
 loop-e-init c node o = record { here = λ h. o.here; before = λ k l d s. absurd (o.none k l s) }
 
 -- the edge whose guard is asked exists
-there : (c : In-loop-e) → c.loop-e.e < get_or c.args.graph.now edge_count_place 0
+there : (c : In-loop-e) → c.loop-e.e < get_or c.args.machine.graph.now edge_count_place 0
 there c = omega (arith, c.loop-e-test.true, c.edge_count-count.ensures)
 
 -- whether a result is missing along it
 missing : (c : After-guard_missing) (ns : List ℕ) (g : Graph) (ρ : List ℕ)
     → (let a = c.args in
-    Searched ns g a.code.now a.graph.now MissingResult a.solution.now a.index.now → ReadInto ρ a.rho.now (length ns) → c.loop-e.e < length g.edges
+    Searched ns g a.machine.code.now a.machine.graph.now MissingResult a.solution.now a.index.now → ReadInto ρ a.rho.now (length ns) → c.loop-e.e < length g.edges
     → c.guard_missing.result ≡ any_missing ns a.solution.now (edge_at g c.loop-e.e).target
-    (cond (truths_in a.rho.now (own_at a.code.now a.graph.now c.loop-e.e)).holds (ρ ∷ []) []))
+    (cond (truths_in a.rho.now (own_at a.machine.code.now a.machine.graph.now c.loop-e.e)).holds (ρ ∷ []) []))
 missing c ns g ρ x y h = rw c.own_truths-t.ensures at (c.guard_missing.ensures ns g ρ x y h)
 
 -- whether its own guard may fail
 failing : (c : After-own_truths-t) {b : Bool} → c.own_truths-t.result.fails ≡ b
-    → (truths_in c.args.rho.now (own_at c.args.code.now c.args.graph.now c.loop-e.e)).fails ≡ b
+    → (truths_in c.args.rho.now (own_at c.args.machine.code.now c.args.machine.graph.now c.loop-e.e)).fails ≡ b
 failing c t = sym (ap (λ (v : Truths). v.fails) c.own_truths-t.ensures) ∙ t
 
 pub returns-then-guard_missing : goal.returns-then-guard_missing
