@@ -13,17 +13,17 @@ loop-e-init c =
     (first_leaves c.requires.0 _, extended_none _ _ _ _ c.requires.1, λ ns g ρ room x y q. first_along c.requires.0 _ x _ _, λ h. first_is_followed c.requires.0 _ _ h)
 
 -- the edge is one of the graph's
-inside : (c : In-loop-e) → c.loop-e.e < get_or c.args.graph.now edge_count_place 0
+inside : (c : In-loop-e) → c.loop-e.e < get_or c.args.machine.graph.now edge_count_place 0
 inside c = omega (arith, c.loop-e-test.true, c.edge_count-count.ensures)
 
 -- whether it is a guard's of the deterministic graph
 guard : (c : After-guards) {b : Bool} → c.guards.result ≡ b
-    → is_guard_node (action_in c.args.graph.now c.loop-e.e) ≡ b
+    → is_guard_node (action_in c.args.machine.graph.now c.loop-e.e) ≡ b
 guard c t = sym c.guards.ensures ∙ t
 
 pub offer_guarded-requires : goal.offer_guarded-requires
 offer_guarded-requires c =
-    (c.requires.0, c.loop-e.invariant.1.growing, c.requires.2, c.requires.3)
+    (c.requires.0, c.loop-e.invariant.1.growing, c.requires.2)
 
 pub returns-then-guards : goal.returns-then-guards
 returns-then-guards c =
@@ -37,7 +37,7 @@ returns-then-guards c =
 
 pub offer_edge-progress-requires : goal.offer_edge-progress-requires
 offer_edge-progress-requires c =
-    (c.loop-e.invariant.1.growing, c.requires.2, c.requires.3)
+    (c.loop-e.invariant.1.growing, c.requires.2)
 
 pub loop-e-smaller : goal.loop-e-smaller
 loop-e-smaller c =
