@@ -155,7 +155,7 @@ fn first_missing(
     weight: u32,
     first: u16,
 ) -> Option<u16>
-    requires { parts.Ordered (parts.names_in machine.code.now) solution.now index.now rho.now weight × Prepared.Linked machine.graph.now }
+    requires { parts.Ordered (parts.names_in machine.code.now) solution.now index.now rho.now weight }
     ensures { (ns : List ℕ) (g : Graph.Graph) (ρ : List ℕ) (node : ℕ)
         → parts.Searched ns g machine.entry.code.now machine.entry.graph.now Query.MissingResult solution.now index.now
         → parts.ReadInto ρ rho.now (length ns) → Selecting.Opens machine.entry.graph.now node first

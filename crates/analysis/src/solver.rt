@@ -160,7 +160,7 @@ fn offer_guarded(
     first: u16,
     p: Progress,
 ) -> Progress
-    requires { Linked machine.graph.now × parts.Growing (2 + names_in machine.code.now) buffer.old index.old p × Weighed (names_in machine.code.now) rho.now weight }
+    requires { parts.Growing (2 + names_in machine.code.now) buffer.old index.old p × Weighed (names_in machine.code.now) rho.now weight }
     ensures extended { parts.Extended (2 + names_in machine.entry.code.now) buffer.old p buffer.new index.new result }
     ensures offers { (ns : List ℕ) (g : Graph) (ρ : List ℕ) (room node : ℕ) → Prepared ns g machine.entry.code.now machine.entry.graph.now → ReadInto ρ rho.now (length ns)
         → p.room ≡ room → Opens machine.entry.graph.now node first
@@ -191,7 +191,7 @@ fn offer_successors(
     node: u16,
     p: Progress,
 ) -> Progress
-    requires { Linked machine.graph.now × parts.Growing (2 + names_in machine.code.now) buffer.old index.old p × Weighed (names_in machine.code.now) rho.now weight }
+    requires { parts.Growing (2 + names_in machine.code.now) buffer.old index.old p × Weighed (names_in machine.code.now) rho.now weight }
     ensures extended { parts.Extended (2 + names_in machine.entry.code.now) buffer.old p buffer.new index.new result }
     ensures offers { (ns : List ℕ) (g : Graph) (ρ : List ℕ) (room : ℕ) → Prepared ns g machine.entry.code.now machine.entry.graph.now → ReadInto ρ rho.now (length ns)
         → p.room ≡ room
@@ -220,7 +220,7 @@ fn offer_from(
     k: usize,
     p: Progress,
 ) -> Progress
-    requires { Linked machine.graph.now × parts.Growing (2 + names_in machine.code.now) buffer.old index.old p × (k < p.count) }
+    requires { parts.Growing (2 + names_in machine.code.now) buffer.old index.old p × (k < p.count) }
     ensures extended { parts.Extended (2 + names_in machine.entry.code.now) buffer.old p buffer.new index.new result }
     ensures offers { (ns : List ℕ) (g : Graph) (room : ℕ) → Prepared ns g machine.entry.code.now machine.entry.graph.now → p.room ≡ room
         → parts.found_in (2 + names_in machine.entry.code.now) buffer.new result
@@ -242,7 +242,7 @@ fn descend(
     buffer: &mut [u8],
     p: Progress,
 ) -> Progress
-    requires { Linked machine.graph.now × parts.Growing (2 + names_in machine.code.now) buffer.old index.old p }
+    requires { parts.Growing (2 + names_in machine.code.now) buffer.old index.old p }
     ensures extended { parts.Extended (2 + names_in machine.entry.code.now) buffer.old p buffer.new index.new result }
     ensures offers { (ns : List ℕ) (g : Graph) (room : ℕ) → Prepared ns g machine.entry.code.now machine.entry.graph.now → p.room ≡ room
         → parts.found_in (2 + names_in machine.entry.code.now) buffer.new result ≡ spec.descend room ns g room 0 (parts.found_in (2 + names_in machine.entry.code.now) buffer.old p) }

@@ -45,13 +45,13 @@ returns-then-not-t c ns g ρ node x y o =
 
 pub loop-e-smaller : goal.loop-e-smaller
 loop-e-smaller c =
-    let more = next_is_beyond c.requires.1 c.loop-e.e (there (goal.at.loop-e-smaller c).In-loop-e) in
+    let more = next_is_beyond c.args.machine.linked c.loop-e.e (there (goal.at.loop-e-smaller c).In-loop-e) in
     omega (arith, c.next_edge-e.ensures, c.loop-e-test.true)
 
 pub loop-e-preserved : goal.loop-e-preserved
 loop-e-preserved c node o =
     rw c.next_edge-e.ensures
-    (next_is_followed c.requires.1 node _ c.loop-e.e (there (goal.at.loop-e-preserved c).In-loop-e) (c.loop-e.invariant node o)
+    (next_is_followed c.args.machine.linked node _ c.loop-e.e (there (goal.at.loop-e-preserved c).In-loop-e) (c.loop-e.invariant node o)
     (record { fails = failing (goal.at.loop-e-preserved c).After-own_truths-t (not-false _ c.if-not-t.false); listed = λ ns g ρ x y h. sym (missing (goal.at.loop-e-preserved c).After-guard_missing ns g ρ x y h) ∙ c.if-guard_missing.false }))
 
 pub returns : goal.returns
@@ -60,4 +60,4 @@ returns c ns g ρ node x y o =
 
 pub guard_missing-requires : goal.guard_missing-requires
 guard_missing-requires c =
-    c.requires.0
+    c.requires

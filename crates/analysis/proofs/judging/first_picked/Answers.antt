@@ -51,7 +51,7 @@ returns c ns g ρ x y h =
 
 pub first_missing-requires : goal.first_missing-requires
 first_missing-requires c =
-    (c.requires.0, c.requires.1)
+    c.requires.0
 
 pub picked-requires : goal.picked-requires
 picked-requires c =
