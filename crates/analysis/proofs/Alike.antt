@@ -1,5 +1,5 @@
 -- What the analysis says of an action depends on an abstract memory through its names' sets alone; and a number that stands for the results.
-use Rattle.std.proofs.Common.{◌≡◌, ℕ, ◌+◌, ◌*◌, ◌/◌, ◌%◌, ◌<◌, ◌≤◌, Bool, true, false, cond, ltb, List, [], ◌∷◌, map, length, get_or, set, sym, refl, ap, ◌∙◌, arith, ltb-false, ltb-true}
+use Rattle.std.proofs.Common.{◌≡◌, ℕ, ◌+◌, ◌*◌, ◌/◌, ◌%◌, ◌<◌, ◌≤◌, Bool, true, false, cond, min, ltb, List, [], ◌∷◌, map, length, get_or, set, sym, refl, ap, ◌∙◌, arith, ltb-false, ltb-true}
 use mathlib.Core.List.{map_congr_left}
 use lib.Seq.{set_out}
 use Rattle.program.specs.Syntax.{Arith, number, variable, element, operator, Boolean, truth, comparison, conjunction, short_circuit, negation}
@@ -61,19 +61,15 @@ name_for_lem : (ρ : List ℕ) → length ρ ≤ 32 → (x s : ℕ) → set ρ (
 unfolding name_for
 name_for_lem ρ few x s = by (ltb x 32) refl
   where
-    by : (b : Bool) → ltb x 32 ≡ b → set ρ (cond b x 32) s ≡ set ρ x s
-    by true e = refl
-    by false e = set_out ρ 32 s few ∙ sym (set_out ρ x s (omega (arith, few, ltb-false x 32 e)))
+    by : (b : Bool) → ltb x 32 ≡ b → set ρ (min x 32) s ≡ set ρ x s
+    by true e = ap (λ (i : ℕ). set ρ i s) (omega (arith, ltb-true x 32 e))
+    by false e = set_out ρ (min x 32) s (omega (arith, few, ltb-false x 32 e)) ∙ sym (set_out ρ x s (omega (arith, few, ltb-false x 32 e)))
 
 -- a number with the sets of a name
 module _ (x : ℕ) (sets : List ℕ) (f : Few 12 sets) where
   name_low : name_for x < 64
   unfolding name_for
-  name_low = by (ltb x 32) refl
-    where
-      by : (b : Bool) → ltb x 32 ≡ b → cond b x 32 < 64
-      by true e = omega (arith, ltb-true x 32 e)
-      by false e = omega arith
+  name_low = omega arith
 
   number_few : (64 * packed sets 0 + name_for x) / 64 < 68719476736
   unfolding room

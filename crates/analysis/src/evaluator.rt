@@ -5,18 +5,21 @@ mod index;
 pub(crate) mod results;
 
 ghost use Rattle.std.specs.Prelude.{◌≡◌, if◌then◌else◌, slice_index};
+ghost use Rattle.program.specs.Parts.Prepared.{Linked};
 ghost use Rattle.analysis.specs.Signs as spec;
 ghost use Rattle.analysis.specs.Parts.Tabled.{Tabled, tabled_prop};
 
 use program::prepared::{CODE, GRAPH};
 use signs::{Sign, sets};
 
-// A prepared program with the set table of `signs` behind its code. It is handed on by value, as two references.
+// A prepared program with the set table of `signs` behind its code and its graph linked: each node's lowest edge stands in it, and after each edge the next one out of the
+// same node. It is handed on by value, as two references.
 #[derive(Clone, Copy)]
 pub(crate) struct Machine<'a> {
     pub(crate) code: &'a [u16; CODE],
     pub(crate) graph: &'a [u16; GRAPH],
     pub(crate) ghost tabled: { Tabled code.now } by { tabled_prop code.now },
+    pub(crate) ghost linked: { Linked graph.now },
 }
 
 // The set of a name.
@@ -27,10 +30,11 @@ fn set_of(rho: &[u8], x: u16) -> u8
 }
 
 // Whether an index of these signs can be in an array.
+#[tactic(auto, unfolding(crate::specs::Signs::may_index))]
 fn may_index(set: u8) -> bool
     ensures { result ≡ spec.may_index set }
 {
-    sets::has(set, Sign::Zero) | sets::has(set, Sign::Plus)
+    sets::has(set, Sign::Zero) || sets::has(set, Sign::Plus)
 }
 
 // The set of an array's element, by the index's set.

@@ -87,39 +87,37 @@ fn handed_over(query: Query, graph: &[u16; GRAPH], e: u16) -> bool
 // Whether a query picks an abstract memory and an edge, at which it is not handed over.
 fn picked(
     query: Query,
-    code: &[u16; CODE],
-    graph: &[u16; GRAPH],
+    machine: Machine<'_>,
     index: &[u16; INDEX],
     solution: &[u8],
     rho: &[u8; 32],
     weight: u32,
     e: u16,
 ) -> bool
-    requires { parts.Ordered (parts.names_in code.now) solution.now index.now rho.now weight × Tabled.Tabled code.now }
+    requires { parts.Ordered (parts.names_in machine.code.now) solution.now index.now rho.now weight }
     ensures { (ns : List ℕ) (g : Graph.Graph) (ρ : List ℕ)
-        → parts.Searched ns g code.now graph.now query solution.now index.now
-        → parts.ReadInto ρ rho.now (length ns) → e < length g.edges → parts.handed_over query (Prepared.action_in graph.now e) ≡ false
+        → parts.Searched ns g machine.entry.code.now machine.entry.graph.now query solution.now index.now
+        → parts.ReadInto ρ rho.now (length ns) → e < length g.edges → parts.handed_over query (Prepared.action_in machine.entry.graph.now e) ≡ false
         → result ≡ parts.picks ns g solution.now query ρ e }
 {
     match query {
         Query::MissingResult => {
-            let action = prepared::plain_action(graph, e);
-            let found = Machine { code, graph }.results(rho, action);
-            let names = prepared::name_count(code);
-            let node = prepared::edge_target(graph, e);
+            let action = prepared::plain_action(machine.graph, e);
+            let found = machine.results(rho, action);
+            let names = prepared::name_count(machine.code);
+            let node = prepared::edge_target(machine.graph, e);
             any_missing(index, solution, names, rho, weight, node, found)
         }
         Query::NegativeIndex => {
-            let action = prepared::action(graph, e);
-            Machine { code, graph }.may_be_negative(rho, action)
+            let action = prepared::action(machine.graph, e);
+            machine.may_be_negative(rho, action)
         }
     }
 }
 
 // Whether the abstract memory itself is missing at the target of an edge, where the edge's own guard may hold.
 fn guard_missing(
-    code: &[u16; CODE],
-    graph: &[u16; GRAPH],
+    machine: Machine<'_>,
     index: &[u16; INDEX],
     solution: &[u8],
     rho: &[u8; 32],
@@ -127,15 +125,15 @@ fn guard_missing(
     e: u16,
     holds: bool,
 ) -> bool
-    requires { parts.Ordered (parts.names_in code.now) solution.now index.now rho.now weight }
+    requires { parts.Ordered (parts.names_in machine.code.now) solution.now index.now rho.now weight }
     ensures { (ns : List ℕ) (g : Graph.Graph) (ρ : List ℕ)
-        → parts.Searched ns g code.now graph.now Query.MissingResult solution.now index.now
+        → parts.Searched ns g machine.entry.code.now machine.entry.graph.now Query.MissingResult solution.now index.now
         → parts.ReadInto ρ rho.now (length ns) → e < length g.edges
         → result ≡ parts.any_missing ns solution.now (Graph.edge_at g e).target (if holds then ρ ∷ [] else []) }
 {
     if holds {
-        let names = prepared::name_count(code);
-        let node = prepared::edge_target(graph, e);
+        let names = prepared::name_count(machine.code);
+        let node = prepared::edge_target(machine.graph, e);
         // no name has this number: nothing is changed
         let change = Change {
             node,
@@ -150,31 +148,30 @@ fn guard_missing(
 // 42 at a node of the deterministic graph whose lowest edge is a guard's: the first edge along which a result is missing. An edge has its own guard's results where
 // each guard before it may fail, and none where one may not; so each guard is worked out once.
 fn first_missing(
-    code: &[u16; CODE],
-    graph: &[u16; GRAPH],
+    machine: Machine<'_>,
     index: &[u16; INDEX],
     solution: &[u8],
     rho: &[u8; 32],
     weight: u32,
     first: u16,
 ) -> Option<u16>
-    requires { parts.Ordered (parts.names_in code.now) solution.now index.now rho.now weight × Prepared.Linked graph.now × Tabled.Tabled code.now }
+    requires { parts.Ordered (parts.names_in machine.code.now) solution.now index.now rho.now weight }
     ensures { (ns : List ℕ) (g : Graph.Graph) (ρ : List ℕ) (node : ℕ)
-        → parts.Searched ns g code.now graph.now Query.MissingResult solution.now index.now
-        → parts.ReadInto ρ rho.now (length ns) → Selecting.Opens graph.now node first
+        → parts.Searched ns g machine.entry.code.now machine.entry.graph.now Query.MissingResult solution.now index.now
+        → parts.ReadInto ρ rho.now (length ns) → Selecting.Opens machine.entry.graph.now node first
         → result ≡ parts.first_picked ns g solution.now Query.MissingResult node ρ }
 {
-    let count = prepared::edge_count(graph);
+    let count = prepared::edge_count(machine.graph);
     let mut e = first;
     while e < count {
-        let t = Machine { code, graph }.own_truths(rho, e);
-        if guard_missing(code, graph, index, solution, rho, weight, e, t.holds) {
+        let t = machine.own_truths(rho, e);
+        if guard_missing(machine, index, solution, rho, weight, e, t.holds) {
             return Some(e);
         }
         if !t.fails {
             return None;
         }
-        e = prepared::next_edge(graph, e);
+        e = prepared::next_edge(machine.graph, e);
     }
     None
 }
@@ -195,13 +192,14 @@ fn first_picked(
         → parts.Searched ns g code.now graph.now query solution.now index.now
         → parts.ReadInto ρ rho.now (length ns) → node < Prepared.nodes_most → result ≡ parts.first_picked ns g solution.now query node ρ }
 {
+    let machine = Machine { code, graph };
     let count = prepared::edge_count(graph);
     let mut e = prepared::first_edge(graph, node);
     while e < count {
         if handed_over(query, graph, e) {
-            return first_missing(code, graph, index, solution, rho, weight, e);
+            return first_missing(machine, index, solution, rho, weight, e);
         }
-        if picked(query, code, graph, index, solution, rho, weight, e) {
+        if picked(query, machine, index, solution, rho, weight, e) {
             return Some(e);
         }
         e = prepared::next_edge(graph, e);
@@ -297,14 +295,12 @@ fn first_initial(index: &[u16; INDEX], initial: &[u8], solution: &[u8], names: u
 }
 
 // Whether an index of an edge may be negative in the widest abstract memory; if none may, none may in any.
-fn ever_negative(code: &[u16; CODE], graph: &[u16; GRAPH]) -> bool
-    requires { Tabled.Tabled code.now }
-    ensures { result ≡ false → (e : ℕ) → e < slice_index graph.now Prepared.edge_count_place → parts.NeverNegative code.now graph.now e }
+fn ever_negative(machine: Machine<'_>) -> bool
+    ensures { result ≡ false → (e : ℕ) → e < slice_index machine.entry.graph.now Prepared.edge_count_place → parts.NeverNegative machine.entry.code.now machine.entry.graph.now e }
 {
     let widest = [7u8; 32];
-    let machine = Machine { code, graph };
-    (0..prepared::edge_count(graph)).any(|e| {
-        let action = prepared::action(graph, e);
+    (0..prepared::edge_count(machine.graph)).any(|e| {
+        let action = prepared::action(machine.graph, e);
         machine.may_be_negative(&widest, action)
     })
 }
@@ -327,7 +323,7 @@ fn mark_of(code: &[u16; CODE], graph: &[u16; GRAPH], index: &[u16; INDEX], solut
         → parts.Searched ns g code.now graph.now Query.NegativeIndex solution.now index.now
         → result ≡ spec.index_mark ns g solution.now }
 {
-    if ever_negative(code, graph) {
+    if ever_negative(Machine { code, graph }) {
         let negative = first_spot(Query::NegativeIndex, code, graph, index, solution);
         return mark_at(negative);
     }

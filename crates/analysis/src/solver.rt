@@ -96,8 +96,7 @@ fn offer_results(
 
 // What follows an abstract memory along an edge that is no guard's of the deterministic graph, offered.
 fn offer_edge(
-    code: &[u16; CODE],
-    graph: &[u16; GRAPH],
+    machine: Machine<'_>,
     index: &mut [u16; INDEX],
     buffer: &mut [u8],
     rho: &[u8; 32],
@@ -106,21 +105,21 @@ fn offer_edge(
     action: ActionNode,
     p: Progress,
 ) -> Progress
-    requires { parts.Growing (2 + names_in code.now) buffer.old index.old p × Weighed (names_in code.now) rho.now weight × Tabled code.now }
-    ensures extended { parts.Extended (2 + names_in code.now) buffer.old p buffer.new index.new result }
-    ensures offers { (ns : List ℕ) (g : Graph) (ρ : List ℕ) (room : ℕ) → Prepared ns g code.now graph.now → ReadInto ρ rho.now (length ns)
-        → p.room ≡ room → e < length g.edges → action ≡ action_in graph.now e → is_guard_node action ≡ false
-        → parts.found_in (2 + names_in code.now) buffer.new result ≡ spec.offer_results ns g room ρ (parts.found_in (2 + names_in code.now) buffer.old p) e }
+    requires { parts.Growing (2 + names_in machine.code.now) buffer.old index.old p × Weighed (names_in machine.code.now) rho.now weight }
+    ensures extended { parts.Extended (2 + names_in machine.entry.code.now) buffer.old p buffer.new index.new result }
+    ensures offers { (ns : List ℕ) (g : Graph) (ρ : List ℕ) (room : ℕ) → Prepared ns g machine.entry.code.now machine.entry.graph.now → ReadInto ρ rho.now (length ns)
+        → p.room ≡ room → e < length g.edges → action ≡ action_in machine.entry.graph.now e → is_guard_node action ≡ false
+        → parts.found_in (2 + names_in machine.entry.code.now) buffer.new result ≡ spec.offer_results ns g room ρ (parts.found_in (2 + names_in machine.entry.code.now) buffer.old p) e }
 {
-    let names = prepared::name_count(code);
-    let found = Machine { code, graph }.results(rho, action);
+    let names = prepared::name_count(machine.code);
+    let found = machine.results(rho, action);
     offer_results(
         index,
         buffer,
         names,
         rho,
         weight,
-        prepared::edge_target(graph, e),
+        prepared::edge_target(machine.graph, e),
         found,
         p,
     )
@@ -128,8 +127,7 @@ fn offer_edge(
 
 // The abstract memory itself offered at the target of an edge, where the edge's own guard may hold.
 fn offer_guard(
-    code: &[u16; CODE],
-    graph: &[u16; GRAPH],
+    machine: Machine<'_>,
     index: &mut [u16; INDEX],
     buffer: &mut [u8],
     rho: &[u8; 32],
@@ -138,15 +136,15 @@ fn offer_guard(
     holds: bool,
     p: Progress,
 ) -> Progress
-    requires { parts.Growing (2 + names_in code.now) buffer.old index.old p × Weighed (names_in code.now) rho.now weight }
-    ensures extended { parts.Extended (2 + names_in code.now) buffer.old p buffer.new index.new result }
-    ensures offers { (ns : List ℕ) (g : Graph) (ρ : List ℕ) (room : ℕ) → Prepared ns g code.now graph.now → ReadInto ρ rho.now (length ns)
+    requires { parts.Growing (2 + names_in machine.code.now) buffer.old index.old p × Weighed (names_in machine.code.now) rho.now weight }
+    ensures extended { parts.Extended (2 + names_in machine.entry.code.now) buffer.old p buffer.new index.new result }
+    ensures offers { (ns : List ℕ) (g : Graph) (ρ : List ℕ) (room : ℕ) → Prepared ns g machine.entry.code.now machine.entry.graph.now → ReadInto ρ rho.now (length ns)
         → p.room ≡ room → e < length g.edges
-        → parts.found_in (2 + names_in code.now) buffer.new result
-        ≡ foldl (spec.offer ns room (edge_at g e).target) (parts.found_in (2 + names_in code.now) buffer.old p) (if holds then ρ ∷ [] else []) }
+        → parts.found_in (2 + names_in machine.entry.code.now) buffer.new result
+        ≡ foldl (spec.offer ns room (edge_at g e).target) (parts.found_in (2 + names_in machine.entry.code.now) buffer.old p) (if holds then ρ ∷ [] else []) }
 {
-    let names = prepared::name_count(code);
-    let node = prepared::edge_target(graph, e);
+    let names = prepared::name_count(machine.code);
+    let node = prepared::edge_target(machine.graph, e);
     let found = results::unchanged(holds);
     offer_results(index, buffer, names, rho, weight, node, found, p)
 }
@@ -154,8 +152,7 @@ fn offer_guard(
 // What follows an abstract memory at a node of the deterministic graph whose lowest edge is a guard's, offered edge by edge: along an edge where its own guard may
 // hold, up to a guard that may not fail.
 fn offer_guarded(
-    code: &[u16; CODE],
-    graph: &[u16; GRAPH],
+    machine: Machine<'_>,
     index: &mut [u16; INDEX],
     buffer: &mut [u8],
     rho: &[u8; 32],
@@ -163,33 +160,30 @@ fn offer_guarded(
     first: u16,
     p: Progress,
 ) -> Progress
-    requires { Linked graph.now × parts.Growing (2 + names_in code.now) buffer.old index.old p × Weighed (names_in code.now) rho.now weight × Tabled code.now }
-    ensures extended { parts.Extended (2 + names_in code.now) buffer.old p buffer.new index.new result }
-    ensures offers { (ns : List ℕ) (g : Graph) (ρ : List ℕ) (room node : ℕ) → Prepared ns g code.now graph.now → ReadInto ρ rho.now (length ns)
-        → p.room ≡ room → Opens graph.now node first
-        → parts.found_in (2 + names_in code.now) buffer.new result
-        ≡ parts.along (spec.offer_results ns g room ρ) g node (length g.edges) (parts.found_in (2 + names_in code.now) buffer.old p) }
+    requires { parts.Growing (2 + names_in machine.code.now) buffer.old index.old p × Weighed (names_in machine.code.now) rho.now weight }
+    ensures extended { parts.Extended (2 + names_in machine.entry.code.now) buffer.old p buffer.new index.new result }
+    ensures offers { (ns : List ℕ) (g : Graph) (ρ : List ℕ) (room node : ℕ) → Prepared ns g machine.entry.code.now machine.entry.graph.now → ReadInto ρ rho.now (length ns)
+        → p.room ≡ room → Opens machine.entry.graph.now node first
+        → parts.found_in (2 + names_in machine.entry.code.now) buffer.new result
+        ≡ parts.along (spec.offer_results ns g room ρ) g node (length g.edges) (parts.found_in (2 + names_in machine.entry.code.now) buffer.old p) }
 {
-    let count = prepared::edge_count(graph);
+    let count = prepared::edge_count(machine.graph);
     let mut progress = p;
     let mut e = first;
     while e < count {
-        let t = Machine { code, graph }.own_truths(rho, e);
-        progress = offer_guard(
-            code, graph, index, buffer, rho, weight, e, t.holds, progress,
-        );
+        let t = machine.own_truths(rho, e);
+        progress = offer_guard(machine, index, buffer, rho, weight, e, t.holds, progress);
         if !t.fails {
             return progress;
         }
-        e = prepared::next_edge(graph, e);
+        e = prepared::next_edge(machine.graph, e);
     }
     progress
 }
 
 // What follows an abstract memory along the edges out of a node, offered edge by edge.
 fn offer_successors(
-    code: &[u16; CODE],
-    graph: &[u16; GRAPH],
+    machine: Machine<'_>,
     index: &mut [u16; INDEX],
     buffer: &mut [u8],
     rho: &[u8; 32],
@@ -197,69 +191,67 @@ fn offer_successors(
     node: u16,
     p: Progress,
 ) -> Progress
-    requires { Linked graph.now × parts.Growing (2 + names_in code.now) buffer.old index.old p × Weighed (names_in code.now) rho.now weight × Tabled code.now }
-    ensures extended { parts.Extended (2 + names_in code.now) buffer.old p buffer.new index.new result }
-    ensures offers { (ns : List ℕ) (g : Graph) (ρ : List ℕ) (room : ℕ) → Prepared ns g code.now graph.now → ReadInto ρ rho.now (length ns)
+    requires { parts.Growing (2 + names_in machine.code.now) buffer.old index.old p × Weighed (names_in machine.code.now) rho.now weight }
+    ensures extended { parts.Extended (2 + names_in machine.entry.code.now) buffer.old p buffer.new index.new result }
+    ensures offers { (ns : List ℕ) (g : Graph) (ρ : List ℕ) (room : ℕ) → Prepared ns g machine.entry.code.now machine.entry.graph.now → ReadInto ρ rho.now (length ns)
         → p.room ≡ room
-        → parts.found_in (2 + names_in code.now) buffer.new result
-        ≡ parts.along (spec.offer_results ns g room ρ) g node (length g.edges) (parts.found_in (2 + names_in code.now) buffer.old p) }
+        → parts.found_in (2 + names_in machine.entry.code.now) buffer.new result
+        ≡ parts.along (spec.offer_results ns g room ρ) g node (length g.edges) (parts.found_in (2 + names_in machine.entry.code.now) buffer.old p) }
 {
-    let count = prepared::edge_count(graph);
+    let count = prepared::edge_count(machine.graph);
     let mut progress = p;
-    let mut e = prepared::first_edge(graph, node);
+    let mut e = prepared::first_edge(machine.graph, node);
     while e < count {
-        if prepared::guards(graph, e) {
-            return offer_guarded(code, graph, index, buffer, rho, weight, e, progress);
+        if prepared::guards(machine.graph, e) {
+            return offer_guarded(machine, index, buffer, rho, weight, e, progress);
         }
-        let action = prepared::plain_action(graph, e);
-        progress = offer_edge(code, graph, index, buffer, rho, weight, e, action, progress);
-        e = prepared::next_edge(graph, e);
+        let action = prepared::plain_action(machine.graph, e);
+        progress = offer_edge(machine, index, buffer, rho, weight, e, action, progress);
+        e = prepared::next_edge(machine.graph, e);
     }
     progress
 }
 
 // What follows record k of the list, offered.
 fn offer_from(
-    code: &[u16; CODE],
-    graph: &[u16; GRAPH],
+    machine: Machine<'_>,
     index: &mut [u16; INDEX],
     buffer: &mut [u8],
     k: usize,
     p: Progress,
 ) -> Progress
-    requires { Linked graph.now × parts.Growing (2 + names_in code.now) buffer.old index.old p × (k < p.count) × Tabled code.now }
-    ensures extended { parts.Extended (2 + names_in code.now) buffer.old p buffer.new index.new result }
-    ensures offers { (ns : List ℕ) (g : Graph) (room : ℕ) → Prepared ns g code.now graph.now → p.room ≡ room
-        → parts.found_in (2 + names_in code.now) buffer.new result
-        ≡ spec.offer_successors ns g room (slice_index_or (parts.found_in (2 + names_in code.now) buffer.old p).records k []) (parts.found_in (2 + names_in code.now) buffer.old p) }
+    requires { parts.Growing (2 + names_in machine.code.now) buffer.old index.old p × (k < p.count) }
+    ensures extended { parts.Extended (2 + names_in machine.entry.code.now) buffer.old p buffer.new index.new result }
+    ensures offers { (ns : List ℕ) (g : Graph) (room : ℕ) → Prepared ns g machine.entry.code.now machine.entry.graph.now → p.room ≡ room
+        → parts.found_in (2 + names_in machine.entry.code.now) buffer.new result
+        ≡ spec.offer_successors ns g room (slice_index_or (parts.found_in (2 + names_in machine.entry.code.now) buffer.old p).records k []) (parts.found_in (2 + names_in machine.entry.code.now) buffer.old p) }
 {
-    let names = prepared::name_count(code);
+    let names = prepared::name_count(machine.code);
     let at = (2 + names) * k;
     let node = file::word_at(buffer, at);
     let mut rho = [0u8; 32];
     lists::read_memory(&mut rho, buffer, at + 2, names);
     let weight = membership::weight(index, buffer, at + 2, names);
-    offer_successors(code, graph, index, buffer, &rho, weight, node, p)
+    offer_successors(machine, index, buffer, &rho, weight, node, p)
 }
 
 // Down the list: what follows each record is offered, until one has no room.
 fn descend(
-    code: &[u16; CODE],
-    graph: &[u16; GRAPH],
+    machine: Machine<'_>,
     index: &mut [u16; INDEX],
     buffer: &mut [u8],
     p: Progress,
 ) -> Progress
-    requires { Linked graph.now × parts.Growing (2 + names_in code.now) buffer.old index.old p × Tabled code.now }
-    ensures extended { parts.Extended (2 + names_in code.now) buffer.old p buffer.new index.new result }
-    ensures offers { (ns : List ℕ) (g : Graph) (room : ℕ) → Prepared ns g code.now graph.now → p.room ≡ room
-        → parts.found_in (2 + names_in code.now) buffer.new result ≡ spec.descend room ns g room 0 (parts.found_in (2 + names_in code.now) buffer.old p) }
+    requires { parts.Growing (2 + names_in machine.code.now) buffer.old index.old p }
+    ensures extended { parts.Extended (2 + names_in machine.entry.code.now) buffer.old p buffer.new index.new result }
+    ensures offers { (ns : List ℕ) (g : Graph) (room : ℕ) → Prepared ns g machine.entry.code.now machine.entry.graph.now → p.room ≡ room
+        → parts.found_in (2 + names_in machine.entry.code.now) buffer.new result ≡ spec.descend room ns g room 0 (parts.found_in (2 + names_in machine.entry.code.now) buffer.old p) }
 {
     let mut progress = p;
     let mut k: usize = 0;
     // no `for` over the records: the list grows on the way, so their count is asked for at each turn
     while k < progress.count && !progress.full {
-        progress = offer_from(code, graph, index, buffer, k, progress);
+        progress = offer_from(machine, index, buffer, k, progress);
         k += 1;
     }
     progress
@@ -344,7 +336,7 @@ fn solve_formed(
     membership::put_factors(&mut index);
     let none = nothing_in(buffer.len(), names);
     let first = offer_initial(&mut index, buffer, names, initial, none);
-    replied(descend(code, graph, &mut index, buffer, first))
+    replied(descend(Machine { code, graph }, &mut index, buffer, first))
 }
 
 // The reply where question 17 is refused.

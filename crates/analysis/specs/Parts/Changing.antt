@@ -1,6 +1,6 @@
 -- How the code hands on the results of an action: as one number, 64 times the new sets of one name and the name. Document 01 has no word for it; what it
 -- stands for is said here, once.
-use Rattle.std.specs.Prelude.{◌≡◌, ℕ, zero, suc, ◌+◌, ◌*◌, ◌/◌, ◌%◌, ◌<◌, ◌≤◌, cond, List, [], ◌∷◌, map, length, ◌==◌, nat_lt, slice_index, slice_set}
+use Rattle.std.specs.Prelude.{◌≡◌, ℕ, zero, suc, ◌+◌, ◌*◌, ◌/◌, ◌%◌, ◌<◌, ◌≤◌, cond, min, List, [], ◌∷◌, map, length, ◌==◌, slice_index, slice_set}
 use Rattle.program.specs.Meaning.{Meaning}
 use Rattle.analysis.specs.Results.{results}
 
@@ -28,7 +28,7 @@ sets_of n = digits 12 n
 
 -- the name of a result: past the last of 32, 32, which changes nothing
 unfoldable pub name_for : ℕ → ℕ
-name_for x = cond (nat_lt x 32) x 32
+name_for x = min x 32
 
 -- a number with some sets before those of another, and how large it is
 pub record Before (sets : List ℕ) (times more : ℕ) (others r : ℕ) : Type 0 where

@@ -51,7 +51,7 @@ impl Machine<'_> {
                 let index = self.signs(rho, n, i);
                 element(rho, x, index)
             }
-            ArithNode::Operator(_, _, _) => self.signs(rho, bound, n),
+            ArithNode::Operator(..) => self.signs(rho, bound, n),
         }
     }
 }

@@ -12,6 +12,7 @@ use program::{ActionNode, BooleanNode, CommandNode, prepared};
 use signs::{Comparison, Truths, truth};
 
 // True alone.
+#[tactic(auto, unfolding(signs::specs::Truth::certain, signs::specs::Truth::truths_of, signs::specs::Lists::any_of))]
 fn certain() -> Truths
     ensures { result ≡ answer.certain }
 {

@@ -14,14 +14,16 @@ use program::prepared::{COMMANDS, CONDITIONS, EXPRESSIONS, NAMES_MOST};
 use signs::{Sign, sets};
 
 // A set before others, where it is to be there.
+#[tactic(auto, unfolding(crate::specs::Parts::Changing::packed))]
 fn before(set: u8, there: bool, others: u64) -> u64
     requires { others < 72057594037927936 }
     ensures { Before (if there then set ∷ [] else []) 8 255 others result }
 {
     if there {
-        return others * 8 + set as u64;
+        others * 8 + set as u64
+    } else {
+        others
     }
-    others
 }
 
 // The set of sign `s` before others, where the value's set has it.
@@ -67,14 +69,12 @@ fn stored_sign(old: u8, values: u8, s: Sign, others: u64) -> u64
 }
 
 // The sets of a name; a name past the last of 32 changes nothing.
+#[tactic(auto, unfolding(crate::specs::Parts::Changing::name_for))]
 fn of_name(x: u16, sets: u64) -> u64
     requires { sets < 72057594037927936 }
     ensures { result ≡ 64 * sets + name_for x }
 {
-    if x < NAMES_MOST {
-        return 64 * sets + x as u64;
-    }
-    64 * sets + NAMES_MOST as u64
+    64 * sets + x.min(NAMES_MOST) as u64
 }
 
 // Variable `x` with each sign of its value.

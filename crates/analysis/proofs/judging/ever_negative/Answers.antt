@@ -12,7 +12,7 @@ returns c p e h =
     let a = c.args in
     let n = c.edge_count.result in
     let by =
-    cases_from_any _ _ c.any.result (λ (k : ℕ). Unit {0}) (λ (k : ℕ). NeverNegative a.code.now a.graph.now k) c.any.ensures.ran
+    cases_from_any _ _ c.any.result (λ (k : ℕ). Unit {0}) (λ (k : ℕ). NeverNegative a.machine.code.now a.machine.graph.now k) c.any.ensures.ran
     (YieldsList-from_range 0 n n refl (omega arith))
     (λ x q k. tt)
     (λ x q k. (search rules, cc))
@@ -20,4 +20,4 @@ returns c p e h =
     let no = rw p at by in
     let inside : e < n = omega (arith, c.edge_count.ensures) in
     let here : get_or (range_with_len 0 n) e 0 ≡ e = get_or-range_with_len 0 n e 0 inside ∙ omega arith in
-    subst (λ (k : ℕ). NeverNegative a.code.now a.graph.now k) here (no e 0 (omega arith) (omega (arith, length-range_with_len 0 n)))
+    subst (λ (k : ℕ). NeverNegative a.machine.code.now a.machine.graph.now k) here (no e 0 (omega arith) (omega (arith, length-range_with_len 0 n)))

@@ -17,20 +17,20 @@ pub loop-e-init : goal.loop-e-init
 loop-e-init c node o = record { here = λ h. o.here; before = λ k l d s. absurd (o.none k l s) }
 
 -- the edge whose guard is asked exists
-there : (c : In-loop-e) → c.loop-e.e < get_or c.args.graph.now edge_count_place 0
+there : (c : In-loop-e) → c.loop-e.e < get_or c.args.machine.graph.now edge_count_place 0
 there c = omega (arith, c.loop-e-test.true, c.edge_count-count.ensures)
 
 -- whether a result is missing along it
 missing : (c : After-guard_missing) (ns : List ℕ) (g : Graph) (ρ : List ℕ)
     → (let a = c.args in
-    Searched ns g a.code.now a.graph.now MissingResult a.solution.now a.index.now → ReadInto ρ a.rho.now (length ns) → c.loop-e.e < length g.edges
+    Searched ns g a.machine.code.now a.machine.graph.now MissingResult a.solution.now a.index.now → ReadInto ρ a.rho.now (length ns) → c.loop-e.e < length g.edges
     → c.guard_missing.result ≡ any_missing ns a.solution.now (edge_at g c.loop-e.e).target
-    (cond (truths_in a.rho.now (own_at a.code.now a.graph.now c.loop-e.e)).holds (ρ ∷ []) []))
+    (cond (truths_in a.rho.now (own_at a.machine.code.now a.machine.graph.now c.loop-e.e)).holds (ρ ∷ []) []))
 missing c ns g ρ x y h = rw c.own_truths-t.ensures at (c.guard_missing.ensures ns g ρ x y h)
 
 -- whether its own guard may fail
 failing : (c : After-own_truths-t) {b : Bool} → c.own_truths-t.result.fails ≡ b
-    → (truths_in c.args.rho.now (own_at c.args.code.now c.args.graph.now c.loop-e.e)).fails ≡ b
+    → (truths_in c.args.rho.now (own_at c.args.machine.code.now c.args.machine.graph.now c.loop-e.e)).fails ≡ b
 failing c t = sym (ap (λ (v : Truths). v.fails) c.own_truths-t.ensures) ∙ t
 
 pub returns-then-guard_missing : goal.returns-then-guard_missing
@@ -45,13 +45,13 @@ returns-then-not-t c ns g ρ node x y o =
 
 pub loop-e-smaller : goal.loop-e-smaller
 loop-e-smaller c =
-    let more = next_is_beyond c.requires.1 c.loop-e.e (there (goal.at.loop-e-smaller c).In-loop-e) in
+    let more = next_is_beyond c.args.machine.linked c.loop-e.e (there (goal.at.loop-e-smaller c).In-loop-e) in
     omega (arith, c.next_edge-e.ensures, c.loop-e-test.true)
 
 pub loop-e-preserved : goal.loop-e-preserved
 loop-e-preserved c node o =
     rw c.next_edge-e.ensures
-    (next_is_followed c.requires.1 node _ c.loop-e.e (there (goal.at.loop-e-preserved c).In-loop-e) (c.loop-e.invariant node o)
+    (next_is_followed c.args.machine.linked node _ c.loop-e.e (there (goal.at.loop-e-preserved c).In-loop-e) (c.loop-e.invariant node o)
     (record { fails = failing (goal.at.loop-e-preserved c).After-own_truths-t (not-false _ c.if-not-t.false); listed = λ ns g ρ x y h. sym (missing (goal.at.loop-e-preserved c).After-guard_missing ns g ρ x y h) ∙ c.if-guard_missing.false }))
 
 pub returns : goal.returns
@@ -60,4 +60,4 @@ returns c ns g ρ node x y o =
 
 pub guard_missing-requires : goal.guard_missing-requires
 guard_missing-requires c =
-    c.requires.0
+    c.requires

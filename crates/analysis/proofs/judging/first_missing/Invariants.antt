@@ -6,7 +6,7 @@ use Rattle.analysis.proofs.Searching.{Passed}
 use Rattle.analysis.proofs.judging.first_missing.Given as goal
 
 abbrev pub invariant-loop-e : goal.invariant-loop-e
-invariant-loop-e l = (node : ℕ) → Opens l.graph node l.first → Following l.graph node (Passed l.code l.graph l.solution l.index l.rho) l.e
+invariant-loop-e l = (node : ℕ) → Opens l.machine.graph.now node l.first → Following l.machine.graph.now node (Passed l.machine.code.now l.machine.graph.now l.solution l.index l.rho) l.e
 
 abbrev pub decreases-loop-e : goal.decreases-loop-e
 decreases-loop-e l = l.count - l.e

@@ -51,8 +51,8 @@ returns c ns g ρ x y h =
 
 pub first_missing-requires : goal.first_missing-requires
 first_missing-requires c =
-    c.requires
+    c.requires.0
 
 pub picked-requires : goal.picked-requires
 picked-requires c =
-    (c.requires.0, c.requires.2)
+    c.requires.0

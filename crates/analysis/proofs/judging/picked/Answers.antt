@@ -7,7 +7,7 @@ use Rattle.analysis.proofs.judging.picked.Goals as goal
 
 pub any_missing-requires : goal.any_missing-requires
 any_missing-requires c =
-    (rw c.name_count-names.ensures c.requires.0, c.results-found.ensures.few)
+    (rw c.name_count-names.ensures c.requires, c.results-found.ensures.few)
 
 pub returns-in-MissingResult : goal.returns-in-MissingResult
 unfolding handed_over

@@ -7,11 +7,11 @@ use Rattle.analysis.proofs.solver.descend.Goals as goal
 use Rattle.analysis.proofs.solver.descend.Goals.{In-loop-k}
 
 pub loop-k-init : goal.loop-k-init
-loop-k-init c = (extended_none _ _ _ _ c.requires.1, λ ns g room x q. descended_start _ _ _ _)
+loop-k-init c = (extended_none _ _ _ _ c.requires, λ ns g room x q. descended_start _ _ _ _)
 
 pub offer_from-progress-requires : goal.offer_from-progress-requires
 offer_from-progress-requires c =
-    (c.requires.0, c.loop-k.invariant.0.growing, c.loop-k-test.true, c.requires.2)
+    (c.loop-k.invariant.0.growing, c.loop-k-test.true)
 
 -- the turn's place is one of the room
 inside : (c : In-loop-k) → c.loop-k.k < c.args.p.room

@@ -9,9 +9,9 @@ use Rattle.analysis.proofs.solver.descend.Given as goal
 
 abbrev pub invariant-loop-k : goal.invariant-loop-k
 invariant-loop-k l =
-    Extended (2 + names_in l.code) l.initial.buffer l.initial.progress l.buffer l.index l.progress
-    × ((ns : List ℕ) (g : Graph) (room : ℕ) → Prepared ns g l.code l.graph → l.initial.progress.room ≡ room
-    → descend room ns g room 0 (found_in (2 + names_in l.code) l.initial.buffer l.initial.progress) ≡ descend (room - l.k) ns g room l.k (found_in (2 + names_in l.code) l.buffer l.progress))
+    Extended (2 + names_in l.machine.code.now) l.initial.buffer l.initial.progress l.buffer l.index l.progress
+    × ((ns : List ℕ) (g : Graph) (room : ℕ) → Prepared ns g l.machine.code.now l.machine.graph.now → l.initial.progress.room ≡ room
+    → descend room ns g room 0 (found_in (2 + names_in l.machine.code.now) l.initial.buffer l.initial.progress) ≡ descend (room - l.k) ns g room l.k (found_in (2 + names_in l.machine.code.now) l.buffer l.progress))
 
 abbrev pub decreases-loop-k : goal.decreases-loop-k
 decreases-loop-k l = l.initial.progress.room - l.k

@@ -12,10 +12,10 @@ use Rattle.analysis.proofs.solver.offer_from.Goals.{After-name_count-names, Afte
 
 -- the buffer by the number of names, and that the record is inside it
 told : (c : After-name_count-names) → let a = c.args in Growing (2 + c.name_count-names.result) a.buffer.now a.index.now a.p
-told c = rw c.name_count-names.ensures c.requires.1
+told c = rw c.name_count-names.ensures c.requires.0
 
 inside : (c : After-name_count-names) → let a = c.args in (2 + c.name_count-names.result) * a.k + (2 + c.name_count-names.result) ≤ length a.buffer.now
-inside c = record_inside _ _ _ _ c.requires.2 (told c).indexed.room
+inside c = record_inside _ _ _ _ c.requires.1 (told c).indexed.room
 
 pub weight-weight-requires : goal.weight-weight-requires
 weight-weight-requires c =
@@ -23,13 +23,13 @@ weight-weight-requires c =
 
 pub offer_successors-requires : goal.offer_successors-requires
 offer_successors-requires c =
-    (c.requires.0, c.requires.1, rw (c.read_memory.ensures, c.name_count-names.ensures) (rw c.name_count-names.ensures at c.weight-weight.ensures), c.requires.3)
+    (c.requires.0, rw (c.read_memory.ensures, c.name_count-names.ensures) (rw c.name_count-names.ensures at c.weight-weight.ensures))
 
 -- the record's memory as it was read
 read : (c : After-read_memory) → let a = c.args in
     Growing (2 + c.name_count-names.result) a.buffer.now a.index.now a.p
     → (2 + c.name_count-names.result) * a.k + (2 + c.name_count-names.result) ≤ length a.buffer.now
-    → (ns : List _) → Coded ns a.code.now → ReadInto (memory_of ns (record_at (2 + get_or a.code.now name_count_place 0) a.buffer.now a.k)) c.read_memory.new.out (length ns)
+    → (ns : List _) → Coded ns a.machine.code.now → ReadInto (memory_of ns (record_at (2 + get_or a.machine.code.now name_count_place 0) a.buffer.now a.k)) c.read_memory.new.out (length ns)
 read c grown room ns x =
     let e = c.name_count-names.ensures in
     let y = memory_reads _ c.args.k _ ns (sym (e ∙ x.count)) (omega (arith, grown.wide)) room _ c.read_memory.ensures in
@@ -42,7 +42,7 @@ returns c =
     record {
       extended = c.offer_successors.ensures.extended;
       offers = λ ns g room x q.
-          record_offered ns _ g _ _ c.args.k c.requires.2 room (rw c.name_count-names.ensures at c.word_at-node.ensures)
+          record_offered ns _ g _ _ c.args.k c.requires.1 room (rw c.name_count-names.ensures at c.word_at-node.ensures)
           (c.offer_successors.ensures.offers ns g _ room x (read p.After-read_memory (told counted) (inside counted) ns x.coded) q);
     }
 

@@ -11,11 +11,11 @@ use Rattle.analysis.proofs.solver.offer_guarded.Given as goal
 
 abbrev pub invariant-loop-e : goal.invariant-loop-e
 invariant-loop-e l =
-    Extended (2 + names_in l.code) l.initial.buffer l.initial.progress l.buffer l.index l.progress
-    × ((node : ℕ) → Opens l.graph node l.first → Following l.graph node (MayFail l.code l.graph l.rho) l.e)
-    × ((ns : List ℕ) (g : Graph) (ρ : List ℕ) (room node : ℕ) → Prepared ns g l.code l.graph → ReadInto ρ l.rho (length ns) → l.initial.progress.room ≡ room → Opens l.graph node l.first
-    → found_in (2 + names_in l.code) l.buffer l.progress
-    ≡ along (offer_results ns g room ρ) g node (min l.e (get_or l.graph edge_count_place 0)) (found_in (2 + names_in l.code) l.initial.buffer l.initial.progress))
+    Extended (2 + names_in l.machine.code.now) l.initial.buffer l.initial.progress l.buffer l.index l.progress
+    × ((node : ℕ) → Opens l.machine.graph.now node l.first → Following l.machine.graph.now node (MayFail l.machine.code.now l.machine.graph.now l.rho) l.e)
+    × ((ns : List ℕ) (g : Graph) (ρ : List ℕ) (room node : ℕ) → Prepared ns g l.machine.code.now l.machine.graph.now → ReadInto ρ l.rho (length ns) → l.initial.progress.room ≡ room → Opens l.machine.graph.now node l.first
+    → found_in (2 + names_in l.machine.code.now) l.buffer l.progress
+    ≡ along (offer_results ns g room ρ) g node (min l.e (get_or l.machine.graph.now edge_count_place 0)) (found_in (2 + names_in l.machine.code.now) l.initial.buffer l.initial.progress))
 
 abbrev pub decreases-loop-e : goal.decreases-loop-e
-decreases-loop-e l = get_or l.graph edge_count_place 0 - l.e
+decreases-loop-e l = get_or l.machine.graph.now edge_count_place 0 - l.e

@@ -10,25 +10,25 @@ use Rattle.analysis.proofs.solver.offer_successors.Goals.{After-guards, In-loop-
 pub loop-e-init : goal.loop-e-init
 loop-e-init c =
     rw c.first_edge-e.ensures
-    (first_leaves c.requires.0 _, extended_none _ _ _ _ c.requires.1, λ ns g ρ room x y q. first_along c.requires.0 _ x _ _, λ h. first_is_followed c.requires.0 _ _ h)
+    (first_leaves c.args.machine.linked _, extended_none _ _ _ _ c.requires.0, λ ns g ρ room x y q. first_along c.args.machine.linked _ x _ _, λ h. first_is_followed c.args.machine.linked _ _ h)
 
 -- the edge is one of the graph's
-inside : (c : In-loop-e) → c.loop-e.e < get_or c.args.graph.now edge_count_place 0
+inside : (c : In-loop-e) → c.loop-e.e < get_or c.args.machine.graph.now edge_count_place 0
 inside c = omega (arith, c.loop-e-test.true, c.edge_count-count.ensures)
 
 -- whether it is a guard's of the deterministic graph
 guard : (c : After-guards) {b : Bool} → c.guards.result ≡ b
-    → is_guard_node (action_in c.args.graph.now c.loop-e.e) ≡ b
+    → is_guard_node (action_in c.args.machine.graph.now c.loop-e.e) ≡ b
 guard c t = sym c.guards.ensures ∙ t
 
 pub offer_guarded-requires : goal.offer_guarded-requires
 offer_guarded-requires c =
-    (c.requires.0, c.loop-e.invariant.1.growing, c.requires.2, c.requires.3)
+    (c.loop-e.invariant.1.growing, c.requires.1)
 
 pub returns-then-guards : goal.returns-then-guards
 returns-then-guards c =
     let l = c.loop-e in
-    let w = c.requires.0 in record {
+    let w = c.args.machine.linked in record {
       extended = extended_more _ l.invariant.1 c.offer_guarded.ensures.extended;
       offers = λ ns g ρ room x y q.
           guarded_all x y w room _ l.e (inside (goal.at.returns-then-guards c).In-loop-e) (l.invariant.0 (inside (goal.at.returns-then-guards c).In-loop-e)) l.invariant.3 (guard (goal.at.returns-then-guards c).After-guards c.if-guards.true) (l.invariant.2 ns g ρ room x y q)
@@ -37,11 +37,11 @@ returns-then-guards c =
 
 pub offer_edge-progress-requires : goal.offer_edge-progress-requires
 offer_edge-progress-requires c =
-    (c.loop-e.invariant.1.growing, c.requires.2, c.requires.3)
+    (c.loop-e.invariant.1.growing, c.requires.1)
 
 pub loop-e-smaller : goal.loop-e-smaller
 loop-e-smaller c =
-    let more = next_is_beyond c.requires.0 c.loop-e.e (inside (goal.at.loop-e-smaller c).In-loop-e) in
+    let more = next_is_beyond c.args.machine.linked c.loop-e.e (inside (goal.at.loop-e-smaller c).In-loop-e) in
     omega (arith, c.next_edge-e.ensures, inside (goal.at.loop-e-smaller c).In-loop-e)
 
 pub loop-e-preserved : goal.loop-e-preserved
@@ -49,7 +49,7 @@ loop-e-preserved c =
     let plain = guard (goal.at.loop-e-preserved c).After-guards c.if-guards.false in
     let told = c.plain_action-action.ensures plain in
     let l = c.loop-e in
-    let w = c.requires.0 in
+    let w = c.args.machine.linked in
     let h = inside (goal.at.loop-e-preserved c).In-loop-e in
     rw c.next_edge-e.ensures (
       next_leaves w _ l.e h (l.invariant.0 h),
@@ -63,4 +63,4 @@ loop-e-preserved c =
 pub returns : goal.returns
 returns c =
     let l = c.loop-e in
-    record { extended = l.invariant.1; offers = λ ns g ρ room x y q. all_along c.requires.0 _ x _ _ l.e (omega (arith, c.loop-e-test.false, c.edge_count-count.ensures)) (l.invariant.2 ns g ρ room x y q) }
+    record { extended = l.invariant.1; offers = λ ns g ρ room x y q. all_along c.args.machine.linked _ x _ _ l.e (omega (arith, c.loop-e-test.false, c.edge_count-count.ensures)) (l.invariant.2 ns g ρ room x y q) }

@@ -16,7 +16,7 @@ offer_initial-first-requires c =
 
 pub descend-requires : goal.descend-requires
 descend-requires c =
-    (c.requires.linked, rw c.name_count-names.ensures at c.offer_initial-first.ensures.extended.growing, c.requires.tabled)
+    rw c.name_count-names.ensures at c.offer_initial-first.ensures.extended.growing
 
 pub replied-requires : goal.replied-requires
 replied-requires c = let x = c.descend.ensures.extended.growing in omega (arith, x.few, x.most)

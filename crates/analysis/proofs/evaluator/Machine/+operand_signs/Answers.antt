@@ -31,14 +31,6 @@ unfolding arith_made signs_in
 operand-returns-in-Element t c graph =
     rw (arith_told _ _ _ (c.arith_node-node.ensures graph) c.in-Element.is, ← c.signs-index.ensures graph) c.element.ensures
 
-pub operand-signs-requires : goal.operand-signs-requires
-operand-signs-requires t c =
-    (omega arith, c.requires)
-
-pub operand-returns-in-Operator : goal.operand-returns-in-Operator
-operand-returns-in-Operator t c =
-    c.signs.ensures
-
 -- ---- signs
 
 -- a part in the same table may be asked about
