@@ -115,17 +115,22 @@ fn print_refused<W: Write>(out: &mut W, x: Refusal) -> io::Result<()> {
     printing::text(out, b" ")
 }
 
-fn print_split<W: Write>(out: &mut W, split: Split) -> io::Result<()> {
-    let validity = split.validity;
-    match validity {
-        Ok(()) => {}
-        Err(x) => print_refused(out, x)?,
-    }
+fn print_place<W: Write>(out: &mut W, record: u32, column: u32) -> io::Result<()> {
     printing::text(out, b"record ")?;
-    printing::long(out, split.record)?;
+    printing::long(out, record)?;
     printing::text(out, b" column ")?;
-    printing::long(out, split.column)?;
+    printing::long(out, column)?;
     printing::text(out, b"; ")
+}
+
+fn print_split<W: Write>(out: &mut W, split: Result<Split, Refusal>) -> io::Result<()> {
+    match split {
+        Ok(place) => print_place(out, place.record, place.column),
+        Err(x) => {
+            print_refused(out, x)?;
+            print_place(out, 0, 0)
+        }
+    }
 }
 
 // Whether a record of so many bytes starts at a byte of a list.
