@@ -1,5 +1,6 @@
 -- The theorems on sheets for the crates above and for a reader, on one page. Their proofs are in the modules that they cite.
-use Rattle.std.specs.Prelude.{Ok}
+use Rattle.std.specs.Prelude.{Ok, Result}
+use Rattle.program.specs.declared.Refusal.{Refusal}
 use Rattle.std.proofs.Common.{◌≡◌, ℕ, ◌≤◌, List}
 use mathlib.Core.List.{flatten}
 use Rattle.program.specs.File.{sizes}
@@ -75,5 +76,5 @@ marking_row = Readback.marking_row
 pub solved_row : (q r : Solved) → solved_numbers q ≡ solved_numbers r → q ≡ r
 solved_row = Readback.solved_row
 
-pub split_row_lem : (x y : Split) → split_numbers x ≡ split_numbers y → x ≡ y
+pub split_row_lem : (x y : Result Split Refusal) → split_numbers x ≡ split_numbers y → x ≡ y
 split_row_lem = Readback.split_row_lem

@@ -1,8 +1,8 @@
 -- Rows of verdicts, marks, lists and splits read back: two replies with the same row are the same. Of verdicts only where a refusal has a question's
 -- number: 41 and a record are 41's row, and would be that of a question 41.
-use Rattle.std.specs.Prelude.{Err, Ok, None, Option, Some}
+use Rattle.std.specs.Prelude.{Result, Err, Ok, None, Option, Some}
 use Rattle.std.proofs.Common.{◌≡◌, ℕ, ◌≤◌, cond, eqb, List, [], ◌∷◌, length, get_or, refl, ap, arith, ne_eqb}
-use Rattle.program.specs.Asking.{validity_numbers, Validity}
+use Rattle.program.specs.Asking.{Validity}
 use Rattle.program.specs.declared.Construction.{Construction}
 use Rattle.program.specs.declared.Refusal.{Refusal}
 use Rattle.program.proofs.Never.{never}
@@ -147,17 +147,16 @@ solved_back (Unfit w) count = unfit_back w.list w.offset count
 pub solved_row : (q r : Solved) → solved_numbers q ≡ solved_numbers r → q ≡ r
 solved_row q r = same_row solved_numbers (λ l. solved_read l) (solved_back q.solving q.count) (solved_back r.solving r.count)
 
-abbrev split_read : List ℕ → Split
+abbrev split_read : List ℕ → Result Split Refusal
 split_read l =
     cond (eqb (length l) 3)
-    (record { validity = Ok tt; «record» = get_or l 1 0; column = get_or l 2 0 })
-    (record { validity = Err (refusal_read l); «record» = get_or l 2 0; column = get_or l 3 0 })
+    (Ok (record { «record» = get_or l 1 0; column = get_or l 2 0 }))
+    (Err (refusal_read l))
 
-split_back : (v : Validity) (k c : ℕ) → let x : Split = record { validity = v; «record» = k; column = c } in split_read (split_numbers x) ≡ x
-unfolding split_numbers validity_numbers
-split_back (Ok _) k c = refl
-split_back (Err x) k c = refl
+split_back : (x : Result Split Refusal) → split_read (split_numbers x) ≡ x
+unfolding split_numbers
+split_back (Ok x) = refl
+split_back (Err x) = refl
 
-pub split_row_lem : (x y : Split) → split_numbers x ≡ split_numbers y → x ≡ y
-split_row_lem x y =
-    same_row split_numbers (λ l. split_read l) (split_back x.validity x.«record» x.column) (split_back y.validity y.«record» y.column)
+pub split_row_lem : (x y : Result Split Refusal) → split_numbers x ≡ split_numbers y → x ≡ y
+split_row_lem x y = same_row split_numbers (λ l. split_read l) (split_back x) (split_back y)

@@ -5,7 +5,7 @@ ghost use Rattle.analysis.specs.Parts.Doubling as doubling;
 ghost use Rattle.analysis.specs.Splitter as spec;
 
 use crate::Split;
-use program::{file, validation};
+use program::{Refusal, file, validation};
 
 // Writes a width, its double, the double of that and so on, as many as are at most the place; how many. In 64 bits no sum overflows.
 fn double(width: u32, place: u32, widths: &mut [u32; 32]) -> usize
@@ -34,7 +34,7 @@ fn take_off(rest: u32, width: u32) -> u32
 // The record and the column of a place by the width of a record: doubled widths are taken off, the largest first.
 fn split_by(width: u32, place: u32) -> Split
     requires { 0 < width }
-    ensures { result ≡ spec.split_by (Ok tt) width place }
+    ensures { result ≡ spec.split_place width place }
 {
     let mut widths = [0u32; 32];
     let count = double(width, place, &mut widths);
@@ -46,24 +46,16 @@ fn split_by(width: u32, place: u32) -> Split
         rest = take_off(rest, doubled);
     }
     Split {
-        validity: Ok(()),
-        record: record,
+        record,
         column: rest,
     }
 }
 
 // The record and the column of the byte at a place of a solution of a program.
-pub fn split(program: &[u8], place: u32) -> Split
+pub fn split(program: &[u8], place: u32) -> Result<Split, Refusal>
     ensures value { result ≡ spec.split program.now place }
     ensures numbers { spec.split_numbers result ≡ spec.split_row program.now place }
 {
-    let v = validation::validate(program);
-    match v {
-        Ok(()) => split_by(2 + file::name_count(program) as u32, place),
-        Err(x) => Split {
-            validity: Err(x),
-            record: 0,
-            column: 0,
-        },
-    }
+    validation::validate(program)?;
+    Ok(split_by(2 + file::name_count(program) as u32, place))
 }

@@ -89,13 +89,18 @@ fn print_refused<W: Write>(out: &mut W, x: Refusal) -> io::Result<()> {
     write!(out, " ")
 }
 
-fn print_split<W: Write>(out: &mut W, split: Split) -> io::Result<()> {
-    let validity = split.validity;
-    match validity {
-        Ok(()) => {}
-        Err(x) => print_refused(out, x)?,
-    }
-    write!(out, "record {} column {}; ", split.record, split.column)
+fn print_split<W: Write>(out: &mut W, split: Result<Split, Refusal>) -> io::Result<()> {
+    let place = match split {
+        Ok(place) => place,
+        Err(x) => {
+            print_refused(out, x)?;
+            Split {
+                record: 0,
+                column: 0,
+            }
+        }
+    };
+    write!(out, "record {} column {}; ", place.record, place.column)
 }
 
 fn print_bytes<W: Write>(out: &mut W, bytes: &[u8]) -> io::Result<()> {

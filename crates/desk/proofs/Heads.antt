@@ -57,11 +57,6 @@ unfolding validity_numbers parts_told tell
 parts_head program initial x = refl
 
 -- two numbers behind
-validity_two : (v : Validity) (a b : ℕ) → two_told (validity_numbers v ++ (a ∷ b ∷ [])) ≡ tell (validity_head v) (map pos (a ∷ b ∷ []))
-unfolding validity_numbers two_told validity_head tell
-validity_two (Ok _) a b = refl
-validity_two (Err x) a b = refl
-
 pub drawn_head : (d : Drawn) → two_told (drawn_numbers (Ok d)) ≡ tell (Answered 0) (map pos (d.nodes ∷ d.edges ∷ []))
 unfolding drawn_numbers two_told tell
 drawn_head d = refl
@@ -70,9 +65,13 @@ pub undrawn_head : (x : Refusal) → two_told (drawn_numbers (Err x)) ≡ tell (
 unfolding drawn_numbers two_told tell
 undrawn_head x = refl
 
-pub split_head : (s : Split) → two_told (split_numbers s) ≡ tell (validity_head s.validity) (map pos (s.record ∷ s.column ∷ []))
-unfolding split_numbers
-split_head s = validity_two s.validity s.record s.column
+pub split_head : (s : Split) → two_told (split_numbers (Ok s)) ≡ tell (Answered 0) (map pos (s.record ∷ s.column ∷ []))
+unfolding split_numbers two_told tell
+split_head s = refl
+
+pub unsplit_head : (x : Refusal) → two_told (split_numbers (Err x)) ≡ tell (Declined x.number x.offset) (map pos (0 ∷ 0 ∷ []))
+unfolding split_numbers two_told tell
+unsplit_head x = refl
 
 outcome_two : (o : Outcome) (a b : ℕ) → two_told (outcome_numbers o ++ (a ∷ b ∷ [])) ≡ tell (outcome_head o) (map pos (a ∷ b ∷ []))
 unfolding outcome_numbers fault_number two_told outcome_head tell

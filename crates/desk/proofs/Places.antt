@@ -56,19 +56,11 @@ use Rattle.analysis.specs.declared.WrongByte.{WrongByte}
 use Rattle.desk.specs.Reply.{Narrow}
 use Rattle.program.proofs.Never.{never}
 
--- ---- Drawing and splitting
+-- ---- Drawing
 
 pub drawn_placed : (κ : Construction) (s buffer : List ℕ) → Placed 7244 (draw_validity κ s buffer)
 unfolding draw_validity
 drawn_placed κ s buffer = placed_then _ _ (validity_placed s) (λ _. placed_ask _ 13 0 tt (omega arith))
-
-pub split_placed : (s : List ℕ) (place : ℕ) → Placed 7244 (split s place).validity
-unfolding split split_by
-split_placed s place = by (validity s) (validity_placed s)
-  where
-    by : (v : Validity) → Placed 7244 v → Placed 7244 (split_by v (record_width (sizes s)) place).validity
-    by (Ok _) p = p
-    by (Err x) p = p
 
 -- ---- Steps and runs
 
@@ -293,8 +285,13 @@ drawn_narrow κ s buffer same x e = by (draw_validity κ s buffer) (drawn_placed
     by (Ok _) p e = never (cc)
     by (Err y) p e = omega (arith, (p y refl).near, ap (λ (z : Refusal). z.offset) (let same : y ≡ x = cc in same))
 
-pub split_narrow : (s : List ℕ) (place : ℕ) {r : Split} → r ≡ split s place → (x : Refusal) → r.validity ≡ Err x → Narrow x.offset
-split_narrow s place same = validity_narrow (omega arith) (split_placed s place) (ap (λ (r : Split). r.validity) same)
+pub split_narrow : (s : List ℕ) (place : ℕ) {r : Result Split Refusal} → r ≡ split s place → (x : Refusal) → r ≡ Err x → Narrow x.offset
+unfolding split split_by
+split_narrow s place same x e = by (validity s) (validity_placed s) (sym same ∙ e)
+  where
+    by : (v : Validity) → Placed 7244 v → split_by v (record_width (sizes s)) place ≡ Err x → Narrow x.offset
+    by (Ok _) p e = never (cc)
+    by (Err y) p e = omega (arith, (p y refl).near, ap (λ (z : Refusal). z.offset) (let same : y ≡ x = cc in same))
 
 pub stepped_narrow : (κ : Construction) (s : List ℕ) (c : Configuration) (e : ℕ) {r : Stepped} → r ≡ step_reply κ s c e → (x : Refusal) → r.outcome ≡ Refuses x → Narrow x.offset
 stepped_narrow κ s c e same x p = omega (arith, (step_told κ s c e x (ap (λ (r : Stepped). r.outcome) (sym same) ∙ p)).near)

@@ -60,7 +60,8 @@ pub extern "C" fn pizwoter_split(program: &[u8], place: u32, reply: &mut [i64]) 
     if reply.len() < SPLIT {
         return reply::SHORT;
     }
-    let split = splitting::split(program, place);
-    let v = split.validity;
-    reply::put(files::of_validity(v), &[split.record, split.column], reply)
+    match splitting::split(program, place) {
+        Ok(split) => reply::put(Head::Answered(0), &[split.record, split.column], reply),
+        Err(x) => reply::put(files::refused(x), &[0, 0], reply),
+    }
 }

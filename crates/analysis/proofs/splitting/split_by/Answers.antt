@@ -2,7 +2,7 @@
 use Rattle.std.proofs.Common.{◌+◌, ◌-◌, leb, get_or, arith}
 use mir.Val.{bool_byte}
 use Rattle.analysis.specs.Parts.Doubling.{taken_off}
-use Rattle.analysis.specs.Splitter.{split_by}
+use Rattle.analysis.specs.Splitter.{split_place}
 use Rattle.analysis.proofs.Doubling.{Off, none_off, one_less, all_off, few_off}
 use Rattle.analysis.proofs.splitting.split_by.Goals as goal
 use Rattle.analysis.proofs.splitting.split_by.Goals.{In-loop-k}
@@ -28,5 +28,5 @@ pub loop-k-preserved : goal.loop-k-preserved
 loop-k-preserved c = rw c.take_off-rest.ensures (next (goal.at.loop-k-preserved c).In-loop-k)
 
 pub returns : goal.returns
-unfolding split_by
+unfolding split_place
 returns c = let found = all_off _ _ _ _ (omega (arith, c.loop-k-test.false)) c.loop-k.invariant in rw (found.0, found.1)
