@@ -69,11 +69,13 @@ module _ (s : List ℕ) (e : heads_validity s 0 program_fields ≡ Ok tt) where
   entries_whole Commands = let w = whole s (field_start s 3) _ (field_fit s e 3 (omega arith)) in rw w.found (omega (arith, w.known.inside))
 
   pub laid_out : (l : Layout) → l ≡ layout_of s → LaidOut s l
+  unfolding span_of table_field
   laid_out l same =
       record {
         same = same;
         inside = λ t. omega (arith, ap (λ (x : Layout). (span_of x t).start) same, (table_allowed t).inside);
         few = λ t. omega (arith, ap (λ (x : Layout). (span_of x t).count) same, (table_allowed t).few);
+        some = omega (arith, ap (λ (x : Layout). x.commands.count) same, (table_allowed Commands).enough);
       }
 
   pub counts_allowed : Counts s

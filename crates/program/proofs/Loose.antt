@@ -11,14 +11,15 @@ use native.Mathlib.Omega.{arith}
 use lib.Dec.{leb}
 use borrow.Author.Tests.{eq-eqb, ne_eqb, le-leb, lt-leb, leb-false}
 use Rattle.program.specs.Asking.{ask, is_refused, Validity}
-use Rattle.program.specs.File.{program_fields, layout_of, span_of, entry_count, entry_offset, entry}
+use Rattle.program.specs.File.{span_of, entry_count, entry_offset, entry}
 use Rattle.program.specs.Graph.{Around, past, guards, part}
 use Rattle.program.specs.Jumps.{loose}
 use Rattle.program.specs.Kind.{command_kind}
 use Rattle.program.specs.Parts.GraphingParts.{part_at}
-use Rattle.program.specs.Parts.Jumping.{CommandsAt, may_jump, lowest}
+use Rattle.program.specs.Parts.Jumping.{may_jump, lowest}
+use Rattle.program.specs.Parts.Layouts.{LaidOut}
 use Rattle.program.specs.Parts.Node.{command_tree}
-use Rattle.program.specs.Questions.{heads_validity, jump_validity, jumps_validity, validity}
+use Rattle.program.specs.Questions.{jump_validity, jumps_validity, validity}
 use Rattle.program.specs.Syntax.{Command, skip, assign, store, sequence, conditional, iteration, guarded, choice, jump}
 use Rattle.program.specs.Tree.{Entries, command_made, command_at, last_command, script}
 use Rattle.program.specs.declared.CommandNode.{CommandNode}
@@ -27,11 +28,11 @@ use Rattle.program.specs.declared.Construction.{Construction}
 use Rattle.program.specs.declared.Layout.{Layout}
 use Rattle.program.specs.declared.Table.TheVariants.{Commands}
 use Rattle.program.proofs.Asking.{each_yes, each_stops}
-use Rattle.program.proofs.Fit.{laid_out, counts_allowed, tight_fit}
+use Rattle.program.proofs.Fit.{tight_fit}
 use Rattle.program.proofs.Forms.{by_parts}
 use Rattle.program.proofs.Induction.{by_kind}
 use Rattle.program.proofs.Made.{Made, make_skip, make_assign, make_store, make_sequence, make_conditional, make_iteration, make_guarded, make_choice, make_jump}
-use Rattle.program.proofs.Reading.{laid_start, laid_count}
+use Rattle.program.proofs.Reading.{laid_count}
 use Rattle.program.proofs.Sorting.{script_made}
 use Rattle.program.proofs.Tests.{neither}
 use Rattle.program.proofs.Trees.{command_below_lem}
@@ -89,21 +90,12 @@ lowest_loose (jump k j) f h = eq-eqb k (min k f) (omega arith)
 -- ---- where the commands stand
 
 -- the lowest in the last of them, as a part of all
-pub last_lowest : {s : List ℕ} {start count r : ℕ} → CommandsAt s start count → r ≡ lowest (part_at (entry s) count (count - 1)) count → r ≡ lowest (script s) (entry_count s Commands)
-unfolding script last_command
-last_lowest {s} at e =
-    let here = at.counted in
-    let some = at.some in
+pub last_lowest : {s : List ℕ} {l : Layout} {r : ℕ} → LaidOut s l → r ≡ lowest (part_at (entry s) l.commands.count (l.commands.count - 1)) l.commands.count → r ≡ lowest (script s) (entry_count s Commands)
+unfolding script last_command span_of
+last_lowest {s} {l} laid e =
+    let here : l.commands.count ≡ entry_count s Commands = laid_count s l laid.same Commands in
+    let some = laid.some in
     e ∙ rw (here, command_below_lem (entry s) (entry_count s Commands) (entry_count s Commands - 1) (omega arith))
-
-pub commands_there : {s : List ℕ} {l : Layout} → heads_validity s 0 program_fields ≡ Ok tt → l ≡ layout_of s → CommandsAt s (span_of l Commands).start (span_of l Commands).count
-commands_there {s} {l} heads laid =
-    let count = laid_count s l laid Commands in
-    record {
-      from = record { starts = laid_start s l laid Commands; inside = (laid_out s heads l laid).inside Commands };
-      counted = count;
-      some = omega (arith, (counts_allowed s heads).some_command);
-    }
 
 -- ---- question 20, by the lowest
 

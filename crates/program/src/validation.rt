@@ -17,6 +17,14 @@ pub(crate) mod uses;
 
 use crate::{file, kinds, reader};
 
+// A file whose first four fields pass questions 1 to 4, and where it has its names and its tables. It is handed on by value: by reference validation is a tenth slower.
+#[derive(Clone, Copy)]
+struct Script<'a> {
+    bytes: &'a [u8],
+    layout: Layout,
+    ghost laid_out: { Layouts.LaidOut bytes.now layout },
+}
+
 // One question: its answer, and its number and place when that is no.
 #[tactic(auto, unfolding(crate::specs::Asking::ask))]
 pub fn ask(yes: bool, number: u8, offset: usize) -> Result<(), Refusal>
@@ -85,39 +93,6 @@ fn in_bounds(size: u16, total: usize) -> bool
     size <= 64 && total <= 512
 }
 
-// Question 6 of every name.
-fn check_names(s: &[u8], names: u16) -> Result<(), Refusal>
-    requires { names ≡ File.name_count s.now }
-    ensures { result ≡ Asking.ask_each (File.name_count s.now) (spec.name_validity s.now) }
-{
-    let mut total: usize = 0;
-    for i in 0..names {
-        let size = file::size_at(s, i);
-        total += file::cells_of(size);
-        ask(in_bounds(size, total), 6, 3 + 2 * i as usize)?;
-    }
-    Ok(())
-}
-
-// Questions 7 to 9 of a table's entries. Where they are answered yes, the operands of all are counted, for question 10, and it is noted whether one may be a jump,
-// for question 20: one pass serves all.
-fn check_table(
-    s: &[u8],
-    l: Layout,
-    table: Table,
-    uses: &mut [u8; 1024],
-    jumps: &mut bool,
-) -> Result<(), Refusal>
-    requires { Layouts.LaidOut s.now l }
-    ensures { Checking.TableNoted s.now table uses.old uses.new jumps.old jumps.new result }
-{
-    let span = file::span_of(l, table);
-    for n in 0..span.count {
-        entries::check_entry(s, l, table, span.start, n, uses, jumps)?;
-    }
-    Ok(())
-}
-
 // How many of a table's entries are to be used once: all but the last command.
 #[tactic(auto, unfolding(crate::specs::Questions::to_be_used))]
 fn to_be_used(table: Table, count: u16) -> u16
@@ -129,62 +104,91 @@ fn to_be_used(table: Table, count: u16) -> u16
     }
 }
 
-// Question 10 of a table's entries, whose uses stand in `counts`.
-fn check_uses(s: &[u8], l: Layout, table: Table, counts: &[u8]) -> Result<(), Refusal>
-    requires { Layouts.LaidOut s.now l × Counting.UsesIn s.now counts.now }
-    ensures { result ≡ spec.used_validity s.now table }
-{
-    let span = file::span_of(l, table);
-    let count = to_be_used(table, span.count);
-    for n in 0..count {
-        let used = counts[uses::slot(table, n)] == 1;
-        ask(used, 10, span.start + 7 * n as usize)?;
+impl Script<'_> {
+    // Question 6 of every name.
+    fn check_names(self) -> Result<(), Refusal>
+        ensures { result ≡ Asking.ask_each (File.name_count self.entry.bytes.now) (spec.name_validity self.entry.bytes.now) }
+    {
+        let mut total: usize = 0;
+        for i in 0..self.layout.names.count {
+            let size = file::size_at(self.bytes, i);
+            total += file::cells_of(size);
+            ask(in_bounds(size, total), 6, 3 + 2 * i as usize)?;
+        }
+        Ok(())
     }
-    Ok(())
-}
 
-// Question 11.
-fn check_last(s: &[u8], l: Layout) -> Result<(), Refusal>
-    requires { Layouts.LaidOut s.now l }
-    ensures { result ≡ spec.last_validity s.now }
-{
-    let last = to_be_used(Table::Commands, l.commands.count);
-    let at = l.commands.start + 7 * last as usize;
-    ask(kinds::is_command(file::byte_at(s, at)), 11, at)
-}
+    // Questions 7 to 9 of a table's entries. Where they are answered yes, the operands of all are counted, for question 10, and it is noted whether one may be a jump,
+    // for question 20: one pass serves all.
+    fn check_table(
+        self,
+        table: Table,
+        uses: &mut [u8; 1024],
+        jumps: &mut bool,
+    ) -> Result<(), Refusal>
+        ensures { Checking.TableNoted self.entry.bytes.now table uses.old uses.new jumps.old jumps.new result }
+    {
+        let span = file::span_of(self.layout, table);
+        for n in 0..span.count {
+            self.check_entry(table, span.start, n, uses, jumps)?;
+        }
+        Ok(())
+    }
 
-// Questions 10 and 11.
-fn check_all_uses(s: &[u8], l: Layout, counts: &[u8]) -> Result<(), Refusal>
-    requires { Layouts.LaidOut s.now l × Counting.UsesIn s.now counts.now }
-    ensures { result ≡ spec.uses_validity s.now }
-{
-    check_uses(s, l, Table::Arithmetic, counts)?;
-    check_uses(s, l, Table::Boolean, counts)?;
-    check_uses(s, l, Table::Commands, counts)?;
-    check_last(s, l)
-}
+    // Question 10 of a table's entries, whose uses stand in `counts`.
+    fn check_uses(self, table: Table, counts: &[u8]) -> Result<(), Refusal>
+        requires { Counting.UsesIn self.bytes.now counts.now }
+        ensures { result ≡ spec.used_validity self.entry.bytes.now table }
+    {
+        let span = file::span_of(self.layout, table);
+        let count = to_be_used(table, span.count);
+        for n in 0..count {
+            let used = counts[uses::slot(table, n)] == 1;
+            ask(used, 10, span.start + 7 * n as usize)?;
+        }
+        Ok(())
+    }
 
-// Questions 7 to 11.
-fn check_entries(s: &[u8], l: Layout, jumps: &mut bool) -> Result<(), Refusal>
-    requires { Layouts.LaidOut s.now l }
-    ensures { Checking.EntriesNoted s.now jumps.old jumps.new result }
-{
-    let mut uses = [0u8; 1024];
-    check_table(s, l, Table::Arithmetic, &mut uses, jumps)?;
-    check_table(s, l, Table::Boolean, &mut uses, jumps)?;
-    check_table(s, l, Table::Commands, &mut uses, jumps)?;
-    check_all_uses(s, l, &uses)
-}
+    // Question 11.
+    fn check_last(self) -> Result<(), Refusal>
+        ensures { result ≡ spec.last_validity self.entry.bytes.now }
+    {
+        let last = to_be_used(Table::Commands, self.layout.commands.count);
+        let at = self.layout.commands.start + 7 * last as usize;
+        ask(kinds::is_command(file::byte_at(self.bytes, at)), 11, at)
+    }
 
-// Questions 6 to 11 and 20, where questions 1 to 4 are answered yes.
-fn check_content(s: &[u8], l: Layout) -> Result<(), Refusal>
-    requires { (spec.heads_validity s.now 0 File.program_fields ≡ Ok tt) × (l ≡ File.layout_of s.now) }
-    ensures { result ≡ spec.content_validity s.now }
-{
-    check_names(s, l.names.count)?;
-    let mut jumps = false;
-    check_entries(s, l, &mut jumps)?;
-    jumps::check_jumps(s, l, jumps)
+    // Questions 10 and 11.
+    fn check_all_uses(self, counts: &[u8]) -> Result<(), Refusal>
+        requires { Counting.UsesIn self.bytes.now counts.now }
+        ensures { result ≡ spec.uses_validity self.entry.bytes.now }
+    {
+        self.check_uses(Table::Arithmetic, counts)?;
+        self.check_uses(Table::Boolean, counts)?;
+        self.check_uses(Table::Commands, counts)?;
+        self.check_last()
+    }
+
+    // Questions 7 to 11.
+    fn check_entries(self, jumps: &mut bool) -> Result<(), Refusal>
+        ensures { Checking.EntriesNoted self.entry.bytes.now jumps.old jumps.new result }
+    {
+        let mut uses = [0u8; 1024];
+        self.check_table(Table::Arithmetic, &mut uses, jumps)?;
+        self.check_table(Table::Boolean, &mut uses, jumps)?;
+        self.check_table(Table::Commands, &mut uses, jumps)?;
+        self.check_all_uses(&uses)
+    }
+
+    // Questions 6 to 11 and 20.
+    fn check_content(self) -> Result<(), Refusal>
+        ensures { result ≡ spec.content_validity self.entry.bytes.now }
+    {
+        self.check_names()?;
+        let mut jumps = false;
+        self.check_entries(&mut jumps)?;
+        self.check_jumps(jumps)
+    }
 }
 
 // Question 5: whether a file ends after its last field, at `at`.
@@ -202,7 +206,11 @@ pub fn validate(s: &[u8]) -> Result<(), Refusal>
     let h = reader::heads(s);
     check_heads(s, h)?;
     check_end(s, reader::after(h.commands))?;
-    check_content(s, file::layout_by(h))
+    let script = Script {
+        bytes: s,
+        layout: file::layout_by(h),
+    };
+    script.check_content()
 }
 
 // Questions 1 to 11 and 20 of the sheet program's input, whose fifth field is the start list.
@@ -215,7 +223,11 @@ pub fn validate_input(s: &[u8]) -> Result<(), Refusal>
     let l = file::layout_by(h);
     check_head(s.len(), h.initial, file::initial_field(l.names.count))?;
     check_end(s, reader::after(h.initial))?;
-    check_content(s, l)
+    let script = Script {
+        bytes: s,
+        layout: l,
+    };
+    script.check_content()
 }
 
 // The program's part of the sheet program's input: its first four fields.

@@ -1,20 +1,9 @@
 -- What the functions that ask question 20 promise each other. No public contract cites these.
-use Rattle.std.specs.Prelude.{◌≡◌, Bool, false, List, ℕ, ◌≤◌, ◌<◌, min, leb, length}
-use Rattle.program.specs.File.{entry_count, table_start, entry}
+use Rattle.std.specs.Prelude.{◌≡◌, Bool, false, List, ℕ, ◌<◌, min, leb}
+use Rattle.program.specs.File.{entry}
 use Rattle.program.specs.Syntax.{Command, skip, assign, store, sequence, conditional, iteration, guarded, choice, jump}
 use Rattle.program.specs.declared.Table.{Table}
 use Rattle.program.specs.declared.Table.TheVariants.{Arithmetic, Boolean, Commands}
-
--- the commands of a file start at a place, inside it
-pub record CommandsFrom (s : List ℕ) (start : ℕ) : Type 0 where
-  pub starts : start ≡ table_start s Commands
-  pub inside : start ≤ length s
-
--- so many commands stand in a file from a place on, one at least
-pub record CommandsAt (s : List ℕ) (start count : ℕ) : Type 0 where
-  pub from : CommandsFrom s start
-  pub counted : count ≡ entry_count s Commands
-  pub some : 1 ≤ count
 
 -- whether an entry may be a jump: no kind is past theirs, where all are known
 unfoldable pub may_jump : List ℕ → Table → ℕ → Bool

@@ -9,8 +9,8 @@ ghost use Rattle.program.specs.File;
 ghost use Rattle.program.specs.Kind;
 ghost use Rattle.program.specs.Questions;
 
-use super::{ask, uses};
-use crate::{Layout, Refusal, Sort, Table, file, kinds};
+use super::{Script, ask, uses};
+use crate::{Refusal, Sort, Table, file, kinds};
 
 // What is wrong with an operand: question 8 is answered no, since it is unused and not zero, or names nothing of the right sort; or question 9, since it is a
 // reference that does not point as it must.
@@ -27,75 +27,6 @@ pub(super) fn unused(x: u16) -> Result<(), Flaw>
     if x == 0 { Ok(()) } else { Err(Flaw::Unnamed) }
 }
 
-// The name of a variable.
-pub(super) fn variable(s: &[u8], names: u16, x: u16) -> Result<(), Flaw>
-    requires { names ≡ File.name_count s.now }
-    ensures { (t : Table) (n : ℕ) (counts : List ℕ) → spec.OperandChecked s.now t n Kind.Variable x counts counts result }
-{
-    if x < names {
-        if file::size_at(s, x) == 0 {
-            return Ok(());
-        }
-    }
-    Err(Flaw::Unnamed)
-}
-
-// The name of an array.
-pub(super) fn array(s: &[u8], names: u16, x: u16) -> Result<(), Flaw>
-    requires { names ≡ File.name_count s.now }
-    ensures { (t : Table) (n : ℕ) (counts : List ℕ) → spec.OperandChecked s.now t n Kind.Array x counts counts result }
-{
-    if x < names {
-        if 0 < file::size_at(s, x) {
-            return Ok(());
-        }
-    }
-    Err(Flaw::Unnamed)
-}
-
-// The kind of command entry `n`.
-fn command_kind(s: &[u8], l: Layout, n: u16) -> u8
-    requires { Layouts.LaidOut s.now l }
-    ensures { result ≡ (File.entry s.now Table.Commands n).kind }
-{
-    file::byte_at(s, l.commands.start + 7 * n as usize)
-}
-
-// Whether entry `x` of a sort's table is of that sort.
-#[tactic(auto, unfolding(crate::specs::Questions::of_sort))]
-fn of_sort(s: &[u8], l: Layout, sort: Sort, x: u16) -> bool
-    requires { Layouts.LaidOut s.now l }
-    ensures { result ≡ Questions.of_sort s.now sort x }
-{
-    match sort {
-        Sort::Expression | Sort::Condition => true,
-        Sort::Command => kinds::is_command(command_kind(s, l, x)),
-        Sort::Guarded => kinds::is_guarded(command_kind(s, l, x)),
-    }
-}
-
-// A reference to an entry of a sort, below this number. One that points as it must is counted.
-pub(super) fn reference(
-    s: &[u8],
-    l: Layout,
-    sort: Sort,
-    limit: u16,
-    x: u16,
-    uses: &mut [u8; 1024],
-) -> Result<(), Flaw>
-    requires { Layouts.LaidOut s.now l }
-    ensures { (t : Table) (n : ℕ) → limit ≡ Questions.limit s.now t n (Kind.table_of sort)
-        → spec.OperandChecked s.now t n (Kind.To sort) x uses.old uses.new result }
-{
-    if x < limit {
-        if of_sort(s, l, sort, x) {
-            uses::count_reference(uses, sort, x);
-            return Ok(());
-        }
-    }
-    Err(Flaw::Astray)
-}
-
 // Questions 8 and 9 of the entry at a place, by the answers of its operands.
 pub(super) fn settled(
     p: Result<(), Flaw>,
@@ -109,4 +40,69 @@ pub(super) fn settled(
     let answers = [p, q, r];
     ask(!answers.contains(&Err(Flaw::Unnamed)), 8, at)?;
     ask(!answers.contains(&Err(Flaw::Astray)), 9, at)
+}
+
+impl Script<'_> {
+    // The name of a variable.
+    pub(super) fn variable(self, x: u16) -> Result<(), Flaw>
+        ensures { (t : Table) (n : ℕ) (counts : List ℕ) → spec.OperandChecked self.entry.bytes.now t n Kind.Variable x counts counts result }
+    {
+        if x < self.layout.names.count {
+            if file::size_at(self.bytes, x) == 0 {
+                return Ok(());
+            }
+        }
+        Err(Flaw::Unnamed)
+    }
+
+    // The name of an array.
+    pub(super) fn array(self, x: u16) -> Result<(), Flaw>
+        ensures { (t : Table) (n : ℕ) (counts : List ℕ) → spec.OperandChecked self.entry.bytes.now t n Kind.Array x counts counts result }
+    {
+        if x < self.layout.names.count {
+            if 0 < file::size_at(self.bytes, x) {
+                return Ok(());
+            }
+        }
+        Err(Flaw::Unnamed)
+    }
+
+    // The kind of command entry `n`.
+    fn command_kind(self, n: u16) -> u8
+        ensures { result ≡ (File.entry self.entry.bytes.now Table.Commands n).kind }
+    {
+        file::byte_at(self.bytes, self.layout.commands.start + 7 * n as usize)
+    }
+
+    // Whether entry `x` of a sort's table is of that sort.
+    #[tactic(auto, unfolding(crate::specs::Questions::of_sort))]
+    fn of_sort(self, sort: Sort, x: u16) -> bool
+        ensures { result ≡ Questions.of_sort self.entry.bytes.now sort x }
+    {
+        match sort {
+            Sort::Expression | Sort::Condition => true,
+            Sort::Command => kinds::is_command(self.command_kind(x)),
+            Sort::Guarded => kinds::is_guarded(self.command_kind(x)),
+        }
+    }
+
+    // A reference to an entry of a sort, below this number. One that points as it must is counted.
+    pub(super) fn reference(
+        self,
+        sort: Sort,
+        limit: u16,
+        x: u16,
+        uses: &mut [u8; 1024],
+    ) -> Result<(), Flaw>
+        ensures { (t : Table) (n : ℕ) → limit ≡ Questions.limit self.entry.bytes.now t n (Kind.table_of sort)
+            → spec.OperandChecked self.entry.bytes.now t n (Kind.To sort) x uses.old uses.new result }
+    {
+        if x < limit {
+            if self.of_sort(sort, x) {
+                uses::count_reference(uses, sort, x);
+                return Ok(());
+            }
+        }
+        Err(Flaw::Astray)
+    }
 }

@@ -5,6 +5,7 @@ use Rattle.program.specs.Parts.Layouts.{heads_of}
 use Rattle.program.specs.Questions.{end_validity, validity, validation_row}
 use Rattle.program.specs.declared.FieldHeads.{FieldHeads}
 use Rattle.program.proofs.Asking.{raised, passed, last_asked, numbered}
+use Rattle.program.proofs.Fit.{laid_out}
 use Rattle.program.proofs.Reading.{asked_end}
 use Rattle.program.proofs.validation.validate.Goals as goal
 use Rattle.program.proofs.validation.validate.Goals.{After-check_end}
@@ -25,8 +26,8 @@ returns-in_err-check_end c =
     (passed (sym c.check_heads.ensures ∙ c.in_ok-check_heads.was)
     (raised _ _ (ended (goal.at.returns-in_err-check_end c).After-check_end) c.from_residual-in_err-check_end.ensures.1 c.in_err-check_end.was))
 
-pub check_content-requires : goal.check_content-requires
-check_content-requires c = (sym c.check_heads.ensures ∙ c.in_ok-check_heads.was, c.layout_by.ensures _ c.heads-h.ensures)
+pub invariant_of-script : goal.invariant_of-script
+invariant_of-script c = record { laid_out = laid_out _ (sym c.check_heads.ensures ∙ c.in_ok-check_heads.was) _ (c.layout_by.ensures _ c.heads-h.ensures) }
 
 pub returns : goal.returns
 unfolding validity in_turn validation_row

@@ -11,7 +11,7 @@ use Rattle.program.specs.Questions.{head_validity, end_validity, input_validity,
 use Rattle.program.specs.declared.Field.{Field}
 use Rattle.program.specs.declared.FieldHeads.{FieldHeads}
 use Rattle.program.proofs.Asking.{raised, passed, last_asked, numbered}
-use Rattle.program.proofs.Fit.{counts_allowed}
+use Rattle.program.proofs.Fit.{laid_out, counts_allowed}
 use Rattle.program.proofs.Reading.{laid_names, asked_head, asked_end}
 use Rattle.program.proofs.validation.validate_input.Goals as goal
 use Rattle.program.proofs.validation.validate_input.Goals.{After-check_end, After-check_head}
@@ -55,8 +55,8 @@ returns-in_err-check_end c =
     (passed (sym (initial p.After-check_head) ∙ c.in_ok-check_head.was)
     (raised _ _ (ended p.After-check_end) c.from_residual-in_err-check_end.ensures.1 c.in_err-check_end.was)))
 
-pub check_content-requires : goal.check_content-requires
-check_content-requires c = (sym c.check_heads.ensures ∙ c.in_ok-check_heads.was, c.layout_by-l.ensures _ c.heads-h.ensures)
+pub invariant_of-script : goal.invariant_of-script
+invariant_of-script c = record { laid_out = laid_out _ (sym c.check_heads.ensures ∙ c.in_ok-check_heads.was) _ (c.layout_by-l.ensures _ c.heads-h.ensures) }
 
 pub returns : goal.returns
 unfolding input_validity in_turn input_row
