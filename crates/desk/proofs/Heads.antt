@@ -34,7 +34,7 @@ use Rattle.analysis.specs.declared.Solving.TheVariants.{Finished, Full, Refused 
 use Rattle.analysis.specs.declared.Split.{Split}
 use Rattle.analysis.specs.declared.Verdict.{Verdict}
 use Rattle.analysis.specs.declared.Verdict.TheVariants.{Refused as Declines, Malformed, InitialMissing, ResultMissing, Accepted}
-use Rattle.figures.specs.Figures.{fraction_numbers, totals_numbers, figures_numbers}
+use Rattle.figures.specs.Figures.{fraction_numbers, totals_numbers, class_numbers, no_figures, figures_numbers}
 use Rattle.figures.specs.declared.Figures.{Figures}
 use Rattle.desk.specs.Parts.Heads.{validity_head, outcome_head, ending_head, verdict_head, mark_head, marking_head, solving_head, verdict_behind, mark_behind}
 use Rattle.desk.specs.Reply.{tell}
@@ -136,11 +136,10 @@ unfolding solved_numbers
 solved_head s = solving_one s.solving s.count
 
 -- figures
-pub figures_head : (f : Figures) → figures_told (figures_numbers f) ≡ tell (validity_head f.validity) (totals_numbers f.totals ++ fraction_numbers f.mean ++ fraction_numbers f.variance)
-unfolding figures_numbers totals_numbers fraction_numbers validity_numbers figures_told validity_head tell
-figures_head f = by f.validity
-  where
-    by : (v : Validity) → figures_told (map pos (validity_numbers v) ++ totals_numbers f.totals ++ fraction_numbers f.mean ++ fraction_numbers f.variance)
-        ≡ tell (validity_head v) (totals_numbers f.totals ++ fraction_numbers f.mean ++ fraction_numbers f.variance)
-    by (Ok _) = refl
-    by (Err x) = refl
+pub figures_head : (f : Figures) → figures_told (figures_numbers (Ok f)) ≡ tell (Answered 0) (class_numbers f)
+unfolding figures_numbers class_numbers totals_numbers fraction_numbers figures_told tell
+figures_head f = refl
+
+pub no_figures_head : (x : Refusal) → figures_told (figures_numbers (Err x)) ≡ tell (Declined x.number x.offset) (class_numbers no_figures)
+unfolding figures_numbers class_numbers totals_numbers fraction_numbers figures_told tell
+no_figures_head x = refl

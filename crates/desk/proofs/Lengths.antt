@@ -1,27 +1,25 @@
 -- Every row has the length of its call.
+use Rattle.std.specs.Prelude.{Result, Err, Ok}
 use mathlib.Core.Path.{◌≡◌, refl}
 use mathlib.Core.Bool.{Bool, true, false, cond}
-use mathlib.Core.List.{List, ◌++◌}
+use mathlib.Core.List.{List}
 use Prim.Native.Nat.{ℕ}
 use lib.IntN.{ℤ}
 use lib.ListN.{length}
 use lib.Dec.{eqb}
 use Rattle.program.specs.Questions.{validation_row, input_row}
 use Rattle.program.specs.Drawing.{drawing_row}
+use Rattle.program.specs.declared.Refusal.{Refusal}
 use Rattle.semantics.specs.Budget.{run_row}
 use Rattle.semantics.specs.Step.{Configuration, step_row}
 use Rattle.analysis.specs.Solver.{solver_row}
 use Rattle.analysis.specs.Splitter.{split_row}
 use Rattle.analysis.specs.Verdict.{verdict_row, mark_row}
-use Rattle.figures.specs.Figures.{list_figures, join_figures, figures_row, join_row, totals_numbers, fraction_numbers}
+use Rattle.figures.specs.Figures.{list_figures, join_figures, figures_row, join_row, totals_numbers, fraction_numbers, class_numbers, figures_numbers}
 use Rattle.figures.specs.declared.Figures.{Figures}
 use Rattle.figures.specs.declared.Totals.{Totals}
-use Rattle.desk.specs.Parts.Heads.{validity_head}
-use Rattle.desk.specs.Reply.{Told, answered_with, refused_with, malformed_with, tell}
-use Rattle.desk.specs.Rows.{◌!◌, validation_told, validated, input_validated, parts_told, parts, two_told, drew, stepped, ran, verdict_told, judged, mark_told, marked, solver_told, solved, split, figured, joined}
-use Rattle.desk.specs.declared.Head.{Head}
-use Rattle.desk.specs.declared.Head.TheVariants.{Answered, Refused, Malformed}
-use Rattle.desk.proofs.Heads.{figures_head}
+use Rattle.desk.specs.Reply.{Told, answered_with, refused_with, malformed_with}
+use Rattle.desk.specs.Rows.{◌!◌, validation_told, validated, input_validated, parts_told, parts, two_told, drew, stepped, ran, verdict_told, judged, mark_told, marked, solver_told, solved, split, figures_told, figured, joined}
 use Rattle.program.specs.declared.Construction.{Construction}
 
 abbrev pub Long : ℕ → Told → Type 0
@@ -84,20 +82,15 @@ solved_long κ s initial buffer =
     let xs = solver_row κ s initial buffer in
     choice 4 (eqb (length xs) 4) _ _ refl (choice 4 (eqb (length xs) 3) _ _ refl (choice 4 (eqb (xs ! 0) 0) _ _ refl refl))
 
-tell_long : (h : Head) (rest : List ℤ) → length rest ≡ 7 → Long 10 (tell h rest)
-unfolding tell answered_with refused_with malformed_with
-tell_long (Answered a) rest e = rw e
-tell_long (Refused q place) rest e = rw e
-tell_long (Malformed list place) rest e = rw e
-
-figures_long : (f : Figures) → Long 10 (tell (validity_head f.validity) (totals_numbers f.totals ++ fraction_numbers f.mean ++ fraction_numbers f.variance))
-unfolding totals_numbers fraction_numbers
-figures_long f = tell_long (validity_head f.validity) _ refl
+figures_long : (f : Result Figures Refusal) → Long 10 (figures_told (figures_numbers f))
+unfolding figures_told figures_numbers class_numbers totals_numbers fraction_numbers answered_with refused_with
+figures_long (Ok f) = refl
+figures_long (Err x) = refl
 
 pub figured_long : (marks : List ℤ) → Long 10 (figured marks)
 unfolding figured figures_row
-figured_long marks = rw (figures_head (list_figures marks)) (figures_long (list_figures marks))
+figured_long marks = figures_long (list_figures marks)
 
 pub joined_long : (a b : Totals) → Long 10 (joined a b)
 unfolding joined join_row
-joined_long a b = rw (figures_head (join_figures a b)) (figures_long (join_figures a b))
+joined_long a b = figures_long (join_figures a b)

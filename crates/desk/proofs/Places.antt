@@ -318,8 +318,8 @@ solved_narrow κ s initial buffer same =
     let solving = ap (λ (r : Solved). r.solving) (sym same) in
     record { refused = λ x e. omega (arith, (told.refused x (solving ∙ e)).near); malformed = λ w e. omega (arith, told.wrong w (solving ∙ e)) }
 
-pub list_narrow : (marks : List ℤ) {f : Figures} → f ≡ list_figures marks → (x : Refusal) → f.validity ≡ Err x → Narrow x.offset
-list_narrow marks same = validity_narrow (omega arith) (list_placed marks) (ap (λ (f : Figures). f.validity) same)
+pub list_narrow : (marks : List ℤ) {f : Result Figures Refusal} → f ≡ list_figures marks → (x : Refusal) → f ≡ Err x → Narrow x.offset
+list_narrow marks same x e = omega (arith, (list_placed marks x (sym same ∙ e)).near)
 
-pub join_narrow : (a b : Totals) {f : Figures} → f ≡ join_figures a b → (x : Refusal) → f.validity ≡ Err x → Narrow x.offset
-join_narrow a b same = validity_narrow (omega arith) (join_placed a b) (ap (λ (f : Figures). f.validity) same)
+pub join_narrow : (a b : Totals) {f : Result Figures Refusal} → f ≡ join_figures a b → (x : Refusal) → f ≡ Err x → Narrow x.offset
+join_narrow a b same x e = omega (arith, (join_placed a b x (sym same ∙ e)).near)

@@ -1,7 +1,8 @@
 -- A reply that is too short, and one that has room.
 use mathlib.Core.Path.{◌≡◌, refl, sym, ap, ◌∙◌}
 use mathlib.Core.List.{List, [], ◌++◌}
-use Prim.Native.Nat.{ℕ, ◌≤◌, ◌<◌}
+use Prim.Native.Nat.{ℕ, ◌+◌, ◌≤◌, ◌<◌}
+use native.Mathlib.Omega.{arith}
 use borrow.Author.Tests.{le-leb, lt-leb}
 use lib.IntN.{ℤ, pos}
 use lib.ListN.{length}
@@ -10,6 +11,7 @@ use mir.Syntax.{w32}
 use mir.Val.{to_z, of_z}
 use mir.ValLaws.{to_z-of_z}
 use Rattle.desk.specs.Reply.{Told, none, answered_with, refused_with, malformed_with, tell, unless_short, over_at, returned, replied, Tells}
+use Rattle.desk.proofs.Written.{over_then}
 use Rattle.desk.specs.declared.Head.{Head}
 use Rattle.desk.specs.declared.Head.TheVariants.{Answered, Refused, Malformed}
 
@@ -52,6 +54,20 @@ unfolding tell answered_with refused_with malformed_with
 tell_three (Answered a) = refl
 tell_three (Refused q place) = refl
 tell_three (Malformed list place) = refl
+
+-- so is what was put: the head, and then the numbers
+pub put_behind : (head : Head) (rest reply : List ℤ) {a b : List ℤ} {r : ℤ} → 3 + length rest ≤ length reply → mag r < 2147483648
+    → (r ≡ pos (tell head []).status) × (a ≡ over_at 0 (tell head []).row reply) → b ≡ over_at 3 rest a
+    → (to_z w32 (of_z w32 r) ≡ pos (tell head rest).status) × (b ≡ over_at 0 (tell head rest).row reply)
+put_behind head rest reply {a} {b} {r} room ok put behind =
+    let three = tell_three head in (
+      to_z-of_z w32 r (record { sfits = ok }) ∙ put.0 ∙ ap pos (sym (tell_status head rest)),
+      behind
+          ∙ ap (over_at 3 rest) put.1
+          ∙ ap (λ n. over_at n rest (over_at 0 (tell head []).row reply)) (omega (arith, three))
+          ∙ over_then 0 (tell head []).row rest reply (omega (arith, three))
+          ∙ ap (λ row. over_at 0 row reply) (tell_row head rest),
+    )
 
 -- what a call tells, by how it went and the numbers behind
 pub told_by : {room : ℕ} {reply : List ℤ} → room ≤ length reply → (rest : List ℤ) {h k : Head} {t : Told} {r : ℤ} {after : List ℤ}

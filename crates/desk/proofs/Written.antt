@@ -14,6 +14,11 @@ pub over_length : (at : ℕ) (xs reply : List ℤ) → at + length xs ≤ length
 unfolding over_at
 over_length at xs reply h = simp (length-append, length-drop) (omega (arith, length-take-le at reply (omega arith)))
 
+-- numbers copied into a part of a reply
+pub part_put : (at : ℕ) (xs reply : List ℤ) → take at reply ++ (xs ++ drop (length xs) (drop at reply)) ≡ over_at at xs reply
+unfolding over_at
+part_put at xs reply = rw (drop-drop (length xs) at reply) (sym (append_assoc (take at reply) xs (drop (at + length xs) reply)))
+
 -- two parts, one after the other, are one
 pub over_then : (at : ℕ) (xs ys reply : List ℤ) → at + length xs ≤ length reply → over_at (at + length xs) ys (over_at at xs reply) ≡ over_at at (xs ++ ys) reply
 unfolding over_at
@@ -24,13 +29,6 @@ over_then at xs ys reply h =
     let past : drop (at + length xs + length ys) (front ++ rest) ≡ drop (at + length xs + length ys) reply =
     ap (λ n. drop (n + length ys) (front ++ rest)) (sym long) ∙ drop-append-add front rest (length ys) ∙ drop-drop (length ys) (at + length xs) reply in
     rw (take_at front rest (at + length xs) long, past, append_assoc (take at reply) xs ys, length-append xs ys, add_assoc at (length xs) (length ys))
-
--- three parts, one after the other
-pub three_parts : (at : ℕ) (xs ys zs reply : List ℤ) {a b c : List ℤ} → at + length xs + length ys ≤ length reply
-    → a ≡ over_at at xs reply → b ≡ over_at (at + length xs) ys a → c ≡ over_at (at + length (xs ++ ys)) zs b → c ≡ over_at at (xs ++ ys ++ zs) reply
-three_parts at xs ys zs reply h first second third =
-    let two : over_at (at + length xs) ys (over_at at xs reply) ≡ over_at at (xs ++ ys) reply = over_then at xs ys reply (omega arith) in
-    rw (third, second, first, two) (over_then at (xs ++ ys) zs reply (omega (arith, length-append xs ys)))
 
 -- numbers that are put one by one: all of them are there
 pub all_put : (at : ℕ) (numbers : List ℕ) (reply : List ℤ) (n : ℕ) → n ≡ length numbers → paste reply at (map pos numbers) n ≡ over_at at (map pos numbers) reply

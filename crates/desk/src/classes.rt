@@ -1,59 +1,55 @@
 // The figures of classes: their numbers go below zero and beyond 32 bits.
 
-ghost use Rattle.std.specs.Prelude.{◌+◌, ◌≤◌, ◌≡◌, [], ◌∷◌, ◌++◌, length};
+ghost use Rattle.std.specs.Prelude.{◌≤◌, ◌≡◌, pos, length, Err};
 ghost use Rattle.program.specs.declared.Refusal.{Refusal};
 ghost use Rattle.figures.specs.Figures as Class;
 ghost use Rattle.figures.specs.Totals as sums;
 ghost use Rattle.desk.specs.Reply as spec;
 ghost use Rattle.desk.specs.Rows as row;
 
-use crate::{files, reply};
-use figures::{Figures, Fraction, Totals, class};
+use crate::{Head, files, reply};
+use figures::{Figures, Totals, class};
 use program::Refusal;
 
 // The numbers of the row.
 const FIGURES: usize = 10;
 
-// A count and two sums into a reply, from a place on.
-fn put_totals(count: u32, sum: i64, squares: i64, at: usize, reply: &mut [i64])
-    requires { at + 3 ≤ length reply.old }
-    ensures { reply.new ≡ spec.over_at at (Class.totals_numbers (sums.class count sum squares)) reply.old }
+// The numbers of figures: totals, then mean and variance, each numerator first.
+fn numbers(f: Figures) -> [i64; 7]
+    ensures { result ≡ Class.class_numbers f }
 {
-    reply[at] = count as i64;
-    reply[at + 1] = sum;
-    reply[at + 2] = squares;
+    [
+        i64::from(f.totals.count),
+        f.totals.sum,
+        f.totals.squares,
+        f.mean.numerator,
+        f.mean.denominator,
+        f.variance.numerator,
+        f.variance.denominator,
+    ]
 }
 
-// Two numbers into a reply, from a place on.
-fn put_two(a: i64, b: i64, at: usize, reply: &mut [i64])
-    requires { at + 2 ≤ length reply.old }
-    ensures { reply.new ≡ spec.over_at at (a ∷ b ∷ []) reply.old }
+// How a call went, with figures behind, at the front of a reply that has room; returns what the call returns.
+fn put_figures(head: Head, f: Figures, reply: &mut [i64]) -> i32
+    requires { row.figures_room ≤ length reply.old }
+    ensures { (result ≡ pos (spec.tell head (Class.class_numbers f)).status)
+        × (reply.new ≡ spec.over_at 0 (spec.tell head (Class.class_numbers f)).row reply.old) }
 {
-    reply[at] = a;
-    reply[at + 1] = b;
-}
-
-// Totals, mean and variance into a reply, from a place on.
-fn put_from(totals: Totals, mean: Fraction, variance: Fraction, at: usize, reply: &mut [i64])
-    requires { at + 7 ≤ length reply.old }
-    ensures { reply.new
-        ≡ spec.over_at at (Class.totals_numbers totals ++ Class.fraction_numbers mean ++ Class.fraction_numbers variance) reply.old }
-{
-    put_totals(totals.count, totals.sum, totals.squares, at, reply);
-    put_two(mean.numerator, mean.denominator, at + 3, reply);
-    put_two(variance.numerator, variance.denominator, at + 5, reply);
-}
-
-// The row of figures at the front of a reply that has room; returns what the call returns.
-fn put(f: Figures, reply: &mut [i64]) -> i32
-    requires narrow { (x : Refusal) → f.validity ≡ Err x → spec.Narrow x.offset }
-    requires room { row.figures_room ≤ length reply.old }
-    ensures { spec.Tells row.figures_room (row.figures_told (Class.figures_numbers f)) reply.old result reply.new }
-{
-    let v = f.validity;
-    let status = reply::put_head(files::of_validity(v), reply);
-    put_from(f.totals, f.mean, f.variance, 3, reply);
+    let status = reply::put_head(head, reply);
+    reply[3..FIGURES].copy_from_slice(&numbers(f));
     status
+}
+
+// The row of a class's reply.
+fn put(replied: Result<Figures, Refusal>, reply: &mut [i64]) -> i32
+    requires narrow { (x : Refusal) → replied ≡ Err x → spec.Narrow x.offset }
+    requires room { row.figures_room ≤ length reply.old }
+    ensures { spec.Tells row.figures_room (row.figures_told (Class.figures_numbers replied)) reply.old result reply.new }
+{
+    match replied {
+        Ok(f) => put_figures(Head::Answered(0), f, reply),
+        Err(x) => put_figures(files::refused(x), Figures::none(), reply),
+    }
 }
 
 // The figures of a list of marks.

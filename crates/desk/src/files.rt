@@ -27,6 +27,7 @@ pub(crate) fn refused(x: Refusal) -> Head
 }
 
 // What the questions answered.
+#[tactic(auto, unfolding(crate::specs::Parts::Heads::validity_head))]
 pub(crate) fn of_validity(v: Result<(), Refusal>) -> Head
     requires { (x : Refusal) → v ≡ Err x → spec.Narrow x.offset }
     ensures { result ≡ heads.validity_head v }

@@ -9,7 +9,7 @@ ghost use Rattle.desk.specs.Parts.Heads as heads;
 ghost use Rattle.desk.specs.Reply as spec;
 ghost use Rattle.desk.specs.Rows as row;
 
-use crate::{Head, reply};
+use crate::{Head, files, reply};
 use program::drawing;
 use semantics::{Ending, Outcome, Run, running};
 
@@ -17,6 +17,7 @@ use semantics::{Ending, Outcome, Run, running};
 const RUN: usize = 5;
 
 // What a step answered: 0 where it is taken, or the reason's number.
+#[tactic(auto, unfolding(crate::specs::Parts::Heads::outcome_head))]
 fn of_outcome(outcome: Outcome) -> Head
     requires { (x : Refusal) → outcome ≡ Outcome.Refused x → spec.Narrow x.offset }
     ensures { result ≡ heads.outcome_head outcome }
@@ -24,7 +25,7 @@ fn of_outcome(outcome: Outcome) -> Head
     match outcome {
         Outcome::Taken => Head::Answered(0),
         Outcome::Undefined(f) => Head::Answered(u32::from(f.reason.number())),
-        Outcome::Refused(x) => Head::Refused(x.number, x.offset as u32),
+        Outcome::Refused(x) => files::refused(x),
     }
 }
 
@@ -57,6 +58,7 @@ pub extern "C" fn pizwoter_step(
 }
 
 // How a budgeted run ended: 0 at node 1, 1 with its budget used up, 2 where no edge is defined.
+#[tactic(auto, unfolding(crate::specs::Parts::Heads::ending_head))]
 fn of_ending(ending: Ending) -> Head
     requires { (x : Refusal) → ending ≡ Ending.Refused x → spec.Narrow x.offset }
     ensures { result ≡ heads.ending_head ending }
@@ -65,7 +67,7 @@ fn of_ending(ending: Ending) -> Head
         Ending::Arrived => Head::Answered(0),
         Ending::Spent => Head::Answered(1),
         Ending::Stuck => Head::Answered(2),
-        Ending::Refused(x) => Head::Refused(x.number, x.offset as u32),
+        Ending::Refused(x) => files::refused(x),
     }
 }
 

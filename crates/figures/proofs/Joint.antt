@@ -18,7 +18,7 @@ use Rattle.figures.specs.Figures.{in_range, InRange, mark_validity, list_validit
 use Rattle.figures.specs.Totals.{square, totals, joined, countable}
 use Rattle.figures.specs.declared.Figures.{Figures}
 use Rattle.figures.proofs.Limits.{fit_in_range, possible_is, list_possible}
-use Rattle.figures.proofs.Replies.{list_answer, list_totals}
+use Rattle.figures.proofs.Replies.{list_fit, list_totals}
 use Rattle.figures.proofs.Sums.{sum_append}
 
 -- the totals
@@ -69,18 +69,14 @@ unfolding join_figures list_figures
 joint xs ys hx hy =
     ap (λ v. figures_by v (joined (totals xs) (totals ys))) (join_asked xs ys hx hy) ∙ ap (figures_by (list_validity (xs ++ ys))) (totals_append xs ys)
 
-pub joint_replies : (xs ys : List ℤ) → (list_figures xs).validity ≡ Ok tt → (list_figures ys).validity ≡ Ok tt
-    → join_figures (list_figures xs).totals (list_figures ys).totals ≡ list_figures (xs ++ ys)
-joint_replies xs ys ex ey =
-    let fx = sym (list_answer xs) ∙ ex in
-    let fy = sym (list_answer ys) ∙ ey in
-    rw (list_totals xs fx, list_totals ys fy) (joint xs ys (fit_in_range xs fx) (fit_in_range ys fy))
+pub joint_replies : (xs ys : List ℤ) (f g : Figures) → list_figures xs ≡ Ok f → list_figures ys ≡ Ok g → join_figures f.totals g.totals ≡ list_figures (xs ++ ys)
+joint_replies xs ys f g ef eg =
+    rw (list_totals xs f ef, list_totals ys g eg)
+    (joint xs ys (fit_in_range xs (list_fit xs f ef)) (fit_in_range ys (list_fit ys g eg)))
 
 -- and the totals that a join gives, joined again
-pub joint_again : (xs ys zs : List ℤ) → InRange xs → InRange ys → InRange zs → (join_figures (totals xs) (totals ys)).validity ≡ Ok tt
-    → join_figures (join_figures (totals xs) (totals ys)).totals (totals zs) ≡ list_figures (xs ++ ys ++ zs)
-joint_again xs ys zs hx hy hz e =
-    let both = joint xs ys hx hy in
-    let fit : list_validity (xs ++ ys) ≡ (Ok tt) = sym (list_answer (xs ++ ys)) ∙ ap (λ (f : Figures). f.validity) (sym both) ∙ e in
-    ap (λ t. join_figures t (totals zs)) (ap (λ (f : Figures). f.totals) both ∙ list_totals (xs ++ ys) fit)
-    ∙ joint (xs ++ ys) zs (in_range_append xs ys hx hy) hz
+pub joint_again : (xs ys zs : List ℤ) → InRange xs → InRange ys → InRange zs → (f : Figures) → join_figures (totals xs) (totals ys) ≡ Ok f
+    → join_figures f.totals (totals zs) ≡ list_figures (xs ++ ys ++ zs)
+joint_again xs ys zs hx hy hz f e =
+    let both : list_figures (xs ++ ys) ≡ Ok f = sym (joint xs ys hx hy) ∙ e in
+    ap (λ t. join_figures t (totals zs)) (list_totals (xs ++ ys) f both) ∙ joint (xs ++ ys) zs (in_range_append xs ys hx hy) hz

@@ -1,12 +1,13 @@
 -- The theorems on class figures, on one page. Their proofs are in the modules that they cite.
-use Rattle.std.specs.Prelude.{Ok}
+use Rattle.std.specs.Prelude.{Result, Err, Ok}
 use mathlib.Core.Path.{◌≡◌}
 use mathlib.Core.Bool.{true}
 use mathlib.Core.List.{List, ◌++◌}
 use Prim.Native.Nat.{ℕ, ◌<◌, ◌∣◌}
 use lib.IntN.{ℤ, pos}
 use lib.Signed.{le_z}
-use Rattle.program.proofs.Places.{Placed}
+use Rattle.program.specs.declared.Refusal.{Refusal}
+use Rattle.program.proofs.Places.{Told}
 use Rattle.figures.specs.Figures.{InRange, variance, list_figures, join_figures, figures_numbers, Exact}
 use Rattle.figures.specs.Fraction.{gcd, lowest, nought, LowestTerms}
 use Rattle.figures.specs.Totals.{longest, totals}
@@ -47,17 +48,17 @@ lowest_zero = Lowest.lowest_zero
 
 -- a reply of a list and of a join, where it is not refused: the fractions are in lowest terms and equal as ratios to what the order says, the
 -- variance is not below zero, and the totals can be joined again
-pub list_exact : (marks : List ℤ) → (list_figures marks).validity ≡ Ok tt → Exact (list_figures marks)
+pub list_exact : (marks : List ℤ) (f : Figures) → list_figures marks ≡ Ok f → Exact f
 list_exact = Exactness.list_exact
 
-pub join_exact : (a b : Totals) → (join_figures a b).validity ≡ Ok tt → Exact (join_figures a b)
+pub join_exact : (a b : Totals) (f : Figures) → join_figures a b ≡ Ok f → Exact f
 join_exact = Exactness.join_exact
 
 -- a refusal has a number, and its place is small
-pub list_placed : (marks : List ℤ) → Placed longest (list_figures marks).validity
+pub list_placed : (marks : List ℤ) (x : Refusal) → list_figures marks ≡ Err x → Told longest x
 list_placed = Placing.list_placed
 
-pub join_placed : (a b : Totals) → Placed longest (join_figures a b).validity
+pub join_placed : (a b : Totals) (x : Refusal) → join_figures a b ≡ Err x → Told longest x
 join_placed = Placing.join_placed
 
 -- the variance of a list is never below zero, whatever integers it has
@@ -69,16 +70,15 @@ list_variance = Exactness.list_variance
 pub joint : (xs ys : List ℤ) → InRange xs → InRange ys → join_figures (totals xs) (totals ys) ≡ list_figures (xs ++ ys)
 joint = Joint.joint
 
-pub joint_replies : (xs ys : List ℤ) → (list_figures xs).validity ≡ Ok tt → (list_figures ys).validity ≡ Ok tt
-    → join_figures (list_figures xs).totals (list_figures ys).totals ≡ list_figures (xs ++ ys)
+pub joint_replies : (xs ys : List ℤ) (f g : Figures) → list_figures xs ≡ Ok f → list_figures ys ≡ Ok g → join_figures f.totals g.totals ≡ list_figures (xs ++ ys)
 joint_replies = Joint.joint_replies
 
-pub joint_again : (xs ys zs : List ℤ) → InRange xs → InRange ys → InRange zs → (join_figures (totals xs) (totals ys)).validity ≡ Ok tt
-    → join_figures (join_figures (totals xs) (totals ys)).totals (totals zs) ≡ list_figures (xs ++ ys ++ zs)
+pub joint_again : (xs ys zs : List ℤ) → InRange xs → InRange ys → InRange zs → (f : Figures) → join_figures (totals xs) (totals ys) ≡ Ok f
+    → join_figures f.totals (totals zs) ≡ list_figures (xs ++ ys ++ zs)
 joint_again = Joint.joint_again
 
 -- ---- Rows of numbers
 
 -- a reply is fixed by its row alone
-pub figures_row_lem : (f g : Figures) → figures_numbers f ≡ figures_numbers g → f ≡ g
+pub figures_row_lem : (f g : Result Figures Refusal) → figures_numbers f ≡ figures_numbers g → f ≡ g
 figures_row_lem = Readback.figures_row_lem

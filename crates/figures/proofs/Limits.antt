@@ -137,13 +137,6 @@ module _ (t : Totals) (b : Bounded t) where
       let x = pos t.count *ℤ t.squares in
       omega (arith, first_small, second_small, Signed.sum x (neg_ℤ (square t.sum)), Signed.opposite (square t.sum))
 
--- totals as the machine hands them on
-abbrev pub handed : Totals → Totals
-handed t = record { count = t.count; sum = to_z w64 (of_z w64 t.sum); squares = to_z w64 (of_z w64 t.squares) }
-
-pub handed_is : (t : Totals) → SFits w64 t.sum → SFits w64 t.squares → handed t ≡ t
-handed_is t f g = rw (to_z-of_z w64 t.sum f, to_z-of_z w64 t.squares g)
-
 -- small totals fit 64 bits, and so does what the machine works out of them
 module _ (t : Totals) (b : Bounded t) where
   sum_fits : SFits w64 t.sum

@@ -1,57 +1,80 @@
 -- What is replied, by the answers to the questions.
-use Rattle.std.specs.Prelude.{Err, Ok}
-use Prim.Native.Nat.{◌+◌}
-use mathlib.Core.Path.{◌≡◌, refl, ap, ◌∙◌}
-use mathlib.Core.Bool.{true, false, ◌&&◌}
+use Rattle.std.specs.Prelude.{Result, Err, Ok}
+use mathlib.Core.Path.{◌≡◌, refl, sym, ap, ◌∙◌}
 use mathlib.Core.List.{List}
 use lib.IntN.{ℤ}
-use Rattle.program.specs.Asking.{ask, Validity}
+use Rattle.program.specs.Asking.{Validity}
+use Rattle.program.proofs.Never.{never}
 use Rattle.program.specs.declared.Refusal.{Refusal}
-use Rattle.figures.specs.Figures.{list_validity, join_validity, figures_by, list_figures, join_figures, figures_numbers}
-use Rattle.figures.specs.Totals.{totals, none, joined, countable, possible}
+use Rattle.figures.specs.Figures.{list_validity, join_validity, figures_of, figures_by, list_figures, join_figures, figures_numbers}
+use Rattle.figures.specs.Totals.{totals, joined}
 use Rattle.figures.specs.declared.Figures.{Figures}
 use Rattle.figures.specs.declared.Totals.{Totals}
 
 -- a reply, and the same in numbers
-pub numbered : {f g : Figures} → f ≡ g → record { value : f ≡ g; numbers : figures_numbers f ≡ figures_numbers g }
+pub numbered : {f g : Result Figures Refusal} → f ≡ g → record { value : f ≡ g; numbers : figures_numbers f ≡ figures_numbers g }
 numbered e = record { value = e; numbers = ap figures_numbers e }
 
--- a list, by its answer
-pub list_fit : (marks : List ℤ) → list_validity marks ≡ Ok tt → list_figures marks ≡ figures_by (Ok tt) (totals marks)
-unfolding list_figures
-list_fit marks e = rw e
-
-pub list_refused : (marks : List ℤ) (x : Refusal) → list_validity marks ≡ Err x → list_figures marks ≡ figures_by (Err x) none
-unfolding list_figures figures_by
-list_refused marks x e = rw e
-
--- two classes, by the three tests
-module _ (a b : Totals) where
-  pub join_fit : (countable (a.count + b.count) && possible a && possible b) ≡ true → join_figures a b ≡ figures_by (Ok tt) (joined a b)
-  unfolding join_figures join_validity ask
-  join_fit e = rw e
-
-  pub join_refused : (countable (a.count + b.count) && possible a && possible b) ≡ false → join_figures a b ≡ figures_by (Err (record { number = 23; offset = 0 })) none
-  unfolding join_figures join_validity ask figures_by
-  join_refused e = rw e
-
--- the answer of a reply is that to the questions, and the totals of a fit one are those that it was made of
-answer : (v : Validity) (t : Totals) → (figures_by v t).validity ≡ v
+-- by an answer: the figures where it is yes, and the refusal handed on where it is not
+pub by_fit : (v : Validity) (t : Totals) → v ≡ Ok tt → Ok (figures_of t) ≡ figures_by v t
 unfolding figures_by
-answer (Ok _) t = refl
-answer (Err x) t = refl
+by_fit v t e = rw e
 
-kept : (t : Totals) → (figures_by (Ok tt) t).totals ≡ t
+pub by_refused : (v : Validity) (t : Totals) (x : Refusal) → v ≡ Err x → Err x ≡ figures_by v t
 unfolding figures_by
-kept t = refl
+by_refused v t x e = rw e
 
-pub list_answer : (marks : List ℤ) → (list_figures marks).validity ≡ list_validity marks
+-- the answer of a reply
+unfoldable pub answer : Result Figures Refusal → Validity
+answer (Ok f) = Ok tt
+answer (Err x) = Err x
+
+-- is that to the questions, and the figures of a fit one are those of the totals that it was made of
+by_answer : (v : Validity) (t : Totals) → answer (figures_by v t) ≡ v
+unfolding figures_by answer
+by_answer (Ok _) t = refl
+by_answer (Err x) t = refl
+
+by_totals : (v : Validity) (t : Totals) (f : Figures) → figures_by v t ≡ Ok f → f ≡ figures_of t
+unfolding figures_by
+by_totals (Ok _) t f e = cc
+by_totals (Err x) t f e = never (cc)
+
+pub list_answer : (marks : List ℤ) → answer (list_figures marks) ≡ list_validity marks
 unfolding list_figures
-list_answer marks = answer (list_validity marks) (totals marks)
+list_answer marks = by_answer (list_validity marks) (totals marks)
 
-pub list_totals : (marks : List ℤ) → list_validity marks ≡ Ok tt → (list_figures marks).totals ≡ totals marks
-list_totals marks fit = ap (λ (f : Figures). f.totals) (list_fit marks fit) ∙ kept (totals marks)
-
-pub join_answer : (a b : Totals) → (join_figures a b).validity ≡ join_validity a b
+pub join_answer : (a b : Totals) → answer (join_figures a b) ≡ join_validity a b
 unfolding join_figures
-join_answer a b = answer (join_validity a b) (joined a b)
+join_answer a b = by_answer (join_validity a b) (joined a b)
+
+module _ (marks : List ℤ) (f : Figures) (e : list_figures marks ≡ Ok f) where
+  pub list_fit : list_validity marks ≡ Ok tt
+  unfolding answer
+  list_fit = sym (list_answer marks) ∙ ap answer e
+
+  pub list_made : f ≡ figures_of (totals marks)
+  unfolding list_figures
+  list_made = by_totals _ _ f e
+
+  pub list_totals : f.totals ≡ totals marks
+  unfolding figures_of
+  list_totals = ap (λ (f : Figures). f.totals) list_made
+
+module _ (a b : Totals) (f : Figures) (e : join_figures a b ≡ Ok f) where
+  pub join_fit : join_validity a b ≡ Ok tt
+  unfolding answer
+  join_fit = sym (join_answer a b) ∙ ap answer e
+
+  pub join_made : f ≡ figures_of (joined a b)
+  unfolding join_figures
+  join_made = by_totals _ _ f e
+
+-- a refused one has the refusal of its questions
+pub list_refused : (marks : List ℤ) (x : Refusal) → list_figures marks ≡ Err x → list_validity marks ≡ Err x
+unfolding answer
+list_refused marks x e = sym (list_answer marks) ∙ ap answer e
+
+pub join_refused : (a b : Totals) (x : Refusal) → join_figures a b ≡ Err x → join_validity a b ≡ Err x
+unfolding answer
+join_refused a b x e = sym (join_answer a b) ∙ ap answer e

@@ -1,7 +1,8 @@
 -- The figures of a list of marks, and of two classes joined (document 02, order 13).
-use Rattle.std.specs.Prelude.{ℕ, ◌+◌, ◌*◌, ◌<◌, ◌≡◌, Bool, true, ◌&&◌, List, [], ◌∷◌, ◌++◌, map, ℤ, pos, neg_ℤ, length, get_or, Err, Ok}
+use Rattle.std.specs.Prelude.{ℕ, ◌+◌, ◌*◌, ◌<◌, ◌≡◌, Bool, true, ◌&&◌, List, [], ◌∷◌, ◌++◌, ℤ, pos, neg_ℤ, length, get_or, Result, Err, Ok}
 use Rattle.std.specs.Int.Signed.{le_z}
-use Rattle.program.specs.Asking.{ask, ask_plain, then_ask, ask_each, validity_numbers, Validity}
+use Rattle.program.specs.Asking.{ask, ask_plain, then_ask, ask_each, Validity}
+use Rattle.program.specs.declared.Refusal.{Refusal}
 use Rattle.figures.specs.Fraction.{lowest, nought, LowestTerms}
 use Rattle.figures.specs.Totals.{highest, totals, none, joined, spread, countable, possible}
 use Rattle.figures.specs.declared.Figures.{Figures}
@@ -36,17 +37,21 @@ list_validity marks = then_ask (ask_plain (countable (length marks)) 23) (ask_ea
 unfoldable pub join_validity : Totals → Totals → Validity
 join_validity a b = ask_plain (countable (a.count + b.count) && possible a && possible b) 23
 
--- the figures of totals, by the answer to the questions: refused, the totals are zero and both fractions 0 over 1
-unfoldable pub figures_by : Validity → Totals → Figures
-figures_by (Ok _) t = record { validity = Ok tt; totals = t; mean = mean t; variance = variance t }
-figures_by (Err x) t = record { validity = Err x; totals = none; mean = nought; variance = nought }
+-- the figures of totals
+unfoldable pub figures_of : Totals → Figures
+figures_of t = record { totals = t; mean = mean t; variance = variance t }
+
+-- the reply by the answer to the questions: the figures of totals, or the refusal
+unfoldable pub figures_by : Validity → Totals → Result Figures Refusal
+figures_by (Ok _) t = Ok (figures_of t)
+figures_by (Err x) t = Err x
 
 -- the figures of a list of marks
-unfoldable pub list_figures : List ℤ → Figures
+unfoldable pub list_figures : List ℤ → Result Figures Refusal
 list_figures marks = figures_by (list_validity marks) (totals marks)
 
 -- the figures of two classes joined
-unfoldable pub join_figures : Totals → Totals → Figures
+unfoldable pub join_figures : Totals → Totals → Result Figures Refusal
 join_figures a b = figures_by (join_validity a b) (joined a b)
 
 -- what the order says of a reply that is not refused: both fractions are in lowest terms, and the same ratios as the totals give; no variance is
@@ -64,9 +69,16 @@ fraction_numbers f = f.numerator ∷ f.denominator ∷ []
 unfoldable pub totals_numbers : Totals → List ℤ
 totals_numbers t = pos t.count ∷ t.sum ∷ t.squares ∷ []
 
-unfoldable pub figures_numbers : Figures → List ℤ
-figures_numbers f =
-    map pos (validity_numbers f.validity) ++ totals_numbers f.totals ++ fraction_numbers f.mean ++ fraction_numbers f.variance
+unfoldable pub class_numbers : Figures → List ℤ
+class_numbers f = totals_numbers f.totals ++ fraction_numbers f.mean ++ fraction_numbers f.variance
+
+-- where a class is refused, a row has zero totals and both fractions 0 over 1
+abbrev pub no_figures : Figures
+no_figures = record { totals = none; mean = nought; variance = nought }
+
+unfoldable pub figures_numbers : Result Figures Refusal → List ℤ
+figures_numbers (Ok f) = pos 0 ∷ class_numbers f
+figures_numbers (Err x) = pos x.number ∷ pos x.offset ∷ class_numbers no_figures
 
 -- the rows that the figures of a list of marks and of two classes joined answer
 unfoldable pub figures_row : List ℤ → List ℤ

@@ -27,17 +27,6 @@ impl Totals {
         }
     }
 
-    // No mark at all.
-    pub(crate) fn none() -> Totals
-        ensures { result ≡ spec.none }
-    {
-        Totals {
-            count: 0,
-            sum: 0,
-            squares: 0,
-        }
-    }
-
     // The number times the sum of squares, less the square of the sum.
     pub(crate) fn spread(self) -> i64
         requires { Bounded self }
@@ -59,6 +48,7 @@ impl Totals {
     }
 
     // Whether a class of so many marks can have these sums. No number wraps: the count is small, and a sum is multiplied only where it is within its limits.
+    #[tactic(auto, unfolding(crate::specs::Totals::possible))]
     pub(crate) fn possible(self) -> bool
         requires { self.count ≤ spec.longest }
         ensures { result ≡ spec.possible self }

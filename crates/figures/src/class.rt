@@ -1,15 +1,17 @@
 // The figures of a class: of a list of marks, and of two classes joined.
 
-ghost use Rattle.std.specs.Prelude.{◌≤◌, true, ◌≡◌, length};
+ghost use Rattle.std.specs.Prelude.{◌+◌, ◌≤◌, true, ◌&&◌, ◌≡◌, length};
 ghost use Rattle.program.specs.Asking;
 ghost use Rattle.figures.specs.Parts.Bounds.{Bounded};
 ghost use Rattle.figures.specs.Figures as spec;
 ghost use Rattle.figures.specs.Totals as sums;
 
-use crate::{Figures, Totals, reducing};
+use crate::{Figures, Fraction, Totals, reducing};
 use program::Refusal;
+use program::validation::ask;
 
 // Whether so many marks are neither none nor too many.
+#[tactic(auto, unfolding(crate::specs::Totals::countable))]
 fn countable(count: u64) -> bool
     ensures { result ≡ sums.countable count }
 {
@@ -17,6 +19,7 @@ fn countable(count: u64) -> bool
 }
 
 // Whether a mark is in the range.
+#[tactic(auto, unfolding(crate::specs::Figures::in_range))]
 fn in_range(mark: i32) -> bool
     ensures { result ≡ spec.in_range mark }
 {
@@ -38,15 +41,8 @@ fn all_in_range(marks: &[i32]) -> bool
 fn ask_each(marks: &[i32]) -> Result<(), Refusal>
     ensures { result ≡ Asking.ask_each (length marks.now) (spec.mark_validity marks.now) }
 {
-    let mut i: usize = 0;
-    while i < marks.len() {
-        if !in_range(marks[i]) {
-            return Err(Refusal {
-                number: 24,
-                offset: i,
-            });
-        }
-        i += 1;
+    for (i, mark) in marks.iter().enumerate() {
+        ask(in_range(*mark), 24, i)?;
     }
     Ok(())
 }
@@ -55,49 +51,29 @@ fn ask_each(marks: &[i32]) -> Result<(), Refusal>
 fn check(marks: &[i32]) -> Result<(), Refusal>
     ensures { result ≡ spec.list_validity marks.now }
 {
-    if !countable(marks.len() as u64) {
-        return Err(Refusal {
-            number: 23,
-            offset: 0,
-        });
-    }
+    ask(countable(marks.len() as u64), 23, 0)?;
     if all_in_range(marks) {
         return Ok(());
     }
     ask_each(marks)
 }
 
-// The figures where a class is refused.
-fn refused(x: Refusal) -> Figures
-    ensures { result ≡ spec.figures_by (Err x) sums.none }
+// Whether two classes have totals that can be joined. The joint count is asked about first: then neither class has more than 4,096 marks.
+#[tactic(auto, unfolding(crate::specs::Totals::countable))]
+fn joinable(first: Totals, second: Totals) -> bool
+    ensures { result ≡ (sums.countable (first.count + second.count) && sums.possible first && sums.possible second) }
 {
-    Figures {
-        validity: Err(x),
-        totals: Totals::none(),
-        mean: reducing::nought(),
-        variance: reducing::nought(),
-    }
-}
-
-// 23, which has no place.
-fn unfit() -> Figures
-    ensures { result ≡ spec.figures_by (Err (record { number = 23; offset = 0 })) sums.none }
-{
-    refused(Refusal {
-        number: 23,
-        offset: 0,
-    })
+    countable(first.count as u64 + second.count as u64) && first.possible() && second.possible()
 }
 
 // The figures of a class with these totals.
 fn of_totals(totals: Totals) -> Figures
     requires some { 1 ≤ totals.count }
     requires bounded { Bounded totals }
-    ensures { result ≡ spec.figures_by (Ok tt) totals }
+    ensures { result ≡ spec.figures_of totals }
 {
     let number = totals.count as u64;
     Figures {
-        validity: Ok(()),
         totals,
         mean: reducing::lowest(totals.sum, number),
         variance: reducing::lowest(totals.spread(), number * number),
@@ -105,30 +81,44 @@ fn of_totals(totals: Totals) -> Figures
 }
 
 // The figures of a list of marks.
-pub fn of_list(marks: &[i32]) -> Figures
+pub fn of_list(marks: &[i32]) -> Result<Figures, Refusal>
     ensures value { result ≡ spec.list_figures marks.now }
     ensures numbers { spec.figures_numbers result ≡ spec.figures_row marks.now }
 {
-    let v = check(marks);
-    match v {
-        Ok(()) => of_totals(Totals::of_marks(marks)),
-        Err(x) => refused(x),
-    }
+    check(marks)?;
+    Ok(of_totals(Totals::of_marks(marks)))
 }
 
-// The figures of two classes joined, by their totals. The joint count is asked about first: then neither class has more than 4,096 marks.
-pub fn of_join(first: Totals, second: Totals) -> Figures
+// The figures of two classes joined, by their totals.
+pub fn of_join(first: Totals, second: Totals) -> Result<Figures, Refusal>
     ensures value { result ≡ spec.join_figures first second }
     ensures numbers { spec.figures_numbers result ≡ spec.join_row first second }
 {
-    let count = first.count as u64 + second.count as u64;
-    if countable(count) && first.possible() && second.possible() {
-        of_totals(Totals {
-            count: count as u32,
-            sum: first.sum + second.sum,
-            squares: first.squares + second.squares,
-        })
-    } else {
-        unfit()
+    ask(joinable(first, second), 23, 0)?;
+    Ok(of_totals(Totals {
+        count: first.count + second.count,
+        sum: first.sum + second.sum,
+        squares: first.squares + second.squares,
+    }))
+}
+
+impl Figures {
+    // What a row has in their place where a class is refused: zero totals, and both fractions 0 over 1.
+    pub fn none() -> Figures
+        ensures { result ≡ spec.no_figures }
+    {
+        let nought = Fraction {
+            numerator: 0,
+            denominator: 1,
+        };
+        Figures {
+            totals: Totals {
+                count: 0,
+                sum: 0,
+                squares: 0,
+            },
+            mean: nought,
+            variance: nought,
+        }
     }
 }

@@ -5,8 +5,6 @@ pub(crate) mod adding;
 pub mod class;
 pub(crate) mod reducing;
 
-use program::Refusal;
-
 // A class's totals: the number of its marks, their sum, and the sum of their squares.
 #[derive(Clone, Copy)]
 pub struct Totals {
@@ -22,10 +20,9 @@ pub struct Fraction {
     pub denominator: i64,
 }
 
-// What is replied of a class: where it is refused, the totals are zero and both fractions 0 over 1.
+// What is replied of a class that is not refused.
 #[derive(Clone, Copy)]
 pub struct Figures {
-    pub validity: Result<(), Refusal>,
     pub totals: Totals,
     pub mean: Fraction,
     pub variance: Fraction,

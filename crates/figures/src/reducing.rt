@@ -30,13 +30,3 @@ pub(crate) fn lowest(z: i64, d: u64) -> Fraction
         denominator: (d / g) as i64,
     }
 }
-
-// 0 over 1.
-pub(crate) fn nought() -> Fraction
-    ensures { result ≡ spec.nought }
-{
-    Fraction {
-        numerator: 0,
-        denominator: 1,
-    }
-}

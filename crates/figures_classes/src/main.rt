@@ -14,17 +14,6 @@ use program::{Refusal, file};
 use std::io::{BufWriter, Read, Write};
 use std::{fs, io};
 
-fn print_refusal<W: Write>(out: &mut W, x: Refusal) -> io::Result<()> {
-    write!(out, "{} {}", x.number, x.offset)
-}
-
-fn print_answer<W: Write>(out: &mut W, validity: Result<(), Refusal>) -> io::Result<()> {
-    match validity {
-        Ok(()) => write!(out, "0"),
-        Err(x) => print_refusal(out, x),
-    }
-}
-
 fn print_totals<W: Write>(out: &mut W, t: Totals) -> io::Result<()> {
     write!(out, " {} {} {}", t.count, t.sum, t.squares)
 }
@@ -34,12 +23,23 @@ fn print_fraction<W: Write>(out: &mut W, f: Fraction) -> io::Result<()> {
 }
 
 fn print_figures<W: Write>(out: &mut W, f: Figures) -> io::Result<()> {
-    let validity = f.validity;
-    print_answer(out, validity)?;
     print_totals(out, f.totals)?;
     print_fraction(out, f.mean)?;
     print_fraction(out, f.variance)?;
     writeln!(out)
+}
+
+fn print_reply<W: Write>(out: &mut W, reply: Result<Figures, Refusal>) -> io::Result<()> {
+    match reply {
+        Ok(f) => {
+            write!(out, "0")?;
+            print_figures(out, f)
+        }
+        Err(x) => {
+            write!(out, "{} {}", x.number, x.offset)?;
+            print_figures(out, Figures::none())
+        }
+    }
 }
 
 // Mode 1: a list of marks. There is room for more than a class may have.
@@ -47,7 +47,7 @@ fn answer_list<W: Write>(out: &mut W, bytes: &[u8]) -> io::Result<()> {
     let mut room = [0i32; 5120];
     if let Some(marks) = room.get_mut(..bytes.len() / 4) {
         cases::set_cells(marks, bytes);
-        print_figures(out, class::of_list(marks))?;
+        print_reply(out, class::of_list(marks))?;
     }
     Ok(())
 }
@@ -64,7 +64,7 @@ fn totals(bytes: &[u8]) -> Totals {
 // Mode 2: two classes joined.
 fn answer_join<W: Write>(out: &mut W, bytes: &[u8]) -> io::Result<()> {
     let second = bytes.get(20..).unwrap_or(&[]);
-    print_figures(out, class::of_join(totals(bytes), totals(second)))
+    print_reply(out, class::of_join(totals(bytes), totals(second)))
 }
 
 fn answer<W: Write>(out: &mut W, mode: u8, bytes: &[u8]) -> io::Result<()> {

@@ -1,26 +1,20 @@
--- `classes::put`: the head of the answer, then the figures behind it.
-use mathlib.Core.Path.{sym, ap, ◌∙◌}
-use mathlib.Core.List.{[], ◌++◌}
-use native.Mathlib.Omega.{arith}
-use Rattle.figures.specs.Figures.{totals_numbers, fraction_numbers}
-use Rattle.desk.specs.Reply.{tell, over_at}
-use Rattle.desk.proofs.Heads.{figures_head}
-use Rattle.desk.proofs.Replies.{tell_status, tell_row, tell_three, told_by}
-use Rattle.desk.proofs.Written.{over_then}
-use lib.IntN.{pos}
+-- `classes::put`: by the reply's cases, figures or the refusal.
+use mathlib.Core.Path.{refl, ap, ◌∙◌}
+use Rattle.figures.specs.Figures.{class_numbers, no_figures, figures_numbers}
+use Rattle.desk.specs.Rows.{figures_told}
+use Rattle.desk.proofs.Heads.{figures_head, no_figures_head}
+use Rattle.desk.proofs.Replies.{told_by}
 use Rattle.desk.proofs.classes.put.Goals as goal
 
-pub returns : goal.returns
-returns c =
-    let f = c.args.f in
-    let head = c.of_validity.result in
-    let rest = totals_numbers f.totals ++ fraction_numbers f.mean ++ fraction_numbers f.variance in
-    let three = tell_three head in
-    told_by c.requires.room rest c.put_head-status.type_inv (figures_head f) c.of_validity.ensures (
-      c.put_head-status.ensures.0 ∙ ap pos (sym (tell_status head rest)),
-      c.put_from.ensures
-          ∙ ap (over_at 3 rest) c.put_head-status.ensures.1
-          ∙ ap (λ n. over_at n rest (over_at 0 (tell head []).row c.args.reply.now)) (omega (arith, three))
-          ∙ over_then 0 (tell head []).row rest c.args.reply.now (omega (arith, three, c.requires.room))
-          ∙ ap (λ row. over_at 0 row c.args.reply.now) (tell_row head rest),
-    )
+pub refused-requires : goal.refused-requires
+refused-requires c = c.requires.narrow _ c.in-Err.is
+
+pub returns-in-Ok : goal.returns-in-Ok
+returns-in-Ok c =
+    told_by c.requires.room (class_numbers c.in-Ok.f) c.put_figures.type_inv
+    (ap (λ f. figures_told (figures_numbers f)) c.in-Ok.is ∙ figures_head _) refl c.put_figures.ensures
+
+pub returns-in-Err : goal.returns-in-Err
+returns-in-Err c =
+    told_by c.requires.room (class_numbers no_figures) c.put_figures-in-Err.type_inv
+    (ap (λ f. figures_told (figures_numbers f)) c.in-Err.is ∙ no_figures_head _) c.refused.ensures (rw c.none.ensures at c.put_figures-in-Err.ensures)

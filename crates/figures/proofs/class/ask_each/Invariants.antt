@@ -1,14 +1,9 @@
 -- `class::ask_each`: every mark passed over is in the range.
 use Rattle.std.specs.Prelude.{Ok}
-use Prim.Native.Nat.{◌≤◌, ◌-◌}
 use mathlib.Core.Path.{◌≡◌}
-use lib.ListN.{length}
 use Rattle.program.specs.Asking.{ask_each}
 use Rattle.figures.specs.Figures.{mark_validity}
 use Rattle.figures.proofs.class.ask_each.Given as goal
 
 abbrev pub invariant-loop-i : goal.invariant-loop-i
-invariant-loop-i l = (l.i ≤ length l.marks) × (ask_each l.i (mark_validity l.marks) ≡ Ok tt)
-
-abbrev pub decreases-loop-i : goal.decreases-loop-i
-decreases-loop-i l = length l.marks - l.i
+invariant-loop-i l = ask_each l.i (mark_validity l.marks) ≡ Ok tt

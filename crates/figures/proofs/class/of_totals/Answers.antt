@@ -1,6 +1,6 @@
 use Rattle.std.proofs.Common.{arith}
 use Rattle.std.proofs.lemmas.Int.{ints, to_z-of_z}
-use Rattle.figures.specs.Figures.{mean, variance, figures_by}
+use Rattle.figures.specs.Figures.{mean, variance, figures_of}
 use Rattle.figures.proofs.Limits.{spread_small}
 use native.Mathlib.Nat.{mul-pos, mul-le-mul}
 use Rattle.figures.proofs.class.of_totals.Goals as goal
@@ -14,5 +14,5 @@ lowest-requires-2 c =
     })
 
 pub returns : goal.returns
-unfolding figures_by mean variance
+unfolding figures_of mean variance
 returns c = grind (arith, to_z-of_z)
