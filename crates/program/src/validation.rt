@@ -37,13 +37,6 @@ pub fn ask(yes: bool, number: u8, offset: usize) -> Result<(), Refusal>
     }
 }
 
-#[tactic(auto, unfolding(crate::specs::Asking::is_refused))]
-pub fn refused(v: Result<(), Refusal>) -> bool
-    ensures { result ≡ Asking.is_refused v }
-{
-    v.is_err()
-}
-
 // Whether a length is whole entries, as many as allowed.
 #[tactic(auto, unfolding(crate::specs::Questions::whole_entries))]
 fn whole_entries(field: Field, len: u16) -> bool
