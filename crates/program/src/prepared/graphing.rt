@@ -78,8 +78,15 @@ fn draw_guard(
     }
 }
 
-// The edges of command entry `n`, a part of entry `bound`, from node `a` to node `b`. The innermost do around it goes from node `first` to node `last`. Earlier guards
-// make no difference to an edge's numbers.
+// What stands around a command: the nodes from which and to which the innermost do goes, and the construction.
+#[derive(Clone, Copy)]
+struct Around {
+    first: u16,
+    last: u16,
+    construction: Construction,
+}
+
+// The edges of command entry `n`, a part of entry `bound`, from node `a` to node `b`. Earlier guards make no difference to an edge's numbers.
 fn draw_part(
     graph: &mut [u16; GRAPH],
     bound: u16,
@@ -87,12 +94,10 @@ fn draw_part(
     a: u16,
     b: u16,
     pen: u32,
-    first: u16,
-    last: u16,
-    construction: Construction,
+    around: Around,
 ) -> u32
-    requires { parts.Room (parts.strip construction (Graph.within first last) (parts.part_at (entries_in [] graph.old) bound n) a b (parts.fresh_of pen)) (parts.next_of pen) }
-    ensures { parts.Drew (parts.strip construction (Graph.within first last) (parts.part_at (entries_in [] graph.old) bound n) a b (parts.fresh_of pen)) (parts.next_of pen) graph.old graph.new result }
+    requires { parts.Room (parts.strip around.construction (Graph.within around.first around.last) (parts.part_at (entries_in [] graph.old) bound n) a b (parts.fresh_of pen)) (parts.next_of pen) }
+    ensures { parts.Drew (parts.strip around.construction (Graph.within around.first around.last) (parts.part_at (entries_in [] graph.old) bound n) a b (parts.fresh_of pen)) (parts.next_of pen) graph.old graph.new result }
 {
     let fresh = (pen % PEN) as u16;
     let node = prepared::command_node(graph, bound, n);
@@ -101,23 +106,35 @@ fn draw_part(
         CommandNode::Assign(_, _) => draw_edge(graph, pen, a, b, 1, n),
         CommandNode::Store(_, _, _) => draw_edge(graph, pen, a, b, 1, n),
         CommandNode::Sequence(p, q) => {
-            let front = draw_part(graph, n, p, a, fresh, pen + 1, first, last, construction);
-            draw_part(graph, n, q, fresh, b, front, first, last, construction)
+            let front = draw_part(graph, n, p, a, fresh, pen + 1, around);
+            draw_part(graph, n, q, fresh, b, front, around)
         }
-        CommandNode::Conditional(p) => draw_part(graph, n, p, a, b, pen, first, last, construction),
+        CommandNode::Conditional(p) => draw_part(graph, n, p, a, b, pen, around),
         CommandNode::Iteration(p) => {
-            let body = draw_part(graph, n, p, a, a, pen, a, b, construction);
+            let inside = Around {
+                first: a,
+                last: b,
+                ..around
+            };
+            let body = draw_part(graph, n, p, a, a, pen, inside);
             draw_edge(graph, body, a, b, 3, p)
         }
         CommandNode::Guarded(g, p) => {
-            let guard = draw_guard(graph, pen + 1, a, fresh, n, g, construction);
-            draw_part(graph, n, p, fresh, b, guard, first, last, construction)
+            let guard = draw_guard(graph, pen + 1, a, fresh, n, g, around.construction);
+            draw_part(graph, n, p, fresh, b, guard, around)
         }
         CommandNode::Choice(p, q) => {
-            let front = draw_part(graph, n, p, a, b, pen, first, last, construction);
-            draw_part(graph, n, q, a, b, front, first, last, construction)
+            let front = draw_part(graph, n, p, a, b, pen, around);
+            draw_part(graph, n, q, a, b, front, around)
         }
-        CommandNode::Jump(jump) => draw_edge(graph, pen, a, landing(jump, first, last), 1, n),
+        CommandNode::Jump(jump) => draw_edge(
+            graph,
+            pen,
+            a,
+            landing(jump, around.first, around.last),
+            1,
+            n,
+        ),
     }
 }
 
@@ -134,7 +151,12 @@ pub(crate) fn put_graph(
     let commands = l.commands;
     coding::put_table(program, commands, graph, 0);
     let count = commands.count;
-    let pen = draw_part(graph, count, count - 1, 0, 1, 2, 0, 1, construction);
+    let around = Around {
+        first: 0,
+        last: 1,
+        construction,
+    };
+    let pen = draw_part(graph, count, count - 1, 0, 1, 2, around);
     graph[NODES] = (pen % PEN) as u16;
     graph[EDGES] = (pen / PEN) as u16;
 }
