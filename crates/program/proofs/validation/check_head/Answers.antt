@@ -5,6 +5,3 @@ use Rattle.program.proofs.validation.check_head.Goals as goal
 pub returns-in-Err : goal.returns-in-Err
 unfolding head_validity
 returns-in-Err c = rw c.in-Err.is c.ask.ensures
-
-pub returns-in-Ok : goal.returns-in-Ok
-returns-in-Ok c = rw c.in-Ok.is c.check_found.ensures
