@@ -247,13 +247,12 @@ pub(crate) fn arith_at(code: &[u16; CODE], n: u16) -> ArithNode
 }
 
 // What entry `n` of it is as a part of entry `bound`: one that is not lower is the number 0.
+// This function and the two below it are no one generic function: they share one test, and a trait that told it the table, its size, the leaf and the decoder of each would be longer
+// than the three.
 pub fn arith_node(code: &[u16; CODE], bound: u16, n: u16) -> ArithNode
     ensures { (graph : List ℕ) → result ≡ Node.arith_form (spec.entries_in code.now graph) bound n }
 {
-    if bound <= n {
-        return ArithNode::Number(0);
-    }
-    if EXPRESSIONS <= n {
+    if bound <= n || EXPRESSIONS <= n {
         return ArithNode::Number(0);
     }
     arith_at(code, n)
@@ -263,10 +262,7 @@ pub fn arith_node(code: &[u16; CODE], bound: u16, n: u16) -> ArithNode
 pub fn boolean_node(code: &[u16; CODE], bound: u16, n: u16) -> BooleanNode
     ensures { (graph : List ℕ) → result ≡ Node.boolean_form (spec.entries_in code.now graph) bound n }
 {
-    if bound <= n {
-        return BooleanNode::True;
-    }
-    if CONDITIONS <= n {
+    if bound <= n || CONDITIONS <= n {
         return BooleanNode::True;
     }
     let at = BOOLEAN + 4 * n as usize;
@@ -277,10 +273,7 @@ pub fn boolean_node(code: &[u16; CODE], bound: u16, n: u16) -> BooleanNode
 pub fn command_node(graph: &[u16; GRAPH], bound: u16, n: u16) -> CommandNode
     ensures { (code : List ℕ) → result ≡ Node.command_form (spec.entries_in code graph.now) bound n }
 {
-    if bound <= n {
-        return CommandNode::Skip;
-    }
-    if COMMANDS <= n {
+    if bound <= n || COMMANDS <= n {
         return CommandNode::Skip;
     }
     let at = 4 * n as usize;

@@ -58,6 +58,7 @@ fn check_found(end: usize, found: FieldHead, field: Field) -> Result<(), Refusal
 }
 
 // Questions 1 to 4 of what the reader finds in a file of `end` bytes.
+#[tactic(auto, unfolding(crate::specs::Questions::head_validity))]
 fn check_head(end: usize, head: Result<FieldHead, usize>, field: Field) -> Result<(), Refusal>
     requires { 0 < field.width }
     ensures { result ≡ spec.head_validity end head field }

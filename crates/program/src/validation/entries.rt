@@ -2,7 +2,6 @@
 // counted, for question 10; and a jump is noted, for question 20.
 
 ghost use Rattle.std.specs.Prelude.{◌≡◌, List, ℕ};
-ghost use Rattle.program.specs.Parts.Layouts;
 ghost use Rattle.program.specs.Parts.Checking as spec;
 ghost use Rattle.program.specs.File;
 ghost use Rattle.program.specs.Kind;

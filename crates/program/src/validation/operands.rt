@@ -3,7 +3,6 @@
 
 ghost use Rattle.std.specs.Prelude.{◌≡◌, not, List, [], ◌∷◌, ℕ};
 ghost use Rattle.program.specs.Asking;
-ghost use Rattle.program.specs.Parts.Layouts;
 ghost use Rattle.program.specs.Parts.Checking as spec;
 ghost use Rattle.program.specs.File;
 ghost use Rattle.program.specs.Kind;
@@ -47,24 +46,22 @@ impl Script<'_> {
     pub(super) fn variable(self, x: u16) -> Result<(), Flaw>
         ensures { (t : Table) (n : ℕ) (counts : List ℕ) → spec.OperandChecked self.entry.bytes.now t n Kind.Variable x counts counts result }
     {
-        if x < self.layout.names.count {
-            if file::size_at(self.bytes, x) == 0 {
-                return Ok(());
-            }
+        if x < self.layout.names.count && file::size_at(self.bytes, x) == 0 {
+            Ok(())
+        } else {
+            Err(Flaw::Unnamed)
         }
-        Err(Flaw::Unnamed)
     }
 
     // The name of an array.
     pub(super) fn array(self, x: u16) -> Result<(), Flaw>
         ensures { (t : Table) (n : ℕ) (counts : List ℕ) → spec.OperandChecked self.entry.bytes.now t n Kind.Array x counts counts result }
     {
-        if x < self.layout.names.count {
-            if 0 < file::size_at(self.bytes, x) {
-                return Ok(());
-            }
+        if x < self.layout.names.count && 0 < file::size_at(self.bytes, x) {
+            Ok(())
+        } else {
+            Err(Flaw::Unnamed)
         }
-        Err(Flaw::Unnamed)
     }
 
     // The kind of command entry `n`.
@@ -97,12 +94,11 @@ impl Script<'_> {
         ensures { (t : Table) (n : ℕ) → limit ≡ Questions.limit self.entry.bytes.now t n (Kind.table_of sort)
             → spec.OperandChecked self.entry.bytes.now t n (Kind.To sort) x uses.old uses.new result }
     {
-        if x < limit {
-            if self.of_sort(sort, x) {
-                uses::count_reference(uses, sort, x);
-                return Ok(());
-            }
+        if x < limit && self.of_sort(sort, x) {
+            uses::count_reference(uses, sort, x);
+            Ok(())
+        } else {
+            Err(Flaw::Astray)
         }
-        Err(Flaw::Astray)
     }
 }

@@ -5,14 +5,15 @@ use Rattle.program.specs.File.{signed32}
 use Rattle.program.specs.Parts.Node.{arith_form}
 use Rattle.program.specs.Parts.Prepared.{entries_in, arith_in}
 use Rattle.program.proofs.prepared.arith_node.Goals as goal
+use Rattle.program.proofs.prepared.arith_node.Goals.{then-bound-n-via-then-bound-n, then-bound-n-via-else-bound-n+then-n-ge-EXPRESSIONS}
 
 pub returns-then-bound-n : goal.returns-then-bound-n
-unfolding arith_form
-returns-then-bound-n c graph = rw (le-ltb _ _ c.if-bound-n.true)
-
-pub returns-then-n-ge-EXPRESSIONS : goal.returns-then-n-ge-EXPRESSIONS
 unfolding arith_form arith_kind entries_in signed32
-returns-then-n-ge-EXPRESSIONS c graph = rw (lt-ltb _ _ c.if-bound-n.false, le-ltb _ _ c.if-n-ge-EXPRESSIONS.true)
+returns-then-bound-n c graph =
+    elim c.then-bound-n.branch [
+      | then-bound-n-via-then-bound-n w ↦ rw (le-ltb _ _ w.if-bound-n.true)
+      | then-bound-n-via-else-bound-n+then-n-ge-EXPRESSIONS w ↦ rw (lt-ltb _ _ w.if-bound-n.false, le-ltb _ _ w.if-n-ge-EXPRESSIONS.true)
+    ]
 
 pub returns : goal.returns
 unfolding arith_form arith_in entries_in

@@ -26,9 +26,6 @@ returns-in_err-check_entries c =
     (raised _ _ c.check_entries.ensures.valid c.from_residual-in_err-check_entries.ensures.1 c.in_err-check_entries.was)
     ∙ sym (in_parts _)
 
-pub check_jumps-requires : goal.check_jumps-requires
-check_jumps-requires c = λ e. ((c.check_entries.ensures.noted c.in_ok-check_entries.was).clear e).1
-
 pub returns : goal.returns
 returns c =
     passed (sym c.check_names.ensures ∙ c.in_ok-check_names.was)

@@ -48,9 +48,6 @@ returns-in_err-check_table-3 c =
       noted = unanswered _ _ h;
     }
 
-pub slice_bounds-check_all_uses-end : goal.slice_bounds-check_all_uses-end
-slice_bounds-check_all_uses-end c = sym (all_counted (goal.at.slice_bounds-check_all_uses-end c).In_ok-check_table-3).room
-
 pub check_all_uses-requires : goal.check_all_uses-requires
 check_all_uses-requires c = all_counted (goal.at.check_all_uses-requires c).In_ok-check_table-3
 

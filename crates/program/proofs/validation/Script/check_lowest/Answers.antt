@@ -7,9 +7,6 @@ use Rattle.program.proofs.Loose.{last_lowest, asked_lowest}
 use Rattle.program.proofs.Reading.{laid_count, laid_start, entry_in}
 use Rattle.program.proofs.validation.Script.check_lowest.Goals as goal
 
-pub overflow_sub-count : goal.overflow_sub-count
-overflow_sub-count c = c.args.self.laid_out.some
-
 pub overflow_add-self : goal.overflow_add-self
 unfolding span_of
 overflow_add-self c = record { fits = omega (arith, c.args.self.laid_out.inside Commands) }
