@@ -34,7 +34,8 @@ fn set_of(rho: &[u8], x: u16) -> u8
 fn may_index(set: u8) -> bool
     ensures { result ≡ spec.may_index set }
 {
-    sets::has(set, Sign::Zero) || sets::has(set, Sign::Plus)
+    // with `||` there are two tests where this is one, and work on large expressions is a twentieth slower
+    sets::has(set, Sign::Zero) | sets::has(set, Sign::Plus)
 }
 
 // The set of an array's element, by the index's set.
