@@ -20,6 +20,7 @@ pub(crate) enum Head {
 }
 
 // The number of this version, as the pkg-config file has it.
+#[tactic(auto, unfolding(crate::specs::Rows::version))]
 #[unsafe(no_mangle)]
 pub extern "C" fn pizwoter_version() -> u32
     ensures { result ≡ row.version }

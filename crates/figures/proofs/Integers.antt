@@ -1,4 +1,4 @@
--- Integers: magnitudes and bounds, and a natural number in signed 64 bits.
+-- Integers: magnitudes and bounds.
 use Prim.Native.Nat.{ℕ, zero, suc, ◌+◌, ◌*◌, ◌≤◌}
 use mathlib.Core.Path.{◌≡◌, refl}
 use mathlib.Core.Bool.{true, false≢true}
@@ -8,9 +8,6 @@ use borrow.Author.Tests.{leb-true, le-leb}
 use lib.Dec.{leb-zero}
 use lib.IntN.{ℤ, pos, negsuc, neg_ℤ, nat_abs, ◌+ℤ◌}
 use lib.Signed.{le_z}
-use mir.Syntax.{w64}
-use mir.Val.{to_z}
-use mir.ValLaws.{to_z-of_z}
 use Rattle.signs.proofs.Signed as Signed
 
 -- between −n and n a number's magnitude is at most n, and the other way round; from 0 to n too
@@ -38,7 +35,3 @@ not_below_zero (negsuc a) b h k = absurd (false≢true h)
 -- two numbers within so much for each of a count, added
 pub within_each : (m n k : ℕ) (a b : ℤ) → nat_abs a ≤ m * n → nat_abs b ≤ m * k → nat_abs (a +ℤ b) ≤ m * (n + k)
 within_each m n k a b h l = rw (mul-add m n k) (omega (arith, Signed.sum a b))
-
--- a natural number that was cast is read back
-pub natural : (n : ℕ) → n ≤ 4611686018427387904 → to_z w64 n ≡ pos n
-natural n h = to_z-of_z w64 (pos n) (Signed.fits (pos n) h)

@@ -14,6 +14,7 @@ use lib.Seq.{take-length}
 use mir.Syntax.{w64}
 use mir.Val.{SFits, to_z, of_z}
 use mir.ValLaws.{to_z-of_z}
+use Rattle.std.proofs.lemmas.Int.{to_z_pos}
 use Rattle.signs.proofs.Signed as Signed
 use Rattle.program.proofs.Laws.{ask_fit, then_first, then_second, each_fit}
 use Rattle.program.proofs.Tests.{two, three}
@@ -21,7 +22,7 @@ use Rattle.figures.specs.Parts.Bounds.{Limited, Bounded}
 use Rattle.figures.specs.Figures.{in_range, InRange, mark_validity, list_validity}
 use Rattle.figures.specs.Totals.{longest, highest, highest_square, square, totals, joined, spread, countable, possible}
 use Rattle.figures.specs.declared.Totals.{Totals}
-use Rattle.figures.proofs.Integers.{between, not_beyond, upward, not_below_zero, within_each, natural}
+use Rattle.figures.proofs.Integers.{between, not_beyond, upward, not_below_zero, within_each}
 use Rattle.figures.proofs.Squares.{list_squares, list_spread, joined_spread}
 use Rattle.figures.proofs.Sums.{AtMost, sum_most}
 
@@ -152,7 +153,7 @@ module _ (t : Totals) (b : Bounded t) where
   unfolding spread
   spread_read =
       rw (
-        natural t.count (omega (arith, b.few)),
+        to_z_pos w64 t.count (omega (arith, b.few)),
         to_z-of_z w64 t.squares squares_fits,
         to_z-of_z w64 t.sum sum_fits,
         to_z-of_z w64 _ (Signed.fits (pos t.count *ℤ t.squares) (omega (arith, first_small t b))),

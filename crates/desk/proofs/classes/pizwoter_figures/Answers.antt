@@ -10,8 +10,8 @@ use Rattle.desk.proofs.classes.pizwoter_figures.Goals as goal
 pub returns-then-reply-lt-FIGURES : goal.returns-then-reply-lt-FIGURES
 returns-then-reply-lt-FIGURES c = short_told _ _ (omega (arith, c.if-reply-lt-FIGURES.true)) _
 
-pub put-requires : goal.put-requires
-put-requires c = record { narrow = list_narrow _ c.of_list.ensures.value; room = omega (arith, c.if-reply-lt-FIGURES.false) }
+pub put-requires-clause-narrow : goal.put-requires-clause-narrow
+put-requires-clause-narrow c = list_narrow _ c.of_list.ensures.value
 
 pub returns : goal.returns
 unfolding figured figures_row

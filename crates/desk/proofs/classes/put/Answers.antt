@@ -6,9 +6,6 @@ use Rattle.desk.proofs.Heads.{figures_head, no_figures_head}
 use Rattle.desk.proofs.Replies.{told_by}
 use Rattle.desk.proofs.classes.put.Goals as goal
 
-pub refused-requires : goal.refused-requires
-refused-requires c = c.requires.narrow _ c.in-Err.is
-
 pub returns-in-Ok : goal.returns-in-Ok
 returns-in-Ok c =
     told_by c.requires.room (class_numbers c.in-Ok.f) c.put_figures.type_inv

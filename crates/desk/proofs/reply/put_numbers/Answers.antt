@@ -9,7 +9,7 @@ use mir.Syntax.{w64}
 use mir.Val.{to_z}
 use lib.ListN.{get_or, length-map, get_or-map}
 use lib.Seq.{paste-suc}
-use Rattle.figures.proofs.Integers.{natural}
+use Rattle.std.proofs.lemmas.Int.{to_z_pos}
 use Rattle.desk.proofs.Written.{all_put}
 use Rattle.desk.proofs.reply.put_numbers.Goals as goal
 
@@ -19,7 +19,7 @@ loop-i-preserved c =
     let numbers = map pos c.args.numbers.now in
     let same = length-map c.args.numbers.now pos in
     let small = c.type_inv.numbers l.i in
-    let here : to_z w64 (get_or c.args.numbers.now l.i 0) ≡ get_or numbers l.i (pos 0) = natural _ (omega arith) ∙ sym (get_or-map pos c.args.numbers.now l.i 0) in
+    let here : to_z w64 (get_or c.args.numbers.now l.i 0) ≡ get_or numbers l.i (pos 0) = to_z_pos w64 _ (omega arith) ∙ sym (get_or-map pos c.args.numbers.now l.i 0) in
     rw (here, l.invariant, add-one) (paste-suc c.args.reply.now 3 numbers l.i (pos 0) (omega (arith, c.requires, c.loop-i-test.true)) (omega (arith, same, c.loop-i-test.true)))
 
 pub returns : goal.returns

