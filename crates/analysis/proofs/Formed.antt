@@ -31,7 +31,6 @@ use Rattle.analysis.specs.Results.{assigned_sets, sets_with, stored_sets, result
 use Rattle.analysis.specs.Signs.{may_index, signs_in, truths_in}
 use Rattle.analysis.specs.Solver.{Found, offer, offer_results, offer_successors, descend, solution}
 use Rattle.analysis.specs.Verdict.{index_mark, solution_validity, marking_by, marking}
-use Rattle.analysis.specs.declared.Marking.TheVariants.{Marked}
 use Rattle.analysis.proofs.Laid.{record_inside, node_reads, byte_formed}
 
 -- ---- Every element
@@ -305,7 +304,7 @@ module _ (κ : Construction) (s initial : List ℕ) (fit : validity s ≡ Ok tt)
   unfolding plain_graph
   listed_alike = subst (λ (g : Graph). FormedList (sizes s) g.nodes room (solution (sizes s) (graph κ s) initial room).records) (plain_graph_lem κ s) solution_list
 
-  pub solution_marked : room ≤ 4096 → (let rs = (solution (sizes s) (graph κ s) initial room).records in marking s (flatten rs) ≡ Marked (index_mark (sizes s) (graph Nondeterministic s) (flatten rs)))
+  pub solution_marked : room ≤ 4096 → (let rs = (solution (sizes s) (graph κ s) initial room).records in marking s (flatten rs) ≡ Ok (index_mark (sizes s) (graph Nondeterministic s) (flatten rs)))
   unfolding marking marking_by solution_validity then_ask ask
   solution_marked few =
       let rs = (solution (sizes s) (graph κ s) initial room).records in

@@ -1,6 +1,6 @@
 -- What the questions answered yes give a search, and the verdict by what was found.
-use Rattle.std.specs.Prelude.{Err, Ok}
-use Rattle.std.proofs.Common.{◌≡◌, ℕ, ◌+◌, ◌*◌, ◌/◌, ◌%◌, ◌<◌, ◌≤◌, Bool, true, ◌&&◌, eqb, leb, List, length, take, drop, sym, ap, ◌∙◌, subst, arith, leb-true}
+use Rattle.std.specs.Prelude.{Result, Err, Ok}
+use Rattle.std.proofs.Common.{◌≡◌, ℕ, ◌+◌, ◌*◌, ◌/◌, ◌%◌, ◌<◌, ◌≤◌, Bool, true, ◌&&◌, eqb, leb, List, length, take, drop, sym, refl, ap, ◌∙◌, subst, arith, leb-true}
 use Rattle.program.specs.Asking.{ask, ask_plain, then_ask, Validity}
 use Rattle.program.specs.File.{name_count, sizes}
 use Rattle.program.specs.Graph as drawn
@@ -11,13 +11,17 @@ use Rattle.program.specs.declared.Construction.{Construction}
 use Rattle.program.specs.declared.Construction.TheVariants.{Nondeterministic}
 use Rattle.program.specs.declared.Refusal.{Refusal}
 use Rattle.program.proofs.Laws.{sizes_length, counts, ask_fit, prepared_still}
+use Rattle.program.proofs.Never.{never}
 use Rattle.program.proofs.Tests.{two}
 use Rattle.analysis.specs.Parts.Judging.{names_in, marked}
-use Rattle.analysis.specs.Records.{initial_width, record_width, record_at, record_count, whole_records, both_whole}
+use Rattle.analysis.specs.Records.{initial_width, record_width, record_at, record_count, whole_records, both_whole, wrong_byte}
+use Rattle.analysis.specs.Parts.RecordParts.{readable}
 use Rattle.analysis.specs.Soundness.{ThirdTermFor}
 use Rattle.analysis.specs.Parts.Tabled.{TablePut, Ready}
 use Rattle.analysis.specs.Verdict.{verdict_unless_refused, verdict_over, verdict, solution_validity, marking_by, marking, offending, verdict_numbers, verdict_row}
-use Rattle.analysis.specs.declared.Marking.TheVariants.{Refused as Declined}
+use Rattle.analysis.specs.declared.RecordList.{RecordList}
+use Rattle.analysis.specs.declared.Unreadable.{Unreadable}
+use Rattle.analysis.specs.declared.Unreadable.TheVariants.{Refused as Declined, Malformed as Misshapen}
 use Rattle.analysis.specs.declared.Verdict.{Verdict}
 use Rattle.analysis.specs.declared.Verdict.TheVariants.{Refused as Refuses, InitialMissing, ResultMissing}
 use Rattle.analysis.proofs.Tables.{code_long}
@@ -47,6 +51,22 @@ list_whole width solution b e v q f = sym e ∙ ask_fit b 16 0 (sym q ∙ f)
 pub both_whole_lem : (u v : ℕ) (initial solution : List ℕ) (b : Bool) → b ≡ (whole_records u initial && whole_records v solution) → (w : Validity) → w ≡ ask b 16 0 → w ≡ Ok tt
     → (whole_records u initial ≡ true) × (whole_records v solution ≡ true)
 both_whole_lem u v initial solution b e w q f = two (whole_records u initial) (whole_records v solution) (sym e ∙ ask_fit b 16 0 (sym q ∙ f))
+
+-- question 17 of a list, as the code asks it by the answer: what a wrong byte says of the answer, and what a yes says
+pub record WrongIn (list : RecordList) (v : Validity) (u : Unreadable) : Type 0 where
+  pub refusal : Refusal
+  pub was : v ≡ Err refusal
+  pub told : u ≡ Misshapen (wrong_byte list refusal)
+
+pub wrong_in : (list : RecordList) (v : Validity) {w : Result (Unit {0}) Unreadable} {u : Unreadable} → w ≡ readable list v → w ≡ Err u → WrongIn list v u
+unfolding readable
+wrong_in list (Ok _) e f = never (cc)
+wrong_in list (Err x) {u = u} e f = record { refusal = x; was = refl; told = let same : u ≡ Misshapen (wrong_byte list x) = cc in same }
+
+pub none_wrong : (list : RecordList) (v : Validity) {w : Result (Unit {0}) Unreadable} → w ≡ readable list v → w ≡ Ok tt → v ≡ Ok tt
+unfolding readable
+none_wrong list (Ok _) e f = refl
+none_wrong list (Err x) e f = never (cc)
 
 -- so many names, of a well-formed program
 pub some_names : (s : List ℕ) → validity s ≡ Ok tt → (names : ℕ) → names ≡ name_count s → (0 < names) × (names ≤ 32)
@@ -86,7 +106,7 @@ promised κ s initial solution k = record {
 }
 
 -- the index mark of a list by itself: refused, or over the prepared program
-pub marking_refused : (s solution : List ℕ) (x : Refusal) → validity s ≡ Err x → marking s solution ≡ Declined x
+pub marking_refused : (s solution : List ℕ) (x : Refusal) → validity s ≡ Err x → marking s solution ≡ Err (Declined x)
 unfolding marking solution_validity marking_by then_ask
 marking_refused s solution x p = rw p
 

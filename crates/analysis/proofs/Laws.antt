@@ -17,8 +17,8 @@ use Rattle.analysis.specs.Solver.{solution, solved_numbers}
 use Rattle.analysis.specs.Soundness.{ThirdTermFor}
 use Rattle.analysis.specs.Splitter.{split_numbers}
 use Rattle.analysis.specs.Verdict.{index_mark, marking, verdict, verdict_numbers, marking_numbers}
-use Rattle.analysis.specs.declared.Marking.{Marking}
-use Rattle.analysis.specs.declared.Marking.TheVariants.{Marked}
+use Rattle.analysis.specs.declared.Mark.{Mark}
+use Rattle.analysis.specs.declared.Unreadable.{Unreadable}
 use Rattle.analysis.specs.declared.Solved.{Solved}
 use Rattle.analysis.specs.declared.Split.{Split}
 use Rattle.analysis.specs.declared.Verdict.{Verdict}
@@ -58,7 +58,7 @@ module _ (κ : Construction) (s initial : List ℕ) (fit : validity s ≡ Ok tt)
   solution_list = Formed.solution_list κ s initial fit formed room
 
   -- so it passes 16 and 17, and its index mark comes back
-  pub solution_marked : room ≤ 4096 → (let rs = (solution (sizes s) (graph κ s) initial room).records in marking s (flatten rs) ≡ Marked (index_mark (sizes s) (graph Nondeterministic s) (flatten rs)))
+  pub solution_marked : room ≤ 4096 → (let rs = (solution (sizes s) (graph κ s) initial room).records in marking s (flatten rs) ≡ Ok (index_mark (sizes s) (graph Nondeterministic s) (flatten rs)))
   solution_marked = Formed.solution_marked κ s initial fit formed room
 
 -- ---- Rows of numbers
@@ -70,7 +70,7 @@ verdict_row_lem = Readback.verdict_row_lem
 pub verdict_asked : (κ : Construction) (s initial solution : List ℕ) → QuestionsOnly (verdict κ s initial solution)
 verdict_asked = Readback.verdict_asked
 
-pub marking_row : (m n : Marking) → marking_numbers m ≡ marking_numbers n → m ≡ n
+pub marking_row : (m n : Result Mark Unreadable) → marking_numbers m ≡ marking_numbers n → m ≡ n
 marking_row = Readback.marking_row
 
 pub solved_row : (q r : Solved) → solved_numbers q ≡ solved_numbers r → q ≡ r

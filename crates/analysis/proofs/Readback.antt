@@ -11,11 +11,11 @@ use Rattle.program.proofs.Places.{Placed}
 use Rattle.analysis.specs.Records.{both_whole, list_number, wrong_byte_numbers}
 use Rattle.analysis.specs.Solver.{solving_numbers, solved_numbers}
 use Rattle.analysis.specs.Splitter.{split_numbers}
-use Rattle.analysis.specs.Verdict.{verdict_by, verdict_unless_refused, unless_malformed, verdict_over, verdict, mark_numbers, verdict_numbers, marking_numbers}
+use Rattle.analysis.specs.Verdict.{verdict_by, verdict_unless_refused, unless_malformed, verdict_over, verdict, mark_numbers, verdict_numbers, unreadable_numbers, marking_numbers}
 use Rattle.analysis.specs.declared.Mark.{Mark}
 use Rattle.analysis.specs.declared.Mark.TheVariants.{Clean, Unclean}
-use Rattle.analysis.specs.declared.Marking.{Marking}
-use Rattle.analysis.specs.declared.Marking.TheVariants.{Refused as Declined, Malformed as Misshapen, Marked}
+use Rattle.analysis.specs.declared.Unreadable.{Unreadable}
+use Rattle.analysis.specs.declared.Unreadable.TheVariants.{Refused as Declined, Malformed as Misshapen}
 use Rattle.analysis.specs.declared.RecordList.{RecordList}
 use Rattle.analysis.specs.declared.RecordList.TheVariants.{Initial, Solution}
 use Rattle.analysis.specs.declared.Solved.{Solved}
@@ -92,30 +92,30 @@ verdict_asked κ s initial solution =
 
 -- ---- An index mark
 
-abbrev marking_read : List ℕ → Marking
+abbrev marking_read : List ℕ → Result Mark Unreadable
 marking_read l =
     get_or
-    (Marked Clean
-    ∷ Marked Clean
-    ∷ Declined (refusal_read l)
-    ∷ cond (eqb (get_or l 0 0) 0) (Marked (Unclean (get_or l 1 0) (get_or l 2 0))) (Misshapen (wrong_byte_read l))
+    (Ok Clean
+    ∷ Ok Clean
+    ∷ Err (Declined (refusal_read l))
+    ∷ cond (eqb (get_or l 0 0) 0) (Ok (Unclean (get_or l 1 0) (get_or l 2 0))) (Err (Misshapen (wrong_byte_read l)))
     ∷ [])
     (length l)
-    (Marked Clean)
+    (Ok Clean)
 
-misshapen_back : (list : RecordList) (at : ℕ) → let m : Marking = Misshapen (record { list = list; offset = at }) in marking_read (marking_numbers m) ≡ m
-unfolding marking_numbers wrong_byte_numbers list_number
+misshapen_back : (list : RecordList) (at : ℕ) → let m : Result Mark Unreadable = Err (Misshapen (record { list = list; offset = at })) in marking_read (marking_numbers m) ≡ m
+unfolding marking_numbers unreadable_numbers wrong_byte_numbers list_number
 misshapen_back Initial at = refl
 misshapen_back Solution at = refl
 
-marking_back : (m : Marking) → marking_read (marking_numbers m) ≡ m
-unfolding marking_numbers mark_numbers
-marking_back (Declined x) = refl
-marking_back (Misshapen w) = misshapen_back w.list w.offset
-marking_back (Marked Clean) = refl
-marking_back (Marked (Unclean k e)) = refl
+marking_back : (m : Result Mark Unreadable) → marking_read (marking_numbers m) ≡ m
+unfolding marking_numbers unreadable_numbers mark_numbers
+marking_back (Err (Declined x)) = refl
+marking_back (Err (Misshapen w)) = misshapen_back w.list w.offset
+marking_back (Ok Clean) = refl
+marking_back (Ok (Unclean k e)) = refl
 
-pub marking_row : (m n : Marking) → marking_numbers m ≡ marking_numbers n → m ≡ n
+pub marking_row : (m n : Result Mark Unreadable) → marking_numbers m ≡ marking_numbers n → m ≡ n
 marking_row m n = same_row marking_numbers (λ l. marking_read l) (marking_back m) (marking_back n)
 
 -- ---- A list solved, and a place split

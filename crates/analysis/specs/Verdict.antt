@@ -1,5 +1,5 @@
 -- The verdict on a candidate solution, for a graph g whose names have the sizes ns (document 01, "Signs": "Verdict"; book, Definition 4.29).
-use Rattle.std.specs.Prelude.{ℕ, Bool, not, ◌&&◌, List, [], ◌∷◌, length, Err, Ok, None, Option, Some, is_some}
+use Rattle.std.specs.Prelude.{ℕ, Bool, not, ◌&&◌, List, [], ◌∷◌, length, Result, Err, Ok, None, Option, Some, is_some}
 use Rattle.signs.specs.Lists.{any_of}
 use Rattle.program.specs.Asking.{ask_plain, then_ask, Validity}
 use Rattle.program.specs.File.{sizes}
@@ -15,11 +15,11 @@ use Rattle.analysis.specs.Records.{initial_width, record_width, record_count, re
 use Rattle.analysis.specs.Results.{results}
 use Rattle.analysis.specs.declared.Mark.{Mark}
 use Rattle.analysis.specs.declared.Mark.TheVariants.{Clean, Unclean}
-use Rattle.analysis.specs.declared.Marking.{Marking}
-use Rattle.analysis.specs.declared.Marking.TheVariants.{Refused as Declined, Malformed as Misshapen, Marked}
 use Rattle.analysis.specs.declared.RecordList.{RecordList}
 use Rattle.analysis.specs.declared.RecordList.TheVariants.{Initial, Solution}
 use Rattle.analysis.specs.declared.Spot.{Spot}
+use Rattle.analysis.specs.declared.Unreadable.{Unreadable}
+use Rattle.analysis.specs.declared.Unreadable.TheVariants.{Refused as Declined, Malformed as Misshapen}
 use Rattle.analysis.specs.declared.Verdict.{Verdict}
 use Rattle.analysis.specs.declared.Verdict.TheVariants.{Refused as Refuses, Malformed, InitialMissing, ResultMissing, Accepted}
 
@@ -88,13 +88,13 @@ verdict κ s initial solution = verdict_unless_refused (validity s) (verdict_ove
 unfoldable pub solution_validity : List ℕ → List ℕ → Validity
 solution_validity s solution = then_ask (validity s) (ask_plain (whole_records (record_width (sizes s)) solution) 16)
 
-unfoldable pub marking_by : Validity → Validity → Mark → Marking
-marking_by (Ok _) (Ok _) mark = Marked mark
-marking_by (Ok _) (Err x) mark = Misshapen (wrong_byte Solution x)
-marking_by (Err x) formed mark = Declined x
+unfoldable pub marking_by : Validity → Validity → Mark → Result Mark Unreadable
+marking_by (Ok _) (Ok _) mark = Ok mark
+marking_by (Ok _) (Err x) mark = Err (Misshapen (wrong_byte Solution x))
+marking_by (Err x) formed mark = Err (Declined x)
 
 -- over document 01's graph: the mark is the same for every construction (law `mark_same`), and so it takes none
-unfoldable pub marking : List ℕ → List ℕ → Marking
+unfoldable pub marking : List ℕ → List ℕ → Result Mark Unreadable
 marking s solution =
     marking_by (solution_validity s solution)
     (solution_formed (sizes s) (graph Nondeterministic s) solution)
@@ -123,10 +123,13 @@ verdict_numbers (ResultMissing k e) = 42 ∷ k ∷ e ∷ []
 verdict_numbers (Accepted mark) = 0 ∷ mark_numbers mark
 
 -- an index mark by itself in the same numbers
-unfoldable pub marking_numbers : Marking → List ℕ
-marking_numbers (Declined x) = x.number ∷ x.offset ∷ []
-marking_numbers (Misshapen w) = wrong_byte_numbers w
-marking_numbers (Marked mark) = 0 ∷ mark_numbers mark
+unfoldable pub unreadable_numbers : Unreadable → List ℕ
+unreadable_numbers (Declined x) = x.number ∷ x.offset ∷ []
+unreadable_numbers (Misshapen w) = wrong_byte_numbers w
+
+unfoldable pub marking_numbers : Result Mark Unreadable → List ℕ
+marking_numbers (Err x) = unreadable_numbers x
+marking_numbers (Ok mark) = 0 ∷ mark_numbers mark
 
 -- the rows that judging a candidate solution and marking a list of records answer
 unfoldable pub verdict_row : Construction → List ℕ → List ℕ → List ℕ → List ℕ

@@ -15,7 +15,7 @@ ghost use Rattle.analysis.specs.Verdict as spec;
 use crate::evaluator::{Machine, results};
 use crate::membership::INDEX;
 use crate::{
-    Change, Mark, Marking, RecordList, Spot, Verdict, WrongByte, lists, membership, set_table,
+    Change, Mark, RecordList, Spot, Unreadable, Verdict, WrongByte, lists, membership, set_table,
 };
 use program::prepared::{CODE, GRAPH, NAMES_MOST};
 use program::{Construction, Refusal, drawing, file, prepared, validation};
@@ -429,21 +429,20 @@ fn mark_formed(code: &[u16; CODE], graph: &[u16; GRAPH], solution: &[u8]) -> Mar
 }
 
 // The index mark over a prepared program: 16 and 17 of a list of records, and then its mark.
-fn mark_prepared(code: &[u16; CODE], graph: &[u16; GRAPH], solution: &[u8]) -> Marking
+fn mark_prepared(
+    code: &[u16; CODE],
+    graph: &[u16; GRAPH],
+    solution: &[u8],
+) -> Result<Mark, Unreadable>
     requires { Tabled.Ready code.now graph.now }
     ensures { (ns : List ℕ) (g : Graph.Graph) → Prepared.Prepared ns g code.now graph.now
         → result ≡ parts.marked ns g solution.now }
 {
     let names = prepared::name_count(code);
-    let whole = validation::ask(lists::whole(solution, 2 + names), 16, 0);
-    if let Err(x) = whole {
-        return Marking::Refused(x);
-    }
+    validation::ask(lists::whole(solution, 2 + names), 16, 0)?;
     let formed = lists::solution_formed(code, prepared::node_count(graph), solution);
-    match formed {
-        Ok(()) => Marking::Marked(mark_formed(code, graph, solution)),
-        Err(x) => Marking::Malformed(malformed(RecordList::Solution, x)),
-    }
+    lists::readable(RecordList::Solution, formed)?;
+    Ok(mark_formed(code, graph, solution))
 }
 
 // The verdict on a candidate solution, on the graph by a construction.
@@ -512,23 +511,18 @@ pub fn offending<'a>(program: &[u8], initial: &'a [u8], solution: &'a [u8]) -> &
 }
 
 // The index mark of a list of records by itself, which is the same for every construction.
-pub fn index_mark(program: &[u8], solution: &[u8]) -> Marking
+pub fn index_mark(program: &[u8], solution: &[u8]) -> Result<Mark, Unreadable>
     ensures value { result ≡ spec.marking program.now solution.now }
     ensures numbers { spec.marking_numbers result ≡ spec.mark_row program.now solution.now }
 {
     let mut code = [0u16; CODE];
     let mut graph = [0u16; GRAPH];
-    let v = prepared::prepare_linked(
+    prepared::prepare_linked(
         Construction::Nondeterministic,
         program,
         &mut code,
         &mut graph,
-    );
-    match v {
-        Ok(()) => {
-            set_table::put(&mut code);
-            mark_prepared(&code, &graph, solution)
-        }
-        Err(x) => Marking::Refused(x),
-    }
+    )?;
+    set_table::put(&mut code);
+    mark_prepared(&code, &graph, solution)
 }

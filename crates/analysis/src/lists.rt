@@ -9,7 +9,7 @@ ghost use Rattle.analysis.specs.Parts.Membership.{Front, changed};
 ghost use Rattle.analysis.specs.Parts.RecordParts as parts;
 ghost use Rattle.analysis.specs.Records as spec;
 
-use crate::Change;
+use crate::{Change, RecordList, Unreadable, WrongByte};
 use program::prepared::{CODE, NAMES_MOST};
 use program::{Refusal, file, prepared, validation};
 
@@ -100,6 +100,19 @@ pub(crate) fn solution_formed(code: &[u16; CODE], nodes: u16, bytes: &[u8]) -> R
         record_formed(code, names, nodes, bytes, width * k)?;
     }
     Ok(())
+}
+
+// Question 17 of a list, by the answer to it: a refusal is a wrong byte of the list.
+#[tactic(auto, unfolding(crate::specs::Parts::RecordParts::readable, crate::specs::Records::wrong_byte))]
+pub(crate) fn readable(list: RecordList, formed: Result<(), Refusal>) -> Result<(), Unreadable>
+    ensures { result ≡ parts.readable list formed }
+{
+    formed.map_err(|x| {
+        Unreadable::Malformed(WrongByte {
+            list,
+            offset: x.offset,
+        })
+    })
 }
 
 // The bytes of so many names from a place on, into an array, with zeros past them.

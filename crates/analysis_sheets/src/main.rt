@@ -19,7 +19,7 @@
 ghost use Rattle.std.specs.Prelude.{◌<◌, ◌≤◌, length};
 
 use analysis::{
-    Mark, Marking, RecordList, Solved, Solving, Split, Verdict, WrongByte, judging, solver,
+    Mark, RecordList, Solved, Solving, Split, Unreadable, Verdict, WrongByte, judging, solver,
     splitting,
 };
 use program::{Construction, Refusal, file};
@@ -52,11 +52,17 @@ fn print_wrong<W: Write>(out: &mut W, x: WrongByte) -> io::Result<()> {
     print_list(out, x.list)
 }
 
-fn print_marking<W: Write>(out: &mut W, marking: Marking) -> io::Result<()> {
+fn print_unreadable<W: Write>(out: &mut W, x: Unreadable) -> io::Result<()> {
+    match x {
+        Unreadable::Refused(y) => printing::refusal(out, y),
+        Unreadable::Malformed(w) => print_wrong(out, w),
+    }
+}
+
+fn print_marking<W: Write>(out: &mut W, marking: Result<Mark, Unreadable>) -> io::Result<()> {
     match marking {
-        Marking::Refused(x) => printing::refusal(out, x),
-        Marking::Malformed(x) => print_wrong(out, x),
-        Marking::Marked(mark) => printing::mark(out, mark),
+        Ok(mark) => printing::mark(out, mark),
+        Err(x) => print_unreadable(out, x),
     }
 }
 

@@ -1,5 +1,5 @@
 -- What a call tells, by how it went: the row of an operation's numbers has the head of its answer, and its other numbers behind.
-use Rattle.std.specs.Prelude.{Err, Ok}
+use Rattle.std.specs.Prelude.{Result, Err, Ok}
 use mathlib.Core.Path.{◌≡◌, refl}
 use mathlib.Core.List.{List, [], ◌∷◌, ◌++◌, map}
 use Prim.Native.Nat.{ℕ, ◌+◌}
@@ -23,11 +23,11 @@ use Rattle.semantics.specs.declared.Stepped.{Stepped}
 use Rattle.analysis.specs.Records.{wrong_byte_numbers}
 use Rattle.analysis.specs.Solver.{solving_numbers, solved_numbers}
 use Rattle.analysis.specs.Splitter.{split_numbers}
-use Rattle.analysis.specs.Verdict.{mark_numbers, verdict_numbers, marking_numbers}
+use Rattle.analysis.specs.Verdict.{mark_numbers, verdict_numbers, unreadable_numbers, marking_numbers}
 use Rattle.analysis.specs.declared.Mark.{Mark}
 use Rattle.analysis.specs.declared.Mark.TheVariants.{Clean, Unclean}
-use Rattle.analysis.specs.declared.Marking.{Marking}
-use Rattle.analysis.specs.declared.Marking.TheVariants.{Refused as MarkRefused, Malformed as MarkMalformed, Marked}
+use Rattle.analysis.specs.declared.Unreadable.{Unreadable}
+use Rattle.analysis.specs.declared.Unreadable.TheVariants.{Refused as Unasked, Malformed as Unfit}
 use Rattle.analysis.specs.declared.Solved.{Solved}
 use Rattle.analysis.specs.declared.Solving.{Solving}
 use Rattle.analysis.specs.declared.Solving.TheVariants.{Finished, Full, Refused as SolveRefused, Malformed as SolveMalformed}
@@ -36,7 +36,7 @@ use Rattle.analysis.specs.declared.Verdict.{Verdict}
 use Rattle.analysis.specs.declared.Verdict.TheVariants.{Refused as Declines, Malformed, InitialMissing, ResultMissing, Accepted}
 use Rattle.figures.specs.Figures.{fraction_numbers, totals_numbers, class_numbers, no_figures, figures_numbers}
 use Rattle.figures.specs.declared.Figures.{Figures}
-use Rattle.desk.specs.Parts.Heads.{validity_head, outcome_head, ending_head, verdict_head, mark_head, marking_head, solving_head, verdict_behind, mark_behind}
+use Rattle.desk.specs.Parts.Heads.{unreadable_head, validity_head, outcome_head, ending_head, verdict_head, mark_head, marking_head, solving_head, verdict_behind, mark_behind}
 use Rattle.desk.specs.Reply.{tell}
 use Rattle.desk.specs.Rows.{validation_told, parts_told, two_told, marking, verdict_told, mark_told, solver_told, figures_told}
 use Rattle.desk.specs.declared.Head.TheVariants.{Answered, Refused as Declined}
@@ -110,18 +110,18 @@ verdict_head_lem names (InitialMissing k) told = refl
 verdict_head_lem names (ResultMissing k e) told = refl
 verdict_head_lem names (Accepted mark) told = accepted_head names mark
 
-marked_head : (mark : Mark) → mark_told (0 ∷ mark_numbers mark) ≡ tell (mark_head mark) (map pos (mark_behind (Marked mark)))
+marked_head : (mark : Mark) → mark_told (0 ∷ mark_numbers mark) ≡ tell (mark_head mark) (map pos (mark_behind (Ok mark)))
 unfolding mark_numbers mark_told marking mark_head mark_behind tell
 marked_head Clean = refl
 marked_head (Unclean k e) = refl
 
-pub marking_head_lem : (m : Marking) → MarkingTold m → mark_told (marking_numbers m) ≡ tell (marking_head m) (map pos (mark_behind m))
-unfolding marking_numbers wrong_byte_numbers mark_told marking_head mark_behind tell
-marking_head_lem (MarkRefused x) told =
+pub marking_head_lem : (m : Result Mark Unreadable) → MarkingTold m → mark_told (marking_numbers m) ≡ tell (marking_head m) (map pos (mark_behind m))
+unfolding marking_numbers unreadable_numbers wrong_byte_numbers mark_told marking_head unreadable_head mark_behind tell
+marking_head_lem (Err (Unasked x)) told =
     let asked = told.refused x refl in
     rw (ne_eqb x.number 0 (λ e. omega (arith, asked.numbered)))
-marking_head_lem (MarkMalformed w) told = refl
-marking_head_lem (Marked mark) told = marked_head mark
+marking_head_lem (Err (Unfit w)) told = refl
+marking_head_lem (Ok mark) told = marked_head mark
 
 -- the solver
 solving_one : (r : Solving) (count : ℕ) → solver_told (solving_numbers r ++ (count ∷ [])) ≡ tell (solving_head r) (map pos (count ∷ []))

@@ -41,8 +41,8 @@ use Rattle.analysis.specs.Solver.{Found, finished_or, solved_with, initial_valid
 use Rattle.analysis.specs.Splitter.{split_by, split}
 use Rattle.analysis.specs.Verdict.{verdict_unless_refused, unless_malformed, verdict_by, verdict_over, verdict, solution_validity, marking_by, marking}
 use Rattle.analysis.specs.declared.Mark.{Mark}
-use Rattle.analysis.specs.declared.Marking.{Marking}
-use Rattle.analysis.specs.declared.Marking.TheVariants.{Refused as MarkRefused, Malformed as MarkMalformed}
+use Rattle.analysis.specs.declared.Unreadable.{Unreadable}
+use Rattle.analysis.specs.declared.Unreadable.TheVariants.{Refused as Unasked, Malformed as Unfit}
 use Rattle.analysis.specs.declared.RecordList.{RecordList}
 use Rattle.analysis.specs.declared.RecordList.TheVariants.{Initial, Solution}
 use Rattle.analysis.specs.declared.Solved.{Solved}
@@ -207,9 +207,9 @@ verdict_told_lem κ s initial solution =
 
 -- ---- The index mark by itself
 
-pub record MarkingTold (m : Marking) : Type 0 where
-  pub refused : (x : Refusal) → m ≡ MarkRefused x → Told 7244 x
-  pub wrong : (w : WrongByte) → m ≡ MarkMalformed w → w.offset ≤ 139264
+pub record MarkingTold (m : Result Mark Unreadable) : Type 0 where
+  pub refused : (x : Refusal) → m ≡ Err (Unasked x) → Told 7244 x
+  pub wrong : (w : WrongByte) → m ≡ Err (Unfit w) → w.offset ≤ 139264
 
 marking_by_lem : (v f : Validity) (mark : Mark) → Placed 7244 v → (v ≡ Ok tt → Placed 139264 f) → MarkingTold (marking_by v f mark)
 unfolding marking_by wrong_byte
@@ -305,8 +305,8 @@ verdict_narrow κ s initial solution same =
     let told = verdict_told_lem κ s initial solution in
     record { refused = λ x e. omega (arith, (told.refused x (sym same ∙ e)).near); malformed = λ w e. omega (arith, told.wrong w (sym same ∙ e)) }
 
-pub marking_narrow : (s solution : List ℕ) {m : Marking} → m ≡ marking s solution
-    → record { refused : ((x : Refusal) → m ≡ MarkRefused x → Narrow x.offset); malformed : ((w : WrongByte) → m ≡ MarkMalformed w → Narrow w.offset) }
+pub marking_narrow : (s solution : List ℕ) {m : Result Mark Unreadable} → m ≡ marking s solution
+    → record { refused : ((x : Refusal) → m ≡ Err (Unasked x) → Narrow x.offset); malformed : ((w : WrongByte) → m ≡ Err (Unfit w) → Narrow w.offset) }
 marking_narrow s solution same =
     let told = marking_told s solution in
     record { refused = λ x e. omega (arith, (told.refused x (sym same ∙ e)).near); malformed = λ w e. omega (arith, told.wrong w (sym same ∙ e)) }

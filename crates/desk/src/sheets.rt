@@ -1,6 +1,6 @@
 // Sheets judged, and the index mark of one.
 
-ghost use Rattle.std.specs.Prelude.{◌≡◌};
+ghost use Rattle.std.specs.Prelude.{◌≡◌, Err};
 ghost use Rattle.program.specs.Graph;
 ghost use Rattle.program.specs.declared.Refusal.{Refusal};
 ghost use Rattle.analysis.specs.Records;
@@ -10,7 +10,7 @@ ghost use Rattle.desk.specs.Reply as spec;
 ghost use Rattle.desk.specs.Rows as row;
 
 use crate::{Head, reply};
-use analysis::{Mark, Marking, RecordList, Verdict, WrongByte, judging};
+use analysis::{Mark, RecordList, Unreadable, Verdict, WrongByte, judging};
 use program::{drawing, file};
 
 // The numbers of each row.
@@ -40,6 +40,18 @@ pub(crate) fn of_wrong_byte(w: WrongByte) -> Head
 {
     let list = w.list;
     Head::Malformed(list_number(list), w.offset as u32)
+}
+
+// Lists that are not read: a question refused, or 17.
+pub(crate) fn of_unreadable(x: Unreadable) -> Head
+    requires refused { (y : Refusal) → x ≡ Unreadable.Refused y → spec.Narrow y.offset }
+    requires malformed { (w : WrongByte) → x ≡ Unreadable.Malformed w → spec.Narrow w.offset }
+    ensures { result ≡ heads.unreadable_head x }
+{
+    match x {
+        Unreadable::Refused(y) => Head::Refused(y.number, y.offset as u32),
+        Unreadable::Malformed(w) => of_wrong_byte(w),
+    }
 }
 
 // A verdict: 0, 41 or 42.
@@ -102,15 +114,14 @@ pub extern "C" fn pizwoter_judge(
 }
 
 // An index mark by itself.
-fn of_marking(m: Marking) -> Head
-    requires refused { (x : Refusal) → m ≡ Marking.Refused x → spec.Narrow x.offset }
-    requires malformed { (w : WrongByte) → m ≡ Marking.Malformed w → spec.Narrow w.offset }
+fn of_marking(m: Result<Mark, Unreadable>) -> Head
+    requires refused { (x : Refusal) → m ≡ Err (Unreadable.Refused x) → spec.Narrow x.offset }
+    requires malformed { (w : WrongByte) → m ≡ Err (Unreadable.Malformed w) → spec.Narrow w.offset }
     ensures { result ≡ heads.marking_head m }
 {
     match m {
-        Marking::Refused(x) => Head::Refused(x.number, x.offset as u32),
-        Marking::Malformed(w) => of_wrong_byte(w),
-        Marking::Marked(mark) => of_mark(mark),
+        Ok(mark) => of_mark(mark),
+        Err(x) => of_unreadable(x),
     }
 }
 
@@ -125,16 +136,14 @@ fn of_mark(mark: Mark) -> Head
 }
 
 // Its record and edge.
-fn spot(m: Marking) -> [u32; 2]
+#[tactic(auto, unfolding(crate::specs::Parts::Heads::mark_behind))]
+fn spot(m: Result<Mark, Unreadable>) -> [u32; 2]
     ensures { result ≡ heads.mark_behind m }
 {
     match m {
-        Marking::Refused(_) => [0; 2],
-        Marking::Malformed(_) => [0; 2],
-        Marking::Marked(mark) => match mark {
-            Mark::Clean => [0; 2],
-            Mark::Unclean { record, edge } => [record as u32, edge as u32],
-        },
+        Ok(Mark::Unclean { record, edge }) => [record as u32, edge as u32],
+        Ok(Mark::Clean) => [0; 2],
+        Err(_) => [0; 2],
     }
 }
 

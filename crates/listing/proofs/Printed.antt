@@ -23,8 +23,7 @@ use Rattle.analysis.specs.Sheet.{counts_line, refusal_line, sheet_of, listing, p
 use Rattle.analysis.specs.Solver.{Found, room_of, finished_or, solved_with, buffer_with, initial_validity, solution_in, solved, solved_buffer}
 use Rattle.analysis.specs.Verdict.{index_mark, marking}
 use Rattle.analysis.specs.declared.Mark.{Mark}
-use Rattle.analysis.specs.declared.Marking.{Marking}
-use Rattle.analysis.specs.declared.Marking.TheVariants.{Refused as Declined, Malformed as Misshapen, Marked}
+use Rattle.analysis.specs.declared.Unreadable.{Unreadable}
 use Rattle.analysis.specs.declared.RecordList.TheVariants.{Initial}
 use Rattle.analysis.specs.declared.Solved.{Solved}
 use Rattle.analysis.specs.declared.Solving.{Solving}
@@ -59,14 +58,11 @@ module _ (s buffer : List ℕ) (count : ℕ) (fit : validity s ≡ Ok tt) (long 
       by e = never (cc)
 
 -- the mark that comes back
-pub mark_told_lem : (s bytes : List ℕ) {m : Marking} {mark : Mark} → WellMarked s bytes → m ≡ marking s bytes → m ≡ Marked mark → mark ≡ index_mark (sizes s) (graph Nondeterministic s) bytes
+pub mark_told_lem : (s bytes : List ℕ) {m : Result Mark Unreadable} {mark : Mark} → WellMarked s bytes → m ≡ marking s bytes → m ≡ Ok mark → mark ≡ index_mark (sizes s) (graph Nondeterministic s) bytes
 mark_told_lem s bytes well e told = cc
 
-pub never_declined : {A : Type 0} (s bytes : List ℕ) {m : Marking} {x : Refusal} → WellMarked s bytes → m ≡ marking s bytes → m ≡ Declined x → A
-never_declined s bytes well e told = never (cc)
-
-pub never_misshapen : {A : Type 0} (s bytes : List ℕ) {m : Marking} {w : WrongByte} → WellMarked s bytes → m ≡ marking s bytes → m ≡ Misshapen w → A
-never_misshapen s bytes well e told = never (cc)
+pub never_unreadable : {A : Type 0} (s bytes : List ℕ) {m : Result Mark Unreadable} {x : Unreadable} → WellMarked s bytes → m ≡ marking s bytes → m ≡ Err x → A
+never_unreadable s bytes well e told = never (cc)
 
 -- ---- Which lines there are
 

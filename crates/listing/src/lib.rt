@@ -13,7 +13,7 @@ ghost use Rattle.program.specs.Questions as Questions;
 ghost use Rattle.listing.specs.Parts.Writing as parts;
 ghost use Rattle.listing.specs.Text as spec;
 
-use analysis::{Marking, Solving, judging, solver};
+use analysis::{Solving, judging, solver};
 use program::{Construction, drawing, file, validation};
 use std::io;
 use std::io::{Read, Write};
@@ -34,16 +34,14 @@ fn put_counts_of(program: &[u8], count: u16, out: &mut [u8]) -> usize
     }
 }
 
-// The index line of a list that is well formed, so that neither refusal comes up.
+// The index line of a list that is well formed, so that no refusal comes up.
 fn put_index_of(program: &[u8], list: &[u8], at: usize, out: &mut [u8]) -> usize
     requires { parts.WellMarked program.now list.now × parts.Room at (spec.line_text (parts.index_of program.now list.now)) out.old }
     ensures { parts.Put at (spec.line_text (parts.index_of program.now list.now)) out.old out.new result }
 {
-    let marking = judging::index_mark(program, list);
-    match marking {
-        Marking::Marked(mark) => lines::put_index(mark, at, out),
-        Marking::Refused(_) => at,
-        Marking::Malformed(_) => at,
+    match judging::index_mark(program, list) {
+        Ok(mark) => lines::put_index(mark, at, out),
+        Err(_) => at,
     }
 }
 

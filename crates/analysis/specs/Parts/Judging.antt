@@ -1,6 +1,6 @@
 -- What the functions that judge a solution promise each other, over a prepared program whose names have the sizes ns and whose graph is g. No public
 -- contract cites these.
-use Rattle.std.specs.Prelude.{◌≡◌, ℕ, ◌+◌, Bool, true, false, not, ◌&&◌, List, length, replicate, slice_index, Ok, Option}
+use Rattle.std.specs.Prelude.{◌≡◌, ℕ, ◌+◌, Bool, true, false, not, ◌&&◌, List, length, replicate, slice_index, Ok, Option, Result}
 use Rattle.signs.specs.Lists.{any_of}
 use Rattle.program.specs.Asking.{ask_plain}
 use Rattle.program.specs.FirstSuch.{first_such}
@@ -17,7 +17,8 @@ use Rattle.analysis.specs.Records.{record_width, record_count, record_at, node_o
 use Rattle.analysis.specs.Results.{results}
 use Rattle.analysis.specs.Parts.Tabled.{Ready}
 use Rattle.analysis.specs.Verdict.{missing_initial, spot_at, missing_result, index_mark, verdict_by, marking_by}
-use Rattle.analysis.specs.declared.Marking.{Marking}
+use Rattle.analysis.specs.declared.Mark.{Mark}
+use Rattle.analysis.specs.declared.Unreadable.{Unreadable}
 use Rattle.analysis.specs.declared.Spot.{Spot}
 use Rattle.analysis.specs.declared.Verdict.{Verdict}
 use Rattle.analysis.specs.declared.judging.Query.{Query}
@@ -91,5 +92,5 @@ unfoldable pub formed_verdict : List ℕ → Graph → List ℕ → List ℕ →
 formed_verdict ns g initial solution = verdict_by (missing_initial ns initial solution) (missing_result ns g solution) (index_mark ns g solution)
 
 -- the index mark of a list of records by itself, after 16 and 17
-unfoldable pub marked : List ℕ → Graph → List ℕ → Marking
+unfoldable pub marked : List ℕ → Graph → List ℕ → Result Mark Unreadable
 marked ns g solution = marking_by (ask_plain (whole_records (record_width ns) solution) 16) (solution_formed ns g solution) (index_mark ns g solution)

@@ -1,6 +1,6 @@
 -- How a call went, by what its operation answered. No public contract cites these.
 use Rattle.program.specs.Asking.{Validity}
-use Rattle.std.specs.Prelude.{ℕ, ◌+◌, ◌*◌, List, [], ◌∷◌, replicate, Err, Ok}
+use Rattle.std.specs.Prelude.{ℕ, ◌+◌, ◌*◌, List, [], ◌∷◌, replicate, Result, Err, Ok}
 use Rattle.signs.specs.Number.{reason_number}
 use Rattle.semantics.specs.declared.Ending.{Ending}
 use Rattle.semantics.specs.declared.Ending.TheVariants.{Arrived, Spent, Stuck, Refused as Halts}
@@ -9,8 +9,8 @@ use Rattle.semantics.specs.declared.Outcome.TheVariants.{Taken, Undefined, Refus
 use Rattle.analysis.specs.Records.{list_number}
 use Rattle.analysis.specs.declared.Mark.{Mark}
 use Rattle.analysis.specs.declared.Mark.TheVariants.{Clean, Unclean}
-use Rattle.analysis.specs.declared.Marking.{Marking}
-use Rattle.analysis.specs.declared.Marking.TheVariants.{Refused as MarkRefused, Malformed as MarkMalformed, Marked}
+use Rattle.analysis.specs.declared.Unreadable.{Unreadable}
+use Rattle.analysis.specs.declared.Unreadable.TheVariants.{Refused as Unasked, Malformed as Unfit}
 use Rattle.analysis.specs.declared.Solving.{Solving}
 use Rattle.analysis.specs.declared.Solving.TheVariants.{Finished, Full, Refused as SolveRefused, Malformed as SolveMalformed}
 use Rattle.analysis.specs.declared.Verdict.{Verdict}
@@ -34,6 +34,10 @@ ending_head Spent = Answered 1
 ending_head Stuck = Answered 2
 ending_head (Halts x) = Declined x.number x.offset
 
+unfoldable pub unreadable_head : Unreadable → Head
+unreadable_head (Unasked x) = Declined x.number x.offset
+unreadable_head (Unfit w) = Malformed (list_number w.list) w.offset
+
 unfoldable pub verdict_head : Verdict → Head
 verdict_head (Declines x) = Declined x.number x.offset
 verdict_head (Misformed w) = Malformed (list_number w.list) w.offset
@@ -45,10 +49,9 @@ unfoldable pub mark_head : Mark → Head
 mark_head Clean = Answered clean
 mark_head (Unclean k e) = Answered unclean
 
-unfoldable pub marking_head : Marking → Head
-marking_head (MarkRefused x) = Declined x.number x.offset
-marking_head (MarkMalformed w) = Malformed (list_number w.list) w.offset
-marking_head (Marked mark) = mark_head mark
+unfoldable pub marking_head : Result Mark Unreadable → Head
+marking_head (Err x) = unreadable_head x
+marking_head (Ok mark) = mark_head mark
 
 unfoldable pub solving_head : Solving → Head
 solving_head Finished = Answered 0
@@ -65,8 +68,7 @@ verdict_behind names (ResultMissing k e) = k ∷ e ∷ ((2 + names) * k) ∷ (2 
 verdict_behind names (Accepted Clean) = 0 ∷ 0 ∷ 0 ∷ 0 ∷ clean ∷ 0 ∷ 0 ∷ []
 verdict_behind names (Accepted (Unclean k e)) = 0 ∷ 0 ∷ 0 ∷ 0 ∷ unclean ∷ k ∷ e ∷ []
 
-unfoldable pub mark_behind : Marking → List ℕ
-mark_behind (MarkRefused x) = replicate 2 0
-mark_behind (MarkMalformed w) = replicate 2 0
-mark_behind (Marked Clean) = replicate 2 0
-mark_behind (Marked (Unclean k e)) = k ∷ e ∷ []
+unfoldable pub mark_behind : Result Mark Unreadable → List ℕ
+mark_behind (Err x) = replicate 2 0
+mark_behind (Ok Clean) = replicate 2 0
+mark_behind (Ok (Unclean k e)) = k ∷ e ∷ []

@@ -9,7 +9,6 @@ use Rattle.program.specs.Questions.{validity}
 use Rattle.program.specs.declared.Construction.TheVariants.{Nondeterministic}
 use Rattle.analysis.specs.Sheet.{Line, counts_line, record_line, index_line}
 use Rattle.analysis.specs.Verdict.{index_mark, marking}
-use Rattle.analysis.specs.declared.Marking.TheVariants.{Marked}
 use Rattle.listing.specs.Text.{line_text}
 
 -- a buffer has room for a text from a place on
@@ -43,7 +42,7 @@ listing_text s buffer count =
 
 -- a list whose index mark comes back
 abbrev pub WellMarked : List ℕ → List ℕ → Type 0
-WellMarked s bytes = marking s bytes ≡ Marked (index_mark (sizes s) (graph Nondeterministic s) bytes)
+WellMarked s bytes = marking s bytes ≡ Ok (index_mark (sizes s) (graph Nondeterministic s) bytes)
 
 -- a buffer that begins with so many records of a well-formed file, which come back marked, and room for their listing
 pub record Listed (s buffer : List ℕ) (count : ℕ) (out : List ℕ) : Type 0 where

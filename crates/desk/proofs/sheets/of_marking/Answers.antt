@@ -1,21 +1,16 @@
 -- `sheets::of_marking`: by the answer's cases.
+use mathlib.Core.Path.{ap, ◌∙◌}
+use Rattle.std.specs.Prelude.{Err}
 use Rattle.desk.specs.Parts.Heads.{marking_head}
 use Rattle.desk.proofs.sheets.of_marking.Goals as goal
 
-pub overflow_cast-result : goal.overflow_cast-result
-overflow_cast-result c = record { fits = c.requires.refused _ c.in-Refused.is }
+pub of_unreadable-requires : goal.of_unreadable-requires
+of_unreadable-requires c = record { refused = λ x e. c.requires.refused x (c.in-Err.is ∙ ap Err e); malformed = λ w e. c.requires.malformed w (c.in-Err.is ∙ ap Err e) }
 
-pub of_wrong_byte-requires : goal.of_wrong_byte-requires
-of_wrong_byte-requires c = c.requires.malformed _ c.in-Malformed.is
-
-pub returns-in-Refused : goal.returns-in-Refused
+pub returns-in-Ok : goal.returns-in-Ok
 unfolding marking_head
-returns-in-Refused c = rw c.in-Refused.is
+returns-in-Ok c = rw c.in-Ok.is c.of_mark.ensures
 
-pub returns-in-Malformed : goal.returns-in-Malformed
+pub returns-in-Err : goal.returns-in-Err
 unfolding marking_head
-returns-in-Malformed c = rw c.in-Malformed.is c.of_wrong_byte.ensures
-
-pub returns-in-Marked : goal.returns-in-Marked
-unfolding marking_head
-returns-in-Marked c = rw c.in-Marked.is c.of_mark.ensures
+returns-in-Err c = rw c.in-Err.is c.of_unreadable.ensures
