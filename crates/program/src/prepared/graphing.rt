@@ -49,13 +49,21 @@ fn draw_edge(
     pen + PEN
 }
 
-// Where a jump goes in a do from node `first` to node `last`.
-fn landing(jump: Jump, first: u16, last: u16) -> u16
-    ensures { result ≡ Graph.landing (Graph.within first last) jump }
+// What stands around a command: the nodes from which and to which the innermost do goes, and the construction.
+#[derive(Clone, Copy)]
+struct Around {
+    first: u16,
+    last: u16,
+    construction: Construction,
+}
+
+// Where a jump goes from inside a do.
+fn landing(jump: Jump, around: Around) -> u16
+    ensures { result ≡ Graph.landing (Graph.within around.first around.last) jump }
 {
     match jump {
-        Jump::Break => last,
-        Jump::Continue => first,
+        Jump::Break => around.last,
+        Jump::Continue => around.first,
     }
 }
 
@@ -76,14 +84,6 @@ fn draw_guard(
         Construction::Nondeterministic => draw_edge(graph, pen, source, target, 2, g),
         Construction::Deterministic => draw_edge(graph, pen, source, target, 4, n),
     }
-}
-
-// What stands around a command: the nodes from which and to which the innermost do goes, and the construction.
-#[derive(Clone, Copy)]
-struct Around {
-    first: u16,
-    last: u16,
-    construction: Construction,
 }
 
 // The edges of command entry `n`, a part of entry `bound`, from node `a` to node `b`. Earlier guards make no difference to an edge's numbers.
@@ -127,14 +127,7 @@ fn draw_part(
             let front = draw_part(graph, n, p, a, b, pen, around);
             draw_part(graph, n, q, a, b, front, around)
         }
-        CommandNode::Jump(jump) => draw_edge(
-            graph,
-            pen,
-            a,
-            landing(jump, around.first, around.last),
-            1,
-            n,
-        ),
+        CommandNode::Jump(jump) => draw_edge(graph, pen, a, landing(jump, around), 1, n),
     }
 }
 
