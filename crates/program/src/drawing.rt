@@ -93,7 +93,7 @@ pub fn named(number: u32) -> Construction
     }
 }
 
-// Draws the graph of a program file, where the caller names no construction.
+// Draws the graph of a program file, where the caller names no construction: a public name of its own, which stays.
 pub fn draw(s: &[u8], buffer: &mut [u8]) -> Result<Drawn, Refusal>
     ensures value { (result ≡ spec.drawn Graph.unnamed s.now buffer.old)
         × (buffer.new ≡ spec.drawn_buffer Graph.unnamed s.now buffer.old) }

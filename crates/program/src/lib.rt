@@ -54,6 +54,7 @@ pub enum Sort {
 }
 
 // The number of the question whose answer is no, and the byte of the file that it concerns (0 where the question has no place).
+// The number is the question's name for every reader, and the status that C gets: an enum of the twenty would be a second table of them, no plainer.
 #[derive(Clone, Copy)]
 pub struct Refusal {
     pub number: u8,

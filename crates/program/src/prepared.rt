@@ -60,6 +60,7 @@ pub const CELLS_MOST: usize = 512;
 
 pub const NODES_MOST: u16 = 129;
 
+// Not an Option: the links are words of a lent array, and a loop that goes on while an edge is below the count ends at this one too.
 pub const NONE: u16 = 255;
 
 // The cell from which on a program's numbers stand behind a memory.
@@ -174,7 +175,8 @@ fn guard_of(node: CommandNode) -> ActionNode
     }
 }
 
-// The action of an edge that is no guard's of the deterministic graph, decoded; of one that is, nothing.
+// The action of an edge that is no guard's of the deterministic graph, decoded; of one that is, nothing. An edge's kind is a number, not an enum: it is a byte that C reads,
+// and this is where it is told apart.
 pub fn plain_action(graph: &[u16; GRAPH], e: u16) -> ActionNode
     ensures { spec.is_guard_node (spec.action_in graph.now e) ≡ false → result ≡ spec.action_in graph.now e }
 {

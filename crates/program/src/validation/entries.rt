@@ -60,7 +60,7 @@ impl Script<'_> {
         operands::settled(p, q, r, at)
     }
 
-    // Entry `n` of the arithmetic table, which stands at `at`.
+    // Entry `n` of the arithmetic table, which stands at `at`. Its kind is matched as the byte that it is, as in the two below: any byte may stand there, and what is none is refused.
     fn check_arithmetic(
         self,
         n: u16,
