@@ -3,7 +3,7 @@
 ghost use Rattle.std.specs.Prelude.{◌≡◌, ℕ, ◌+◌, ◌/◌, ◌%◌, ◌<◌, ◌≤◌, min, false, List, [], ◌∷◌, map, length, set, if◌then◌else◌, slice_index_or};
 ghost use mathlib.Core.List.{foldl};
 ghost use Rattle.program.specs.Graph.{Graph, edge_at, unnamed};
-ghost use Rattle.program.specs.Parts.Prepared.{Prepared, Linked, action_in, is_guard_node};
+ghost use Rattle.program.specs.Parts.Prepared.{Prepared, action_in, is_guard_node};
 ghost use Rattle.semantics.specs.Parts.Selecting.{Opens};
 ghost use Rattle.analysis.specs.Parts.Changing.{digits_end, sets_of};
 ghost use Rattle.analysis.specs.Parts.Judging.{ReadInto, names_in};
@@ -11,7 +11,7 @@ ghost use Rattle.analysis.specs.Parts.Membership.{Weighed};
 ghost use Rattle.analysis.specs.Records as records;
 ghost use Rattle.analysis.specs.Solver as spec;
 ghost use Rattle.analysis.specs.Parts.Solving as parts;
-ghost use Rattle.analysis.specs.Parts.Tabled.{Tabled, Ready};
+ghost use Rattle.analysis.specs.Parts.Tabled.{Ready};
 
 use crate::evaluator::{Machine, results};
 use crate::membership::INDEX;

@@ -19,6 +19,7 @@ fn number_signs(z: i32) -> u8
 impl Machine<'_> {
     // The sign set of arithmetic entry `n`, a part of entry `bound`.
     #[cycle(operand_signs)]
+    #[tactic(auto, unfolding(program::specs::Tree::arith_made, crate::specs::Signs::signs_in), using(program::proofs::Laws::arith_told))]
     pub(crate) fn signs(self, rho: &[u8; 32], bound: u16, n: u16) -> u8
         ensures { (graph : List ℕ) → result ≡ spec.signs_in rho.now (arith_below (arith_trees (entries_in self.entry.code.now graph) bound) n) }
     {
@@ -40,6 +41,7 @@ impl Machine<'_> {
 
     // The same of an entry that is often a leaf: a number or a variable is read where it stands, without a call, and an element decoded once.
     #[cycle(operand_signs)]
+    #[tactic(auto, unfolding(program::specs::Tree::arith_made, crate::specs::Signs::signs_in), using(program::proofs::Laws::arith_told))]
     pub(crate) fn operand(self, rho: &[u8; 32], bound: u16, n: u16) -> u8
         ensures { (graph : List ℕ) → result ≡ spec.signs_in rho.now (arith_below (arith_trees (entries_in self.entry.code.now graph) bound) n) }
     {

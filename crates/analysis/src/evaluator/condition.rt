@@ -24,6 +24,7 @@ fn certain() -> Truths
 
 impl Machine<'_> {
     // A comparison of two arithmetic entries.
+    #[tactic(auto, using(program::proofs::Laws::arith_whole))]
     fn comparison(self, rho: &[u8; 32], o: Comparison, p: u16, q: u16) -> Truths
         ensures { (graph : List ℕ) → result ≡ answer.compare_sets o
             (spec.signs_in rho.now (arith_at (entries_in self.entry.code.now graph) p))
@@ -35,6 +36,7 @@ impl Machine<'_> {
     }
 
     // The truth answers of boolean entry `n`, a part of entry `bound`.
+    #[tactic(auto, unfolding(program::specs::Tree::boolean_made, crate::specs::Signs::truths_in), using(program::proofs::Laws::boolean_told))]
     pub(crate) fn truths(self, rho: &[u8; 32], bound: u16, n: u16) -> Truths
         ensures { (graph : List ℕ) → result ≡ spec.truths_in rho.now (boolean_below (boolean_trees (entries_in self.entry.code.now graph) bound) n) }
     {
@@ -60,6 +62,7 @@ impl Machine<'_> {
     }
 
     // The truth answers of the condition for leaving a do whose operand is command entry `n`, a part of entry `bound`.
+    #[tactic(auto, unfolding(program::specs::Tree::command_made, program::specs::Graph::done, crate::specs::Signs::truths_in), using(program::proofs::Laws::command_told, program::proofs::Laws::boolean_whole, semantics::proofs::Keys::left_at_once))]
     pub(crate) fn exit_truths(self, rho: &[u8; 32], bound: u16, n: u16) -> Truths
         ensures { result ≡ spec.truths_in rho.now
             (done (command_below (command_trees (entries_in self.entry.code.now self.entry.graph.now) bound) n)) }
@@ -80,6 +83,7 @@ impl Machine<'_> {
     }
 
     // The truth answers of an edge's own guard on the deterministic graph; of an edge that is no such guard's, true alone.
+    #[tactic(auto, unfolding(program::specs::Parts::Prepared::own_in, crate::specs::Signs::truths_in), using(program::proofs::Laws::boolean_whole))]
     pub(crate) fn own_truths(self, rho: &[u8; 32], e: u16) -> Truths
         ensures { result ≡ spec.truths_in rho.now (own_in (entries_in self.entry.code.now self.entry.graph.now) (action_in self.entry.graph.now e)) }
     {

@@ -119,6 +119,7 @@ impl Machine<'_> {
     }
 
     // The results of an action.
+    #[tactic(auto, unfolding(program::specs::Parts::Prepared::decoded_meaning), using(program::proofs::Laws::boolean_whole, program::proofs::Laws::command_whole, crate::proofs::Alike::condition_results))]
     pub(crate) fn results(self, rho: &[u8; 32], action: ActionNode) -> u64
         ensures { ResultsIn rho.now (decoded_meaning (entries_in self.entry.code.now self.entry.graph.now) action) result }
     {
