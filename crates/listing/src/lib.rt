@@ -100,7 +100,8 @@ pub fn print<W: Write>(out: &mut W, input: &[u8]) -> io::Result<()>
     out.write_all(&text[..count])
 }
 
-// Reads until the array is full or the input ends, and says how many bytes came. A read that fails counts as the input's end.
+// Reads until the array is full or the input ends, and says how many bytes came. A read that fails counts as the input's end. The loop goes by bytes read, not by an index: no
+// reader of the library gives a count, takes a failed read for the end and allocates nothing.
 pub fn read_full<R: Read>(input: &mut R, bytes: &mut [u8]) -> usize
     ensures { result ≤ length bytes.new }
 {
