@@ -6,20 +6,20 @@ use mathlib.Core.List.{List}
 use mathlib.Core.Logic.{⊎_elim}
 use Prim.Native.Nat.{ℕ, ◌+◌, ◌-◌, ◌≤◌, ◌<◌}
 use native.Mathlib.Omega.{arith}
-use borrow.Author.Tests.{lt-ltb, le-ltb, ltb-true, leb-true, leb-false, le-leb, lt-leb, eq-eqb, ne_eqb}
-use lib.Dec.{T, leb, leb→le}
-use lib.IntN.{ℤ, pos, negsuc, nat_abs}
+use borrow.Author.Tests.{eqb-true, lt-ltb, le-ltb, ltb-true, leb-true, leb-false, le-leb, lt-leb, ne_eqb}
+use lib.Dec.{T, eqb, leb, leb→le}
+use lib.IntN.{ℤ, pos, negsuc, nat_abs, ◌+ℤ◌}
 use lib.ListN.{get_or}
 use lib.Signed.{mag, non_neg, le_z, lt_z}
 use mir.Facts.{or_yes, and_yes, sfits_widen}
 use mir.Syntax.{w32, w64}
-use mir.Val.{Fits, SFits, to_z, of_z}
+use mir.Val.{bool_byte, SFits, to_z, of_z}
 use mir.ValLaws.{to_z-of_z}
-use Rattle.signs.proofs.Signed.{wide, wide_is}
-use Rattle.signs.specs.Number.{in_range, equal, apply, compares}
+use Rattle.signs.specs.Number.{reason_number, in_range, equal, apply, compares}
 use Rattle.signs.specs.declared.Comparison.{Comparison}
 use Rattle.signs.specs.declared.Operator.{Operator}
-use Rattle.signs.specs.declared.Reason.TheVariants.{IndexNegative, IndexTooLarge}
+use Rattle.signs.specs.declared.Reason.TheVariants.{ConditionFalse, DivisorZero, ExponentNegative, IndexNegative, IndexTooLarge, OutOfRange}
+use Rattle.signs.specs.declared.Reason.{Reason}
 use Rattle.program.specs.File.{first_cell}
 use Rattle.semantics.specs.Parts.Coding.{earlier, reason_numbered, evaluated, decided, is_code, place_by, Indexed}
 use Rattle.semantics.specs.Expression.{fault, at, nowhere, place_of, operated, combine, compare_values, conjoin, and_then, negate, Truth}
@@ -32,13 +32,12 @@ is_fault z = le_z (pos 4294967296) z
 abbrev pub fault_in : ℤ → Fault
 fault_in z = fault (reason_numbered (nat_abs z - 4294967296))
 
--- the test of a number that the machine passes
-pub tested : (z : ℤ) {r b : Bool} → SFits w64 z → r ≡ is_fault (to_z w64 (of_z w64 z)) → r ≡ b → is_fault z ≡ b
-tested z f e t = sym (rw (to_z-of_z w64 z f) at e) ∙ t
+-- what a test gave that was asked, and of another name for the number
+pub tested : {r a b : Bool} → r ≡ a → r ≡ b → a ≡ b
+tested e t = sym e ∙ t
 
--- and a number that a function returned
-pub handed : (z : ℤ) → mag z < 9223372036854775808 → to_z w64 (of_z w64 z) ≡ z
-handed z h = to_z-of_z w64 z record { sfits = h }
+pub tested_as : {x z : ℤ} {r b : Bool} → x ≡ z → r ≡ is_fault x → r ≡ b → is_fault z ≡ b
+tested_as p e t = ap is_fault (sym p) ∙ sym e ∙ t
 
 -- ---- what a number stands for
 
@@ -89,39 +88,63 @@ code_small (negsuc n) t h =
     (λ y. absurd y)
     (or_yes (leb n 2147483647 && true) false t)
 
--- such a number widened, as the machine hands it on
-pub small_handed : (x : ℤ) → SFits w32 x → T (is_code (wide x)) × (evaluated (wide x) ≡ Ok x)
-small_handed x f = rw (wide_is x f) (small_code x f, small_evaluated x f)
+-- a number of 32 bits by another name, and what a code that is no fault is unpacked to
+pub stored_as : (x : ℤ) {z : ℤ} → x ≡ z → SFits w32 z → to_z w64 (of_z w64 x) ≡ z
+stored_as x {z} e f = rw e (to_z-of_z w64 z (sfits_widen tt f))
+
+pub code_as : (x : ℤ) {z : ℤ} → T (is_code x) → x ≡ z → is_fault z ≡ false → SFits w32 x
+code_as x t e h = code_small x t (ap is_fault e ∙ h)
+
+-- the bits of a code are those of 1 where it is 1
+pub true_bits : (x : ℤ) → T (is_code x) → eqb (of_z w64 x) 1 ≡ equal x (pos 1)
+unfolding is_code in_range equal
+true_bits (pos n) t = refl
+true_bits (negsuc n) t =
+    ⊎_elim
+    (λ y. ne_eqb _ 1 (λ e. omega (arith, e, leb→le n 2147483647 (and_yes (leb n 2147483647) true y).0)))
+    (λ y. absurd y)
+    (or_yes (leb n 2147483647 && true) false t)
+
+-- a reason's number over 2^32
+pub record FaultOf (r : Reason) (z : ℤ) : Type 0 where
+  pub code : T (is_code z)
+  pub evaluated : evaluated z ≡ Err (fault r)
+  pub decided : decided z ≡ Err (fault r)
+
+pub fault_packed : (r : Reason) (x : ℤ) → x ≡ pos (reason_number r) → FaultOf r (to_z w64 (of_z w64 (pos 4294967296 +ℤ to_z w64 (of_z w64 x))))
+unfolding is_code in_range evaluated decided reason_numbered reason_number
+fault_packed ConditionFalse x e = rw e record { code = tt; evaluated = refl; decided = refl }
+fault_packed DivisorZero x e = rw e record { code = tt; evaluated = refl; decided = refl }
+fault_packed ExponentNegative x e = rw e record { code = tt; evaluated = refl; decided = refl }
+fault_packed IndexNegative x e = rw e record { code = tt; evaluated = refl; decided = refl }
+fault_packed IndexTooLarge x e = rw e record { code = tt; evaluated = refl; decided = refl }
+fault_packed OutOfRange x e = rw e record { code = tt; evaluated = refl; decided = refl }
+
+-- a truth value, 1 or 0
+pub truth_packed : (b : Bool) (x : ℤ) → x ≡ pos (bool_byte b) → T (is_code (to_z w64 (of_z w64 x))) × (decided (to_z w64 (of_z w64 x)) ≡ Ok b)
+unfolding is_code in_range decided
+truth_packed true x e = rw e (tt, refl)
+truth_packed false x e = rw e (tt, refl)
 
 -- cast to 32 bits and back
 pub narrow : (z : ℤ) → SFits w32 z → to_z w32 (of_z w32 (to_z w64 (of_z w64 z))) ≡ z
 narrow z f = rw (to_z-of_z w64 z (sfits_widen tt f)) (to_z-of_z w32 z f)
 
--- ---- truth values: the machine compares the bits with 1
+-- ---- truth values
 
-pub one_bits : (z : ℤ) → SFits w64 z → of_z w64 z ≡ 1 → equal z (pos 1) ≡ true
-unfolding equal
-one_bits (pos n) f e = eq-eqb n 1 e
-one_bits (negsuc n) f e = absurd (omega (arith, f.sfits))
+pub one_decided : (z : ℤ) → equal z (pos 1) ≡ true → decided z ≡ Ok true
+unfolding decided equal
+one_decided (pos n) e = rw (eqb-true n 1 e)
+one_decided (negsuc n) e = absurd (true≢false (sym e))
 
-pub other_bits : (z : ℤ) → (of_z w64 z ≡ 1 → ⊥) → equal z (pos 1) ≡ false
-unfolding equal
-other_bits (pos n) h = ne_eqb n 1 h
-other_bits (negsuc n) h = refl
-
-pub one_decided : (z : ℤ) → SFits w64 z → of_z w64 z ≡ 1 → decided z ≡ Ok true
-unfolding decided
-one_decided (pos n) f e = rw e
-one_decided (negsuc n) f e = absurd (omega (arith, f.sfits))
-
--- && asks the right side where the left is 1, and else gives the left
-pub other_decided : (z : ℤ) (b : Truth) → (of_z w64 z ≡ 1 → ⊥) → decided z ≡ and_then (decided z) b
+-- && asks the right side where the left is true, and else gives the left
+pub other_decided : (z : ℤ) (b : Truth) → equal z (pos 1) ≡ false → decided z ≡ and_then (decided z) b
 unfolding and_then
 other_decided z b h = by (is_fault z) refl
   where
     by : (t : Bool) → is_fault z ≡ t → decided z ≡ and_then (decided z) b
     by true e = rw (fault_decided z e)
-    by false e = rw (truth_decided z e, other_bits z h)
+    by false e = rw (truth_decided z e, h)
 
 pub negate_fault : (a : ℤ) → is_fault a ≡ true → decided a ≡ negate (decided a)
 unfolding negate
@@ -181,14 +204,6 @@ module _ (a b : ℤ) where
       unfolding conjoin
       conjoin_false e = rw (truth_decided a h, truth_decided b k, e)
 
--- the earlier fault, as the code finds it: it is what the two give, or neither is one
-pub gave : (a b r : ℤ) → SFits w64 a → SFits w64 b → r ≡ earlier (to_z w64 (of_z w64 a)) (to_z w64 (of_z w64 b)) → r ≡ earlier a b
-gave a b r f g e = rw (to_z-of_z w64 a f, to_z-of_z w64 b g) at e
-
--- the test for it
-pub fault_first : (a b r : ℤ) {x t : Bool} → r ≡ earlier a b → mag r < 9223372036854775808 → x ≡ is_fault (to_z w64 (of_z w64 r)) → x ≡ t → is_fault (earlier a b) ≡ t
-fault_first a b r e h p q = ap is_fault (sym e) ∙ tested r (record { sfits = h }) p q
-
 module _ (a b : ℤ) where
   by_left : (P : ℤ → Type 0) → (is_fault a ≡ true → P a) → (is_fault a ≡ false → P b) → P (earlier a b)
   unfolding earlier
@@ -197,9 +212,6 @@ module _ (a b : ℤ) where
       by : (t : Bool) → is_fault a ≡ t → P (cond t a b)
       by true e = x e
       by false e = y e
-
-  pub earlier_code : T (is_code a) → T (is_code b) → T (is_code (earlier a b))
-  earlier_code x y = by_left (λ z. T (is_code z)) (λ e. x) (λ e. y)
 
   pub combine_fault : is_fault (earlier a b) ≡ true → (o : Operator) → evaluated (earlier a b) ≡ combine o (evaluated a) (evaluated b)
   combine_fault h o = by_left (λ z. is_fault z ≡ true → evaluated z ≡ combine o (evaluated a) (evaluated b)) (λ e k. combine_left a b e o) (λ e k. combine_right a b e k o) h
@@ -215,13 +227,13 @@ module _ (a b : ℤ) where
 
 -- ---- an index
 
--- one that is not below zero is cast to a natural number
-natural_number : (z : ℤ) → SFits w64 z → lt_z z (pos 0) ≡ false → T (non_neg z) × Fits w64 (nat_abs z)
-natural_number (pos n) f e = (tt, record { fits = omega (arith, f.sfits) })
-natural_number (negsuc n) f e = absurd (true≢false e)
+pub not_below : (z : ℤ) → lt_z z (pos 0) ≡ false → T (non_neg z)
+not_below (pos n) e = tt
+not_below (negsuc n) e = absurd (true≢false e)
 
-pub natural : (z : ℤ) → SFits w64 z → lt_z z (pos 0) ≡ false → T (non_neg (to_z w64 (of_z w64 z))) × Fits w64 (nat_abs (to_z w64 (of_z w64 z)))
-natural z f e = rw (to_z-of_z w64 z f) (natural_number z f e)
+-- a value that was unpacked, as the machine passes it
+pub passed : (x : ℤ) {z : ℤ} → mag x < 2147483648 → x ≡ z → to_z w32 (of_z w32 x) ≡ z
+passed x h e = to_z-of_z w32 x (record { sfits = h }) ∙ e
 
 -- the place that an index gives
 module _ (ns : List ℕ) (x : ℕ) (r : ℤ) where
@@ -243,18 +255,17 @@ undefined_fault r f e = by (is_fault r) refl
 
 module _ (size : ℕ) (v : ℤ) where
   -- a fault is handed on
-  pub index_fault : T (is_code v) → is_fault v ≡ true → Indexed size v v
+  pub index_fault : is_fault v ≡ true → Indexed size v v
   unfolding place_of
-  index_fault c h =
-      record { code = c; below = λ k. absurd (true≢false (sym h ∙ k)); place = λ ns x s. rw (fault_evaluated v h, placed_fault ns x v h) }
+  index_fault h =
+      record { below = λ k. absurd (true≢false (sym h ∙ k)); place = λ ns x s. rw (fault_evaluated v h, placed_fault ns x v h) }
 
   -- one that is found: the number that stands for it
-  refused_index : (r : ℤ) (f : Fault) → T (is_code r) → evaluated r ≡ Err f
+  refused_index : (r : ℤ) (f : Fault) → evaluated r ≡ Err f
       → ((ns : List ℕ) (x : ℕ) → get_or ns x 0 ≡ size → place_of ns x (evaluated v) ≡ nowhere f) → Indexed size v r
-  refused_index r f c e p =
+  refused_index r f e p =
       let fault = undefined_fault r f e in
       record {
-        code = c;
         below = λ k. absurd (true≢false (sym fault.0 ∙ k));
         place = λ ns x s. p ns x s ∙ ap nowhere (sym fault.1) ∙ sym (placed_fault ns x r fault.0);
       }
@@ -264,8 +275,8 @@ module _ (size : ℕ) (v : ℤ) where
   negative_place (pos n) h e ns x = absurd (omega (arith, ltb-true n 0 e))
   negative_place (negsuc n) h e ns x = rw (number_evaluated (negsuc n) h)
 
-  pub index_negative : is_fault v ≡ false → lt_z v (pos 0) ≡ true → (r : ℤ) → T (is_code r) → evaluated r ≡ Err (fault IndexNegative) → Indexed size v r
-  index_negative h e r c k = refused_index r (fault IndexNegative) c k (λ ns x s. negative_place v h e ns x)
+  pub index_negative : is_fault v ≡ false → lt_z v (pos 0) ≡ true → (r : ℤ) → evaluated r ≡ Err (fault IndexNegative) → Indexed size v r
+  index_negative h e r k = refused_index r (fault IndexNegative) k (λ ns x s. negative_place v h e ns x)
 
   large_place : (z : ℤ) → is_fault z ≡ false → lt_z z (pos 0) ≡ false → size ≤ nat_abs z
       → (ns : List ℕ) (x : ℕ) → get_or ns x 0 ≡ size → place_of ns x (evaluated z) ≡ nowhere (fault IndexTooLarge)
@@ -273,8 +284,8 @@ module _ (size : ℕ) (v : ℤ) where
   large_place (pos n) h e k ns x s = rw (number_evaluated (pos n) h, le-ltb n (get_or ns x 0) (rw s k))
   large_place (negsuc n) h e k ns x s = absurd (true≢false e)
 
-  pub index_large : is_fault v ≡ false → lt_z v (pos 0) ≡ false → size ≤ nat_abs v → (r : ℤ) → T (is_code r) → evaluated r ≡ Err (fault IndexTooLarge) → Indexed size v r
-  index_large h e k r c d = refused_index r (fault IndexTooLarge) c d (large_place v h e k)
+  pub index_large : is_fault v ≡ false → lt_z v (pos 0) ≡ false → size ≤ nat_abs v → (r : ℤ) → evaluated r ≡ Err (fault IndexTooLarge) → Indexed size v r
+  index_large h e k r d = refused_index r (fault IndexTooLarge) d (large_place v h e k)
 
   -- an index inside
   inside_place : (z : ℤ) → is_fault z ≡ false → lt_z z (pos 0) ≡ false → nat_abs z < size
@@ -283,15 +294,7 @@ module _ (size : ℕ) (v : ℤ) where
   inside_place (pos n) h e k = (tt, λ ns x s. rw (number_evaluated (pos n) h, lt-ltb n (get_or ns x 0) (rw s k)))
   inside_place (negsuc n) h e k = absurd (true≢false e)
 
-  pub index_inside : T (is_code v) → is_fault v ≡ false → lt_z v (pos 0) ≡ false → nat_abs v < size → Indexed size v v
-  index_inside c h e k =
+  pub index_inside : is_fault v ≡ false → lt_z v (pos 0) ≡ false → nat_abs v < size → Indexed size v v
+  index_inside h e k =
       let there = inside_place v h e k in
-      record { code = c; below = λ f. (there.0, k); place = λ ns x s. there.1 ns x s ∙ sym (placed_at ns x v h) }
-
--- an index that is no fault is cast to a natural number
-pub whole_index : (z : ℤ) → SFits w64 z → T (non_neg z) → T (non_neg (to_z w64 (of_z w64 z))) × Fits w64 (nat_abs (to_z w64 (of_z w64 z)))
-whole_index z f h = rw (to_z-of_z w64 z f) (by z f h)
-  where
-    by : (z : ℤ) → SFits w64 z → T (non_neg z) → T (non_neg z) × Fits w64 (nat_abs z)
-    by (pos n) f h = (tt, record { fits = omega (arith, f.sfits) })
-    by (negsuc n) f h = absurd h
+      record { below = λ f. (there.0, k); place = λ ns x s. there.1 ns x s ∙ sym (placed_at ns x v h) }

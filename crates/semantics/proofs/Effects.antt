@@ -1,28 +1,24 @@
 -- The effect of an action from the numbers that its expressions give, and performing it.
-use Rattle.std.specs.Prelude.{Err, Ok}
 use mathlib.Core.Path.{◌≡◌, refl, sym, subst, ◌∙◌}
-use mathlib.Core.Bool.{Bool, true, false, cond, ◌&&◌, true≢false}
+use mathlib.Core.Bool.{Bool, true, false, ◌&&◌, true≢false}
 use mathlib.Core.List.{List}
-use Prim.Native.Nat.{ℕ, ◌+◌, ◌-◌, ◌<◌}
+use Prim.Native.Nat.{ℕ, ◌+◌, ◌<◌}
 use native.Mathlib.Nat.{lt_of_lt_of_le}
 use native.Mathlib.Omega.{arith}
-use borrow.Author.Tests.{eqb-true, eqb-false, ne_eqb}
-use lib.Dec.{eqb, ltb}
-use lib.IntN.{ℤ, pos, negsuc, nat_abs}
+use lib.IntN.{ℤ, pos, nat_abs}
 use mir.Facts.{and_yes}
-use mir.Syntax.{w64}
-use mir.Val.{of_z, SFits}
+use Rattle.signs.specs.Number.{equal}
 use Rattle.program.specs.File.{first_cell, is_variable, is_array}
 use Rattle.program.specs.Meaning.{Meaning, nothing, assigns, stores, condition}
 use Rattle.program.specs.Parts.Prepared.{size_in, cell_in}
 use Rattle.program.specs.Parts.Sorted.{arith_named, meaning_named}
 use Rattle.program.specs.Syntax.{Arith, Boolean}
 use Rattle.semantics.specs.Action.{pass, store_to, effect, after, is_defined}
-use Rattle.semantics.specs.Parts.Coding.{reason_numbered, evaluated, decided, ValueIn, TruthIn, EffectIn, Follows, Performs, Indexed, IndexIn}
-use Rattle.semantics.specs.Expression.{fault, at, value}
+use Rattle.semantics.specs.Parts.Coding.{evaluated, decided, ValueIn, TruthIn, EffectIn, Follows, Performs, Indexed, IndexIn}
+use Rattle.semantics.specs.Expression.{at, value}
 use Rattle.semantics.specs.declared.Effect.{Effect}
 use Rattle.semantics.specs.declared.Effect.TheVariants.{Undefined as Fails, Unchanged, Stored}
-use Rattle.semantics.proofs.Coded.{is_fault, fault_in, one_decided, placed_fault, placed_at}
+use Rattle.semantics.proofs.Coded.{is_fault, fault_in, fault_decided, truth_decided, one_decided, placed_fault, placed_at}
 use Rattle.semantics.proofs.Named.{variable_there, array_there, place_inside}
 
 module _ {code : List ℕ} {m : List ℤ} where
@@ -47,7 +43,6 @@ module _ {code : List ℕ} {m : List ℤ} where
   pub store_index : (x : ℕ) {a : Arith} {v r : ℤ} {size : ℕ} → ValueIn code m a v → size ≡ size_in code x → size < 65536 → Indexed size v r → IndexIn code m x a r
   store_index x right e fits i =
       record {
-        code = i.code;
         below = λ h. ((i.below h).0, omega (arith, (i.below h).1));
         place = λ ns loaded t u.
             rw (← right.gives ns loaded u) (i.place ns x (sym (loaded.coded.size x (array_there ns x t).0) ∙ sym e));
@@ -85,16 +80,14 @@ module _ {code : List ℕ} {m : List ℤ} where
   pub performs : {x : Meaning} {e : Effect} {r : Bool} {m' : List ℤ} → EffectIn code m x e → Follows m e r m' → Performs code m x r m'
   performs {x} {e} {r} {m'} found f = record { gives = λ ns loaded t. subst (λ (y : Effect). Follows m y r m') (found.gives ns loaded t) f }
 
--- a condition whose number is not 1 is undefined
-other_pass : (v : ℤ) → (of_z w64 v ≡ 1 → ⊥) → is_defined (pass (decided v)) ≡ false
-unfolding pass is_defined decided
-other_pass (pos n) h =
-    by (ltb n 4294967296)
+-- a condition that is not true is undefined
+other_pass : (v : ℤ) → equal v (pos 1) ≡ false → is_defined (pass (decided v)) ≡ false
+unfolding pass is_defined
+other_pass v h = by (is_fault v) refl
   where
-    by : (b : Bool) → is_defined (pass (cond b (Ok (eqb n 1)) (Err (fault (reason_numbered (n - 4294967296)))))) ≡ false
-    by true = rw (ne_eqb n 1 h)
-    by false = refl
-other_pass (negsuc n) h = refl
+    by : (t : Bool) → is_fault v ≡ t → is_defined (pass (decided v)) ≡ false
+    by true e = rw (fault_decided v e)
+    by false e = rw (truth_decided v e, h)
 
 pub undefined_after : (m : List ℤ) (x : Effect) → is_defined x ≡ false → m ≡ after m x
 unfolding is_defined after
@@ -102,11 +95,11 @@ undefined_after m (Fails f) h = refl
 undefined_after m Unchanged h = refl
 undefined_after m (Stored c z) h = absurd (true≢false h)
 
--- so a condition is performed by asking for 1, and the memory stays
-pub held : (m : List ℤ) (v : ℤ) → SFits w64 v → Follows m (pass (decided v)) (eqb (of_z w64 v) 1) m
+-- so a condition is performed by asking whether it is true, and the memory stays
+pub held : (m : List ℤ) (v : ℤ) {r : Bool} → r ≡ equal v (pos 1) → Follows m (pass (decided v)) r m
 unfolding pass is_defined after
-held m v f = by (eqb (of_z w64 v) 1) refl
+held m v told = rw told (by (equal v (pos 1)) refl)
   where
-    by : (b : Bool) → eqb (of_z w64 v) 1 ≡ b → Follows m (pass (decided v)) b m
-    by true e = rw (one_decided v f (eqb-true _ _ e)) record { defined = refl; memory = refl }
-    by false e = let none = other_pass v (eqb-false _ _ e) in record { defined = sym none; memory = undefined_after m (pass (decided v)) none }
+    by : (b : Bool) → equal v (pos 1) ≡ b → Follows m (pass (decided v)) b m
+    by true e = rw (one_decided v e) record { defined = refl; memory = refl }
+    by false e = let none = other_pass v e in record { defined = sym none; memory = undefined_after m (pass (decided v)) none }

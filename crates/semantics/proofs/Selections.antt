@@ -4,7 +4,7 @@ use mathlib.Core.Path.{◌≡◌, refl, sym, ◌∙◌, ap}
 use mathlib.Core.Bool.{true, ◌&&◌, and_assoc, and-true}
 use mathlib.Core.List.{List, [], ◌∷◌, ◌++◌, foldl}
 use Prim.Native.Nat.{ℕ}
-use lib.IntN.{ℤ, pos}
+use lib.IntN.{ℤ}
 use Rattle.signs.specs.Lists.{all_of}
 use Rattle.program.specs.Graph.{selected}
 use Rattle.program.specs.Parts.Sorted.{boolean_named}
@@ -59,14 +59,14 @@ module _ {code : List ℕ} {m : List ℤ} where
       }
 
   -- all of them, and the guard's own last
-  pub selected_holds : {gs : List Boolean} {b : Boolean} {v a r : ℤ} → FailsAfter code m gs (pos 1) v → TruthIn code m b a → decided r ≡ conjoin (decided v) (decided a) → TruthIn code m (selected gs b) r
-  unfolding and_fail decided boolean_named
-  selected_holds {gs} {b} {a = a} earlier own q =
+  pub selected_holds : {gs : List Boolean} {b : Boolean} {v a r : ℤ} → {u : ℤ} → decided u ≡ Ok true → FailsAfter code m gs u v → TruthIn code m b a → decided r ≡ conjoin (decided v) (decided a) → TruthIn code m (selected gs b) r
+  unfolding and_fail boolean_named
+  selected_holds {gs} {b} {a = a} true_first earlier own q =
       record {
         gives = λ ns loaded t.
             let named = two (all_of (λ g. boolean_named ns (negation 0 g)) gs) (boolean_named ns b) (sym (selected_all (named_join ns) gs b) ∙ is_true _ t) in
             q
-            ∙ ap (λ x. conjoin x (decided a)) (earlier.gives ns loaded named.0)
+            ∙ ap (λ x. conjoin x (decided a)) (rw true_first at earlier.gives ns loaded named.0)
             ∙ ap (conjoin (foldl (λ y g. conjoin y (truth_in ns m (negation 0 g))) (Ok true) gs)) (own.gives ns loaded (passed named.1))
             ∙ sym (selected_folded (joins ns m) gs b);
       }

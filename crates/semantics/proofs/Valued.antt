@@ -1,54 +1,47 @@
 -- Numbers that stand for the values and truths of trees: of a leaf, and of a tree from those of its parts.
 use Rattle.std.specs.Prelude.{Ok}
-use mathlib.Core.Path.{◌≡◌, refl, sym, ap, ◌∙◌}
+use mathlib.Core.Path.{◌≡◌, sym, ap, ◌∙◌}
 use mathlib.Core.Bool.{true}
 use mathlib.Core.List.{List}
 use Prim.Native.Nat.{ℕ, ◌<◌}
-use lib.Dec.{T}
 use lib.IntN.{ℤ, pos}
 use lib.ListN.{length}
 use mir.Facts.{and_yes}
-use mir.Syntax.{w32}
-use mir.Val.{SFits}
-use Rattle.signs.proofs.Signed.{wide}
-use Rattle.signs.specs.Number.{in_range}
 use Rattle.signs.specs.declared.Comparison.{Comparison}
 use Rattle.signs.specs.declared.Operator.{Operator}
 use Rattle.program.specs.Parts.Prepared.{cell_in, Coded}
 use Rattle.program.specs.File.{is_array}
 use Rattle.program.specs.Parts.Sorted.{arith_named, boolean_named}
 use Rattle.program.specs.Syntax.{Arith, number, variable, element, operator, Boolean, truth, comparison, conjunction, short_circuit, negation}
-use Rattle.semantics.specs.Parts.Coding.{evaluated, decided, is_code, ValueIn, TruthIn}
+use Rattle.semantics.specs.Parts.Coding.{evaluated, decided, ValueIn, TruthIn}
 use Rattle.semantics.specs.Expression.{cell_value, place_of, value_at, combine, value, compare_values, conjoin, and_then, negate, truth_in, Truth}
 use Rattle.semantics.proofs.Leaves.{CellOf}
-use Rattle.semantics.proofs.Coded.{is_fault, fault_evaluated, small_handed}
+use Rattle.semantics.proofs.Coded.{is_fault, fault_evaluated}
 use Rattle.semantics.proofs.Named.{variable_there, array_there}
 
 module _ {code : List ℕ} {m : List ℤ} where
   -- a number, which is cast to 64 bits; an entry past the last, which is the number 0; and a leaf by its cell
-  pub number_valued : (k : ℕ) (z : ℤ) → SFits w32 z → ValueIn code m (number k z) (wide z)
+  pub number_valued : (k : ℕ) (z : ℤ) {r : ℤ} → evaluated r ≡ Ok z → ValueIn code m (number k z) r
   unfolding value
-  number_valued k z f = record { code = (small_handed z f).0; gives = λ ns loaded t. (small_handed z f).1 }
+  number_valued k z e = record { gives = λ ns loaded t. e }
 
-  pub past_valued : {a : Arith} (k : ℕ) → ((ns : List ℕ) → Coded ns code → a ≡ number k (pos 0)) → ValueIn code m a (pos 0)
-  unfolding value is_code in_range evaluated
-  past_valued k past = record { code = tt; gives = λ ns loaded t. rw (past ns loaded.coded) }
+  pub past_valued : {a : Arith} (k : ℕ) → ((ns : List ℕ) → Coded ns code → a ≡ number k (pos 0)) → {r : ℤ} → evaluated r ≡ Ok (pos 0) → ValueIn code m a r
+  unfolding value
+  past_valued k past e = record { gives = λ ns loaded t. rw (past ns loaded.coded) e }
 
-  pub variable_valued : (k x : ℕ) {r : ℤ} → T (is_code r) → evaluated r ≡ Ok (cell_value m (cell_in code x)) → ValueIn code m (variable k x) r
+  pub variable_valued : (k x : ℕ) {r : ℤ} → evaluated r ≡ Ok (cell_value m (cell_in code x)) → ValueIn code m (variable k x) r
   unfolding value arith_named
-  variable_valued k x c e =
-      record { code = c; gives = λ ns loaded t. e ∙ ap (λ (y : ℕ). Ok (cell_value m y)) (loaded.coded.cell x (variable_there ns x t).0) }
+  variable_valued k x e =
+      record { gives = λ ns loaded t. e ∙ ap (λ (y : ℕ). Ok (cell_value m y)) (loaded.coded.cell x (variable_there ns x t).0) }
 
-  pub cell_valued : {a : Arith} (c : ℕ) {r : ℤ} → CellOf code a c → T (is_code r) → evaluated r ≡ Ok (cell_value m c) → ValueIn code m a r
-  cell_valued c stands k e = record { code = k; gives = λ ns loaded t. e ∙ sym (stands ns m loaded t) }
+  pub cell_valued : {a : Arith} (c : ℕ) {r : ℤ} → CellOf code a c → evaluated r ≡ Ok (cell_value m c) → ValueIn code m a r
+  cell_valued c stands e = record { gives = λ ns loaded t. e ∙ sym (stands ns m loaded t) }
 
-  pub element_valued : (k x : ℕ) {i : Arith} {v r : ℤ} → ValueIn code m i v → T (is_code r)
-      → ((ns : List ℕ) → Coded ns code → x < length ns → evaluated r ≡ value_at m (place_of ns x (evaluated v)))
+  pub element_valued : (k x : ℕ) {i : Arith} {v r : ℤ} → ValueIn code m i v → ((ns : List ℕ) → Coded ns code → x < length ns → evaluated r ≡ value_at m (place_of ns x (evaluated v)))
       → ValueIn code m (element k x i) r
   unfolding value arith_named
-  element_valued k x {i} index c e =
+  element_valued k x {i} index e =
       record {
-        code = c;
         gives = λ ns loaded t.
             let named = and_yes (is_array ns x) (arith_named ns i) t in
             rw (← index.gives ns loaded named.1) (e ns loaded.coded (array_there ns x named.0).0);
@@ -60,18 +53,16 @@ module _ {code : List ℕ} {m : List ℤ} where
     unfolding value arith_named combine
     operator_left h =
         record {
-          code = left.code;
           gives = λ ns loaded t.
               let named = and_yes (arith_named ns a) (arith_named ns b) t in
               rw (← left.gives ns loaded named.0, fault_evaluated u h);
         }
 
-    pub operator_valued : {v r : ℤ} → ValueIn code m b v → T (is_code r) → evaluated r ≡ combine o (evaluated u) (evaluated v)
+    pub operator_valued : {v r : ℤ} → ValueIn code m b v → evaluated r ≡ combine o (evaluated u) (evaluated v)
         → ValueIn code m (operator k o a b) r
     unfolding value arith_named
-    operator_valued right c e =
+    operator_valued right e =
         record {
-          code = c;
           gives = λ ns loaded t.
               let named = and_yes (arith_named ns a) (arith_named ns b) t in
               rw (← left.gives ns loaded named.0, ← right.gives ns loaded named.1) e;
@@ -79,9 +70,9 @@ module _ {code : List ℕ} {m : List ℤ} where
 
   -- ---- truths
 
-  pub true_holds : (k : ℕ) → TruthIn code m (truth k) (pos 1)
-  unfolding truth_in decided
-  true_holds k = record { gives = λ ns loaded t. refl }
+  pub true_holds : (k : ℕ) {r : ℤ} → decided r ≡ Ok true → TruthIn code m (truth k) r
+  unfolding truth_in
+  true_holds k e = record { gives = λ ns loaded t. e }
 
   pub comparison_holds : (k : ℕ) (c : Comparison) {a b : Arith} {u v r : ℤ} → ValueIn code m a u → ValueIn code m b v
       → decided r ≡ compare_values c (evaluated u) (evaluated v) → TruthIn code m (comparison k c a b) r

@@ -1,16 +1,17 @@
-// Results of the evaluators as one number: a value or a truth value as itself, a fault as 2^32 and the number of its reason.
+// The evaluators: what expressions and conditions give, over a prepared program.
 mod action;
 mod arithmetic;
 mod condition;
+mod packed;
 mod selection;
 
-ghost use Rattle.std.specs.Prelude.{◌≡◌, List, ℕ, ◌+◌, ◌<◌, T, pos, length};
-ghost use Rattle.std.specs.Int.Signed.{le_z};
+ghost use Rattle.std.specs.Prelude.{◌≡◌, List, ℕ, ◌+◌, ◌<◌, length};
 ghost use Rattle.program.specs.Parts.Prepared.{Coded, Ordered};
 ghost use Rattle.semantics.specs.Parts.Coding as coding;
 ghost use Rattle.semantics.specs.Parts.Machines.{ordered_prop};
 ghost use Rattle.semantics.specs.Expression as spec;
 
+use packed::Packed;
 use program::prepared;
 use program::prepared::{CODE, GRAPH};
 use signs::{Comparison, Operator, Reason, number};
@@ -27,152 +28,104 @@ pub(crate) struct Machine<'a> {
     pub(crate) ghost ordered: { Ordered code.now } by { ordered_prop code.now },
 }
 
-pub(crate) fn is_fault(v: i64) -> bool
-    ensures { result ≡ le_z (pos 4294967296) v }
-{
-    4294967296 <= v
-}
-
-fn fault_code(reason: Reason) -> i64
-    ensures code { T (coding.is_code result) }
-    ensures evaluated { coding.evaluated result ≡ Err (spec.fault reason) }
-    ensures decided { coding.decided result ≡ Err (spec.fault reason) }
-{
-    match reason {
-        Reason::ConditionFalse => 4294967327,
-        Reason::DivisorZero => 4294967328,
-        Reason::ExponentNegative => 4294967329,
-        Reason::IndexNegative => 4294967330,
-        Reason::IndexTooLarge => 4294967331,
-        Reason::OutOfRange => 4294967332,
-    }
-}
-
-// What an operator gave.
-fn value_code(v: Result<i32, Reason>) -> i64
-    ensures code { T (coding.is_code result) }
-    ensures evaluated { coding.evaluated result ≡ spec.operated v }
-{
-    match v {
-        Ok(z) => z as i64,
-        Err(reason) => fault_code(reason),
-    }
-}
-
-fn truth_code(b: bool) -> i64
-    ensures { coding.decided result ≡ Ok b }
-{
-    if b { 1 } else { 0 }
-}
-
 // The fault of two results, the left before the right; where neither is one, the right result.
-fn earlier(a: i64, b: i64) -> i64
+fn earlier(a: Packed, b: Packed) -> Packed
     ensures { result ≡ coding.earlier a b }
 {
-    if is_fault(a) { a } else { b }
+    if a.is_fault() { a } else { b }
 }
 
 // An operator on two results.
-fn operate(o: Operator, a: i64, b: i64) -> i64
-    requires left { T (coding.is_code a) }
-    requires right { T (coding.is_code b) }
-    ensures code { T (coding.is_code result) }
-    ensures evaluated { coding.evaluated result ≡ spec.combine o (coding.evaluated a) (coding.evaluated b) }
+fn operate(o: Operator, a: Packed, b: Packed) -> Packed
+    ensures { coding.evaluated result ≡ spec.combine o (coding.evaluated a) (coding.evaluated b) }
 {
     let first = earlier(a, b);
-    if is_fault(first) {
+    if first.is_fault() {
         return first;
     }
-    value_code(number::apply(o, a as i32, b as i32))
+    Packed::of(number::apply(o, a.unpacked(), b.unpacked()))
 }
 
 // A comparison of two results.
-fn compare(c: Comparison, a: i64, b: i64) -> i64
-    requires left { T (coding.is_code a) }
-    requires right { T (coding.is_code b) }
+fn compare(c: Comparison, a: Packed, b: Packed) -> Packed
     ensures { coding.decided result ≡ spec.compare_values c (coding.evaluated a) (coding.evaluated b) }
 {
     let first = earlier(a, b);
-    if is_fault(first) {
+    if first.is_fault() {
         return first;
     }
-    truth_code(number::compares(c, a as i32, b as i32))
+    Packed::truth(number::compares(c, a.unpacked(), b.unpacked()))
 }
 
 // b ∧ b of two truth values.
-fn both(a: i64, b: i64) -> i64
+fn both(a: Packed, b: Packed) -> Packed
     ensures { coding.decided result ≡ spec.conjoin (coding.decided a) (coding.decided b) }
 {
     let fault = earlier(a, b);
-    if is_fault(fault) {
+    if fault.is_fault() {
         return fault;
     }
-    if a == 1 { b } else { 0 }
+    if a.is_true() { b } else { Packed::truth(false) }
 }
 
 // ¬ of a truth value.
-fn negated(a: i64) -> i64
+fn negated(a: Packed) -> Packed
     ensures { coding.decided result ≡ spec.negate (coding.decided a) }
 {
-    if is_fault(a) {
+    if a.is_fault() {
         return a;
     }
-    if a == 1 { 0 } else { 1 }
+    Packed::truth(!a.is_true())
 }
 
 // The value of a cell, past the end 0.
-fn cell_value(memory: &[i32], c: usize) -> i64
-    ensures code { T (coding.is_code result) }
-    ensures evaluated { coding.evaluated result ≡ Ok (spec.cell_value memory.now c) }
+fn cell_value(memory: &[i32], c: usize) -> Packed
+    ensures { coding.evaluated result ≡ Ok (spec.cell_value memory.now c) }
 {
     if c < memory.len() {
-        memory[c] as i64
+        Packed::value(memory[c])
     } else {
-        0
+        Packed::value(0)
     }
 }
 
 // The value of the cell i after c.
-fn cell_after(memory: &[i32], c: usize, i: usize) -> i64
+fn cell_after(memory: &[i32], c: usize, i: usize) -> Packed
     requires { i < 65536 }
-    ensures code { T (coding.is_code result) }
-    ensures evaluated { coding.evaluated result ≡ Ok (spec.cell_value memory.now (c + i)) }
+    ensures { coding.evaluated result ≡ Ok (spec.cell_value memory.now (c + i)) }
 {
     if memory.len() <= c {
-        return 0;
+        return Packed::value(0);
     }
     cell_value(memory, c + i)
 }
 
 // An index of an array of a size: itself, or 34 below zero and 35 at or past the size.
-fn indexed(size: u16, v: i64) -> i64
-    requires { T (coding.is_code v) }
+fn indexed(size: u16, v: Packed) -> Packed
     ensures { coding.Indexed size v result }
 {
-    if is_fault(v) {
+    if v.is_fault() {
         return v;
     }
-    if v < 0 {
-        return fault_code(Reason::IndexNegative);
+    if v.unpacked() < 0 {
+        return Packed::fault(Reason::IndexNegative);
     }
-    if size as usize <= v as usize {
-        return fault_code(Reason::IndexTooLarge);
+    if size as usize <= v.index() {
+        return Packed::fault(Reason::IndexTooLarge);
     }
     v
 }
 
 impl Machine<'_> {
     // The value of an array's element, by its index.
-    fn element(self, memory: &[i32; MEMORY], x: u16, v: i64) -> i64
-        requires { T (coding.is_code v) }
-        ensures code { T (coding.is_code result) }
-        ensures evaluated { (ns : List ℕ) → Coded ns self.entry.code.now → x < length ns
+    fn element(self, memory: &[i32; MEMORY], x: u16, v: Packed) -> Packed
+        ensures { (ns : List ℕ) → Coded ns self.entry.code.now → x < length ns
             → coding.evaluated result ≡ spec.value_at memory.now (spec.place_of ns x (coding.evaluated v)) }
     {
         let i = indexed(prepared::size_of(self.code, x), v);
-        if is_fault(i) {
+        if i.is_fault() {
             return i;
         }
-        cell_after(memory, prepared::first_cell(self.code, x), i as usize)
+        cell_after(memory, prepared::first_cell(self.code, x), i.index())
     }
 }

@@ -10,7 +10,7 @@ ghost use Rattle.semantics.specs.Parts.Running;
 ghost use Rattle.semantics.specs.Parts.Selecting;
 ghost use Rattle.semantics.specs.Step;
 
-use crate::evaluator::{MEMORY, Machine, is_fault};
+use crate::evaluator::{MEMORY, Machine};
 use crate::{Ended, Ending, Run, stepping};
 use program::prepared::{CELLS_MOST, CODE, GRAPH, NONE};
 use program::{Construction, Refusal, drawing, prepared, validation};
@@ -64,10 +64,10 @@ impl Runner<'_> {
         // This loop follows the links from edge to edge: it counts no index.
         while k < count {
             let v = self.machine.own(memory, k);
-            if v == 1 {
+            if v.is_true() {
                 return k;
             }
-            if is_fault(v) {
+            if v.is_fault() {
                 return NONE;
             }
             k = prepared::next_edge(self.machine.graph, k);

@@ -42,7 +42,6 @@ earlier a b = cond (le_z (pos 4294967296) a) a b
 
 -- a number that stands for the value of a tree in a memory, whatever names a code of these words is of
 pub record ValueIn (words : List ℕ) (m : List ℤ) (a : Arith) (r : ℤ) : Type 0 where
-  pub code : T (is_code r)
   pub gives : (ns : List ℕ) → Loaded ns words m → T (arith_named ns a) → evaluated r ≡ value ns m a
 
 -- and one that stands for the truth of a tree
@@ -68,12 +67,10 @@ place_by ns x r = cond (le_z (pos 4294967296) r) (nowhere (fault (reason_numbere
 
 -- an index v of an array of a size, tested: a fault, or a number from 0 to below the size
 pub record Indexed (size : ℕ) (v r : ℤ) : Type 0 where
-  pub code : T (is_code r)
   pub below : le_z (pos 4294967296) r ≡ false → T (non_neg r) × (nat_abs r < size)
   pub place : (ns : List ℕ) (x : ℕ) → get_or ns x 0 ≡ size → place_of ns x (evaluated v) ≡ place_by ns x r
 
 -- the value of a tree as an index of array x, tested
 pub record IndexIn (words : List ℕ) (m : List ℤ) (x : ℕ) (a : Arith) (r : ℤ) : Type 0 where
-  pub code : T (is_code r)
   pub below : le_z (pos 4294967296) r ≡ false → T (non_neg r) × (nat_abs r < 65536)
   pub place : (ns : List ℕ) → Loaded ns words m → T (is_array ns x) → T (arith_named ns a) → place_of ns x (value ns m a) ≡ place_by ns x r

@@ -1,5 +1,5 @@
 // What actions do to a memory, over a prepared program.
-ghost use Rattle.std.specs.Prelude.{◌≡◌, true, List, ℕ, ◌+◌, ◌-◌, ◌<◌, T, pos, nat_abs};
+ghost use Rattle.std.specs.Prelude.{◌≡◌, true, List, ℕ, ◌+◌, ◌-◌, ◌<◌, pos, nat_abs};
 ghost use Rattle.std.specs.Int.Signed.{le_z};
 ghost use Rattle.program.specs.Meaning.{assigns, stores};
 ghost use Rattle.program.specs.Parts.Prepared as made;
@@ -8,27 +8,12 @@ ghost use Rattle.semantics.specs.Action as spec;
 ghost use Rattle.semantics.specs.Parts.Coding as coding;
 ghost use Rattle.semantics.specs.Expression as expression;
 
-use super::{MEMORY, Machine, indexed, is_fault};
+use super::packed::Packed;
+use super::{MEMORY, Machine, indexed};
 use crate::{Effect, Fault};
 use program::prepared::{CELLS_MOST, COMMANDS, CONDITIONS};
 use program::{ActionNode, prepared};
 use signs::Reason;
-
-// The reason with a number of document 01.
-fn reason_numbered(k: usize) -> Reason
-    ensures { result ≡ coding.reason_numbered k }
-{
-    if k <= 31 {
-        return Reason::ConditionFalse;
-    }
-    match k {
-        32 => Reason::DivisorZero,
-        33 => Reason::ExponentNegative,
-        34 => Reason::IndexNegative,
-        35 => Reason::IndexTooLarge,
-        _ => Reason::OutOfRange,
-    }
-}
 
 fn undefined(reason: Reason) -> Effect
     ensures { result ≡ Effect.Undefined (expression.fault reason) }
@@ -37,21 +22,21 @@ fn undefined(reason: Reason) -> Effect
 }
 
 // A fault, as an effect.
-fn failure(v: i64) -> Effect
+fn failure(v: Packed) -> Effect
     requires { le_z (pos 4294967296) v ≡ true }
     ensures { result ≡ Effect.Undefined (expression.fault (coding.reason_numbered (nat_abs v - 4294967296))) }
 {
-    undefined(reason_numbered(v as usize - 4294967296))
+    undefined(v.reason())
 }
 
 // What a condition does, by its truth.
-fn passed(v: i64) -> Effect
+fn passed(v: Packed) -> Effect
     ensures { result ≡ spec.pass (coding.decided v) }
 {
-    if is_fault(v) {
+    if v.is_fault() {
         return failure(v);
     }
-    if v == 1 {
+    if v.is_true() {
         Effect::Unchanged
     } else {
         undefined(Reason::ConditionFalse)
@@ -59,16 +44,15 @@ fn passed(v: i64) -> Effect
 }
 
 // A value stored to a cell.
-fn stored(c: usize, v: i64) -> Effect
-    requires { T (coding.is_code v) }
+fn stored(c: usize, v: Packed) -> Effect
     ensures { result ≡ spec.store_to (expression.at c) (coding.evaluated v) }
 {
-    if is_fault(v) {
+    if v.is_fault() {
         return failure(v);
     }
     Effect::Stored {
         cell: c,
-        value: v as i32,
+        value: v.unpacked(),
     }
 }
 
@@ -81,22 +65,21 @@ fn shifted(c: usize, i: usize) -> usize
 }
 
 // Puts a value into a cell, past the end nowhere; whether it is one.
-fn put(memory: &mut [i32], c: usize, v: i64) -> bool
-    requires { T (coding.is_code v) }
+fn put(memory: &mut [i32], c: usize, v: Packed) -> bool
     ensures { coding.Follows memory.old (spec.store_to (expression.at c) (coding.evaluated v)) result memory.new }
 {
-    if is_fault(v) {
+    if v.is_fault() {
         return false;
     }
     if c < memory.len() {
-        memory[c] = v as i32;
+        memory[c] = v.unpacked();
     }
     true
 }
 
 impl Machine<'_> {
-    // The index of a store, as one number.
-    fn store_index(self, memory: &[i32; MEMORY], x: u16, i: u16) -> i64
+    // The index of a store.
+    fn store_index(self, memory: &[i32; MEMORY], x: u16, i: u16) -> Packed
         ensures { (graph : List ℕ) → coding.IndexIn self.entry.code.now memory.now x (arith_at (made.entries_in self.entry.code.now graph) i) result }
     {
         let v = self.any_operand(memory, i);
@@ -119,11 +102,11 @@ impl Machine<'_> {
     {
         let index = self.store_index(memory, x, i);
         let v = self.any_operand(memory, a);
-        if is_fault(index) {
+        if index.is_fault() {
             return failure(index);
         }
         stored(
-            shifted(prepared::first_cell(self.code, x), index as usize),
+            shifted(prepared::first_cell(self.code, x), index.index()),
             v,
         )
     }
@@ -171,13 +154,13 @@ impl Machine<'_> {
             (stores x (arith_at (made.entries_in self.entry.code.now graph) i) (arith_at (made.entries_in self.entry.code.now graph) a)) result memory.new }
     {
         let k = self.store_index(memory, x, i);
-        if is_fault(k) {
+        if k.is_fault() {
             return false;
         }
         let v = self.any_operand(memory, a);
         put(
             memory,
-            shifted(prepared::first_cell(self.code, x), k as usize),
+            shifted(prepared::first_cell(self.code, x), k.index()),
             v,
         )
     }
@@ -191,9 +174,9 @@ impl Machine<'_> {
             ActionNode::Nothing => true,
             ActionNode::Assign(x, a) => self.assign(memory, x, a),
             ActionNode::Store(x, i, a) => self.store_element(memory, x, i, a),
-            ActionNode::Holds(n) => self.holds(memory, n) == 1,
-            ActionNode::Exit(n) => self.exit(memory, COMMANDS, n) == 1,
-            ActionNode::Guard(n) => self.holds(memory, n) == 1,
+            ActionNode::Holds(n) => self.holds(memory, n).is_true(),
+            ActionNode::Exit(n) => self.exit(memory, COMMANDS, n).is_true(),
+            ActionNode::Guard(n) => self.holds(memory, n).is_true(),
         }
     }
 }

@@ -4,7 +4,8 @@ ghost use Rattle.program.specs.Parts.Prepared.{expressions_most, arithmetic_coun
 ghost use Rattle.program.specs.Tree.{arith_at};
 ghost use Rattle.semantics.specs.Parts.Coding.{ValueIn};
 
-use super::{MEMORY, Machine, cell_value, is_fault, operate};
+use super::packed::Packed;
+use super::{MEMORY, Machine, cell_value, operate};
 use program::prepared::CODE;
 use program::{ArithNode, decoding, prepared};
 
@@ -26,15 +27,15 @@ fn leaf_cell(code: &[u16; CODE], n: u16) -> u16
 }
 
 impl Machine<'_> {
-    // The value of arithmetic entry `n` as one number.
+    // The value of arithmetic entry `n`.
     #[cycle(operand_value)]
-    fn value(self, memory: &[i32; MEMORY], n: u16) -> i64
+    fn value(self, memory: &[i32; MEMORY], n: u16) -> Packed
         requires { n < get_or self.code.now arithmetic_count_place 0 }
         ensures { (graph : List ℕ) → ValueIn self.entry.code.now memory.now (arith_at (entries_in self.entry.code.now graph) n) result }
     {
         let what = node(self.code, n);
         match what {
-            ArithNode::Number(z) => z as i64,
+            ArithNode::Number(z) => Packed::value(z),
             ArithNode::Variable(x) => cell_value(memory, prepared::first_cell(self.code, x)),
             ArithNode::Element(x, i) => {
                 let v = self.operand(memory, i);
@@ -42,7 +43,7 @@ impl Machine<'_> {
             }
             ArithNode::Operator(o, p, q) => {
                 let a = self.operand(memory, p);
-                if is_fault(a) {
+                if a.is_fault() {
                     return a;
                 }
                 let b = self.operand(memory, q);
@@ -53,7 +54,7 @@ impl Machine<'_> {
 
     // The same of an entry that is often a leaf: its cell is read where it stands, without a call.
     #[cycle(operand_value)]
-    fn operand(self, memory: &[i32; MEMORY], n: u16) -> i64
+    fn operand(self, memory: &[i32; MEMORY], n: u16) -> Packed
         requires { n < get_or self.code.now arithmetic_count_place 0 }
         ensures { (graph : List ℕ) → ValueIn self.entry.code.now memory.now (arith_at (entries_in self.entry.code.now graph) n) result }
     {
@@ -65,22 +66,22 @@ impl Machine<'_> {
     }
 
     // The value of any entry: past the last it is the number 0.
-    pub(crate) fn any_value(self, memory: &[i32; MEMORY], n: u16) -> i64
+    pub(crate) fn any_value(self, memory: &[i32; MEMORY], n: u16) -> Packed
         ensures { (graph : List ℕ) → ValueIn self.entry.code.now memory.now (arith_at (entries_in self.entry.code.now graph) n) result }
     {
         if n < prepared::arithmetic_count(self.code) {
             return self.value(memory, n);
         }
-        0
+        Packed::value(0)
     }
 
     // The same of one that is often a leaf.
-    pub(crate) fn any_operand(self, memory: &[i32; MEMORY], n: u16) -> i64
+    pub(crate) fn any_operand(self, memory: &[i32; MEMORY], n: u16) -> Packed
         ensures { (graph : List ℕ) → ValueIn self.entry.code.now memory.now (arith_at (entries_in self.entry.code.now graph) n) result }
     {
         if n < prepared::arithmetic_count(self.code) {
             return self.operand(memory, n);
         }
-        0
+        Packed::value(0)
     }
 }

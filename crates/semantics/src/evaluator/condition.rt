@@ -6,14 +6,15 @@ ghost use Rattle.program.specs.Syntax as syntax;
 ghost use Rattle.program.specs.Tree.{arith_at, boolean_below, boolean_trees, command_below, command_trees};
 ghost use Rattle.semantics.specs.Parts.Coding.{TruthIn};
 
+use super::packed::Packed;
 use super::{MEMORY, Machine, both, compare, negated};
 use program::prepared::CONDITIONS;
 use program::{BooleanNode, CommandNode, prepared};
 use signs::Comparison;
 
 impl Machine<'_> {
-    // A comparison of two arithmetic entries, as one number.
-    fn comparison(self, memory: &[i32; MEMORY], o: Comparison, p: u16, q: u16) -> i64
+    // A comparison of two arithmetic entries.
+    fn comparison(self, memory: &[i32; MEMORY], o: Comparison, p: u16, q: u16) -> Packed
         ensures { (graph : List ℕ) (k : ℕ) → TruthIn self.entry.code.now memory.now
             (syntax.comparison k o (arith_at (entries_in self.entry.code.now graph) p) (arith_at (entries_in self.entry.code.now graph) q)) result }
     {
@@ -22,14 +23,14 @@ impl Machine<'_> {
         compare(o, a, b)
     }
 
-    // The truth of boolean entry `n`, a part of entry `bound`, as one number.
-    pub(crate) fn truth(self, memory: &[i32; MEMORY], bound: u16, n: u16) -> i64
+    // The truth of boolean entry `n`, a part of entry `bound`.
+    pub(crate) fn truth(self, memory: &[i32; MEMORY], bound: u16, n: u16) -> Packed
         ensures { (graph : List ℕ) → TruthIn self.entry.code.now memory.now
             (boolean_below (boolean_trees (entries_in self.entry.code.now graph) bound) n) result }
     {
         let node = prepared::boolean_node(self.code, bound, n);
         match node {
-            BooleanNode::True => 1,
+            BooleanNode::True => Packed::truth(true),
             BooleanNode::Comparison(o, p, q) => self.comparison(memory, o, p, q),
             BooleanNode::Both(p, q) => {
                 let a = self.truth(memory, n, p);
@@ -38,7 +39,11 @@ impl Machine<'_> {
             }
             BooleanNode::AndThen(p, q) => {
                 let a = self.truth(memory, n, p);
-                if a == 1 { self.truth(memory, n, q) } else { a }
+                if a.is_true() {
+                    self.truth(memory, n, q)
+                } else {
+                    a
+                }
             }
             BooleanNode::Not(p) => {
                 let a = self.truth(memory, n, p);
@@ -48,7 +53,7 @@ impl Machine<'_> {
     }
 
     // The same of a whole entry that is often a comparison, which is worked out where it stands.
-    pub(crate) fn holds(self, memory: &[i32; MEMORY], n: u16) -> i64
+    pub(crate) fn holds(self, memory: &[i32; MEMORY], n: u16) -> Packed
         ensures { (graph : List ℕ) → TruthIn self.entry.code.now memory.now
             (boolean_below (boolean_trees (entries_in self.entry.code.now graph) 256) n) result }
     {
@@ -59,8 +64,8 @@ impl Machine<'_> {
         }
     }
 
-    // The condition for leaving a do whose operand is command entry `n`, a part of entry `bound`, as one number.
-    pub(crate) fn exit(self, memory: &[i32; MEMORY], bound: u16, n: u16) -> i64
+    // The condition for leaving a do whose operand is command entry `n`, a part of entry `bound`.
+    pub(crate) fn exit(self, memory: &[i32; MEMORY], bound: u16, n: u16) -> Packed
         ensures { TruthIn self.entry.code.now memory.now
             (done (command_below (command_trees (entries_in self.entry.code.now self.entry.graph.now) bound) n)) result }
     {
@@ -75,7 +80,7 @@ impl Machine<'_> {
                 let b = self.exit(memory, n, q);
                 both(a, b)
             }
-            _ => 1,
+            _ => Packed::truth(true),
         }
     }
 }

@@ -4,24 +4,25 @@ ghost use Rattle.program.specs.Parts.Prepared as made;
 ghost use Rattle.semantics.specs.Parts.Coding as coding;
 ghost use Rattle.semantics.specs.Parts.Selecting as parts;
 
+use super::packed::Packed;
 use super::{MEMORY, Machine, both, negated};
 use program::{ActionNode, prepared};
 
 impl Machine<'_> {
-    // The truth of an edge's own guard, as one number; of an edge that is no guard's, true.
-    pub(crate) fn own(self, memory: &[i32; MEMORY], e: u16) -> i64
+    // The truth of an edge's own guard; of an edge that is no guard's, true.
+    pub(crate) fn own(self, memory: &[i32; MEMORY], e: u16) -> Packed
         ensures { coding.TruthIn self.entry.code.now memory.now
             (made.own_in (made.entries_in self.entry.code.now self.entry.graph.now) (made.action_in self.entry.graph.now e)) result }
     {
         let action = prepared::action(self.graph, e);
         match action {
             ActionNode::Guard(n) => self.holds(memory, n),
-            _ => 1,
+            _ => Packed::truth(true),
         }
     }
 
     // A truth so far, and that the guard of edge `k` fails, where the edge leaves a node.
-    fn and_fails(self, memory: &[i32; MEMORY], node: u16, k: u16, v: i64) -> i64
+    fn and_fails(self, memory: &[i32; MEMORY], node: u16, k: u16, v: Packed) -> Packed
         ensures { parts.FailsAfter self.entry.code.now memory.now (parts.guard_at (made.entries_in self.entry.code.now self.entry.graph.now) self.entry.graph.now node k) v result }
     {
         if prepared::edge_source(self.graph, k) == node {
@@ -32,13 +33,13 @@ impl Machine<'_> {
     }
 
     // The truth of an edge's guard after those of the lower edges out of its node, all worked out, its own last.
-    pub(crate) fn selected(self, memory: &[i32; MEMORY], e: u16) -> i64
+    pub(crate) fn selected(self, memory: &[i32; MEMORY], e: u16) -> Packed
         ensures { coding.TruthIn self.entry.code.now memory.now
             (graphs.selected (made.guards_in (made.entries_in self.entry.code.now self.entry.graph.now) self.entry.graph.now (made.source_in self.entry.graph.now e) e)
             (made.own_in (made.entries_in self.entry.code.now self.entry.graph.now) (made.action_in self.entry.graph.now e))) result }
     {
         let node = prepared::edge_source(self.graph, e);
-        let mut v: i64 = 1;
+        let mut v = Packed::truth(true);
         for k in 0..e {
             v = self.and_fails(memory, node, k, v);
         }

@@ -9,7 +9,6 @@ use Rattle.program.specs.Graph.{done}
 use Rattle.program.specs.declared.CommandNode.{CommandNode}
 use Rattle.program.proofs.Forms.{CommandParts}
 use Rattle.program.proofs.Laws.{command_told, command_lower, boolean_whole}
-use Rattle.semantics.proofs.Coded.{handed}
 use Rattle.semantics.proofs.Keys.{left_at_once}
 use Rattle.semantics.proofs.Valued.{true_holds, negation_holds, conjunction_holds}
 use Rattle.semantics.proofs.evaluator.Machine.+exit.Goals as goal
@@ -28,15 +27,14 @@ exit-b-requires t c = (lower t (goal.at.exit-b-requires t c).After-command_node-
 pub returns-in-Guarded : goal.returns-in-Guarded
 unfolding command_made done
 returns-in-Guarded t c =
-    rw (handed c.negated.result c.negated.type_inv, command_told _ _ _ (c.command_node-node.ensures c.args.self.code.now) c.in-Guarded.is, boolean_whole c.args.self.code.now c.args.self.graph.now)
-    (negation_holds _ (c.holds-a.ensures _) (rw (handed c.holds-a.result c.holds-a.type_inv) at c.negated.ensures))
+    rw (command_told _ _ _ (c.command_node-node.ensures c.args.self.code.now) c.in-Guarded.is, boolean_whole c.args.self.code.now c.args.self.graph.now)
+    (negation_holds _ (c.holds-a.ensures _) c.negated.ensures)
 
 pub returns-in-Choice : goal.returns-in-Choice
 unfolding command_made done
 returns-in-Choice t c =
-    rw (handed c.both.result c.both.type_inv, command_told _ _ _ (c.command_node-node.ensures c.args.self.code.now) c.in-Choice.is)
-    (conjunction_holds _ c.exit-a.ensures c.exit-b.ensures
-    (rw (handed c.exit-a.result c.exit-a.type_inv, handed c.exit-b.result c.exit-b.type_inv) at c.both.ensures))
+    rw (command_told _ _ _ (c.command_node-node.ensures c.args.self.code.now) c.in-Choice.is)
+    (conjunction_holds _ c.exit-a.ensures c.exit-b.ensures c.both.ensures)
 
 pub returns-in_default : goal.returns-in_default
-returns-in_default t c = rw (command_told _ _ _ (c.command_node-node.ensures c.args.self.code.now) refl, left_at_once _ _ c.command_node-node.result (search rules)) (true_holds _)
+returns-in_default t c = rw (command_told _ _ _ (c.command_node-node.ensures c.args.self.code.now) refl, left_at_once _ _ c.command_node-node.result (search rules)) (true_holds _ c.truth.ensures)

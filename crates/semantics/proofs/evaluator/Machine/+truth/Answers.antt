@@ -7,7 +7,7 @@ use Rattle.program.specs.Tree.{boolean_made}
 use Rattle.program.specs.declared.BooleanNode.{BooleanNode}
 use Rattle.program.proofs.Forms.{BooleanParts}
 use Rattle.program.proofs.Laws.{boolean_told, boolean_lower}
-use Rattle.semantics.proofs.Coded.{handed, one_decided, other_decided}
+use Rattle.semantics.proofs.Coded.{tested, one_decided, other_decided}
 use Rattle.semantics.proofs.Valued.{true_holds, negation_holds, conjunction_holds, short_right, short_left}
 use Rattle.semantics.proofs.evaluator.Machine.+truth.Goals as goal
 use Rattle.semantics.proofs.evaluator.Machine.+truth.Goals.{After-boolean_node-node}
@@ -25,42 +25,41 @@ truth-b-requires t c = (lower t (goal.at.truth-b-requires t c).After-boolean_nod
 pub truth-a-requires-in-AndThen : goal.truth-a-requires-in-AndThen
 truth-a-requires-in-AndThen t c = (lower t (goal.at.truth-a-requires-in-AndThen t c).After-boolean_node-node c.in-AndThen.is tt, c.requires)
 
-pub truth-requires : goal.truth-requires
-truth-requires t c = (lower t (goal.at.truth-requires t c).After-boolean_node-node c.in-AndThen.is tt, c.requires)
+pub truth-requires-then-is_true : goal.truth-requires-then-is_true
+truth-requires-then-is_true t c = (lower t (goal.at.truth-requires-then-is_true t c).After-boolean_node-node c.in-AndThen.is tt, c.requires)
 
 pub truth-a-requires-in-Not : goal.truth-a-requires-in-Not
 truth-a-requires-in-Not t c = (lower t (goal.at.truth-a-requires-in-Not t c).After-boolean_node-node c.in-Not.is tt, c.requires)
 
 pub returns-in-True : goal.returns-in-True
 unfolding boolean_made
-returns-in-True t c graph = rw (boolean_told _ _ _ (c.boolean_node-node.ensures graph) c.in-True.is) (true_holds _)
+returns-in-True t c graph = rw (boolean_told _ _ _ (c.boolean_node-node.ensures graph) c.in-True.is) (true_holds _ c.truth.ensures)
 
 pub returns-in-Comparison : goal.returns-in-Comparison
 unfolding boolean_made
 returns-in-Comparison t c graph =
-    rw (handed c.comparison.result c.comparison.type_inv, boolean_told _ _ _ (c.boolean_node-node.ensures graph) c.in-Comparison.is) (c.comparison.ensures graph _)
+    rw (boolean_told _ _ _ (c.boolean_node-node.ensures graph) c.in-Comparison.is) (c.comparison.ensures graph _)
 
 pub returns-in-Both : goal.returns-in-Both
 unfolding boolean_made
 returns-in-Both t c graph =
-    rw (handed c.both.result c.both.type_inv, boolean_told _ _ _ (c.boolean_node-node.ensures graph) c.in-Both.is)
-    (conjunction_holds _ (c.truth-a.ensures graph) (c.truth-b.ensures graph)
-    (rw (handed c.truth-a.result c.truth-a.type_inv, handed c.truth-b.result c.truth-b.type_inv) at c.both.ensures))
+    rw (boolean_told _ _ _ (c.boolean_node-node.ensures graph) c.in-Both.is)
+    (conjunction_holds _ (c.truth-a.ensures graph) (c.truth-b.ensures graph) c.both.ensures)
 
-pub returns-then-a-eq1 : goal.returns-then-a-eq1
+pub returns-then-is_true : goal.returns-then-is_true
 unfolding boolean_made
-returns-then-a-eq1 t c graph =
-    rw (handed c.truth.result c.truth.type_inv, boolean_told _ _ _ (c.boolean_node-node.ensures graph) c.in-AndThen.is)
-    (short_right _ (c.truth-a-in-AndThen.ensures graph) (one_decided c.truth-a-in-AndThen.result record { sfits = c.truth-a-in-AndThen.type_inv } c.if-a-eq1.true) (c.truth.ensures graph))
+returns-then-is_true t c graph =
+    rw (boolean_told _ _ _ (c.boolean_node-node.ensures graph) c.in-AndThen.is)
+    (short_right _ (c.truth-a-in-AndThen.ensures graph) (one_decided _ (tested c.is_true.ensures c.if-is_true.true)) (c.truth-then-is_true.ensures graph))
 
-pub returns-else-a-eq1 : goal.returns-else-a-eq1
+pub returns-else-is_true : goal.returns-else-is_true
 unfolding boolean_made
-returns-else-a-eq1 t c graph =
-    rw (handed c.truth-a-in-AndThen.result c.truth-a-in-AndThen.type_inv, boolean_told _ _ _ (c.boolean_node-node.ensures graph) c.in-AndThen.is)
-    (short_left _ (c.truth-a-in-AndThen.ensures graph) (λ y. other_decided c.truth-a-in-AndThen.result y c.if-a-eq1.false))
+returns-else-is_true t c graph =
+    rw (boolean_told _ _ _ (c.boolean_node-node.ensures graph) c.in-AndThen.is)
+    (short_left _ (c.truth-a-in-AndThen.ensures graph) (λ y. other_decided c.truth-a-in-AndThen.result y (tested c.is_true.ensures c.if-is_true.false)))
 
 pub returns-in-Not : goal.returns-in-Not
 unfolding boolean_made
 returns-in-Not t c graph =
-    rw (handed c.negated.result c.negated.type_inv, boolean_told _ _ _ (c.boolean_node-node.ensures graph) c.in-Not.is)
-    (negation_holds _ (c.truth-a-in-Not.ensures graph) (rw (handed c.truth-a-in-Not.result c.truth-a-in-Not.type_inv) at c.negated.ensures))
+    rw (boolean_told _ _ _ (c.boolean_node-node.ensures graph) c.in-Not.is)
+    (negation_holds _ (c.truth-a-in-Not.ensures graph) c.negated.ensures)

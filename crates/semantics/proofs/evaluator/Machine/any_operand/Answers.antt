@@ -5,4 +5,4 @@ use Rattle.semantics.proofs.Valued.{past_valued}
 use Rattle.semantics.proofs.evaluator.Machine.any_operand.Goals as goal
 
 pub returns : goal.returns
-returns c graph = past_valued _ (λ ns coded. past_tree _ _ graph coded (omega (arith, c.if-n-arithmetic_count.false, c.arithmetic_count.ensures)))
+returns c graph = past_valued _ (λ ns coded. past_tree _ _ graph coded (omega (arith, c.if-n-arithmetic_count.false, c.arithmetic_count.ensures))) c.value.ensures

@@ -2,14 +2,13 @@
 use mathlib.Core.Path.{sym, ◌∙◌}
 use Rattle.program.specs.Parts.Prepared.{edge_meaning}
 use Rattle.program.proofs.Laws.{after_guard, after_other}
-use Rattle.semantics.proofs.Coded.{handed}
 use Rattle.semantics.proofs.Effects.{test_effect}
 use Rattle.semantics.proofs.evaluator.Machine.edge_effect.Goals as goal
 
 pub returns-then-guards : goal.returns-then-guards
 unfolding edge_meaning
 returns-then-guards c =
-    rw (after_guard _ _ _ (sym c.guards.ensures ∙ c.if-guards.true), rw (handed c.selected-v.result c.selected-v.type_inv) at c.passed.ensures) (test_effect c.selected-v.ensures)
+    rw (after_guard _ _ _ (sym c.guards.ensures ∙ c.if-guards.true), c.passed.ensures) (test_effect c.selected-v.ensures)
 
 pub returns : goal.returns
 unfolding edge_meaning

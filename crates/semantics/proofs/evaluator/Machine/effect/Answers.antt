@@ -1,7 +1,6 @@
 -- `Machine::effect`: by what the action is.
 use Rattle.program.specs.Parts.Prepared.{decoded_meaning}
 use Rattle.program.proofs.Laws.{boolean_whole, command_whole}
-use Rattle.semantics.proofs.Coded.{handed}
 use Rattle.semantics.proofs.Effects.{no_effect, test_effect}
 use Rattle.semantics.proofs.evaluator.Machine.effect.Goals as goal
 
@@ -20,17 +19,17 @@ returns-in-Store c = rw c.in-Store.is (c.element_stored.ensures _)
 pub returns-in-Holds : goal.returns-in-Holds
 unfolding decoded_meaning
 returns-in-Holds c =
-    rw (c.in-Holds.is, boolean_whole c.args.self.code.now c.args.self.graph.now, rw (handed c.truth.result c.truth.type_inv) at c.passed.ensures)
+    rw (c.in-Holds.is, boolean_whole c.args.self.code.now c.args.self.graph.now, c.passed.ensures)
     (test_effect (c.truth.ensures _))
 
 pub returns-in-Exit : goal.returns-in-Exit
 unfolding decoded_meaning
 returns-in-Exit c =
-    rw (c.in-Exit.is, command_whole c.args.self.code.now c.args.self.graph.now, rw (handed c.exit.result c.exit.type_inv) at c.passed-in-Exit.ensures)
+    rw (c.in-Exit.is, command_whole c.args.self.code.now c.args.self.graph.now, c.passed-in-Exit.ensures)
     (test_effect c.exit.ensures)
 
 pub returns-in-Guard : goal.returns-in-Guard
 unfolding decoded_meaning
 returns-in-Guard c =
-    rw (c.in-Guard.is, boolean_whole c.args.self.code.now c.args.self.graph.now, rw (handed c.truth-in-Guard.result c.truth-in-Guard.type_inv) at c.passed-in-Guard.ensures)
+    rw (c.in-Guard.is, boolean_whole c.args.self.code.now c.args.self.graph.now, c.passed-in-Guard.ensures)
     (test_effect (c.truth-in-Guard.ensures _))

@@ -7,7 +7,6 @@ use Rattle.program.specs.declared.ActionNode.{ActionNode}
 use Rattle.program.specs.declared.ActionNode.TheVariants.{Nothing, Assign, Store, Holds, Exit, Guard}
 use Rattle.program.specs.Syntax.{truth}
 use Rattle.program.proofs.Laws.{boolean_whole}
-use Rattle.semantics.proofs.Coded.{handed}
 use Rattle.semantics.proofs.Valued.{true_holds}
 use Rattle.semantics.proofs.evaluator.Machine.own.Goals as goal
 
@@ -22,9 +21,9 @@ no_guard es (Exit n) h = refl
 no_guard es (Guard n) h = absurd (h n refl)
 
 pub returns-in_default : goal.returns-in_default
-returns-in_default c = rw (sym c.action-action.ensures, no_guard _ _ c.in_default.not-Guard) (true_holds 0)
+returns-in_default c = rw (sym c.action-action.ensures, no_guard _ _ c.in_default.not-Guard) (true_holds 0 c.truth.ensures)
 
 pub returns-in-Guard : goal.returns-in-Guard
 unfolding own_in
 returns-in-Guard c =
-    rw (handed c.holds.result c.holds.type_inv, sym c.action-action.ensures ∙ c.in-Guard.is, boolean_whole c.args.self.code.now c.args.self.graph.now) (c.holds.ensures _)
+    rw (sym c.action-action.ensures ∙ c.in-Guard.is, boolean_whole c.args.self.code.now c.args.self.graph.now) (c.holds.ensures _)

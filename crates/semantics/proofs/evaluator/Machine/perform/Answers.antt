@@ -22,16 +22,16 @@ pub returns-in-Holds : goal.returns-in-Holds
 unfolding decoded_meaning
 returns-in-Holds c =
     rw (c.in-Holds.is, boolean_whole c.args.self.code.now c.args.self.graph.now)
-    (performs (test_effect (c.holds.ensures _)) (held _ c.holds.result (record { sfits = c.holds.type_inv })))
+    (performs (test_effect (c.holds.ensures _)) (held _ c.holds.result c.is_true.ensures))
 
 pub returns-in-Exit : goal.returns-in-Exit
 unfolding decoded_meaning
 returns-in-Exit c =
     rw (c.in-Exit.is, command_whole c.args.self.code.now c.args.self.graph.now)
-    (performs (test_effect c.exit.ensures) (held _ c.exit.result (record { sfits = c.exit.type_inv })))
+    (performs (test_effect c.exit.ensures) (held _ c.exit.result c.is_true-in-Exit.ensures))
 
 pub returns-in-Guard : goal.returns-in-Guard
 unfolding decoded_meaning
 returns-in-Guard c =
     rw (c.in-Guard.is, boolean_whole c.args.self.code.now c.args.self.graph.now)
-    (performs (test_effect (c.holds-in-Guard.ensures _)) (held _ c.holds-in-Guard.result (record { sfits = c.holds-in-Guard.type_inv })))
+    (performs (test_effect (c.holds-in-Guard.ensures _)) (held _ c.holds-in-Guard.result c.is_true-in-Guard.ensures))

@@ -5,7 +5,7 @@ use lib.ListN.{get_or}
 use Rattle.program.specs.Parts.Prepared.{edge_count_place}
 use Rattle.program.proofs.Laws.{next_is_followed, next_is_beyond}
 use Rattle.semantics.specs.Parts.Selecting.{Fails}
-use Rattle.semantics.proofs.Coded.{tested, one_decided, other_bits}
+use Rattle.semantics.proofs.Coded.{tested, one_decided}
 use Rattle.semantics.proofs.Tested.{known_holds, fault_holds_not, fault_fails, known_fails, own_truth, none_holds, one_holds, none_defined}
 use Rattle.semantics.proofs.running.Runner.first_true.Goals as goal
 use Rattle.semantics.proofs.running.Runner.first_true.Goals.{In-loop-k}
@@ -14,16 +14,16 @@ use Rattle.semantics.proofs.running.Runner.first_true.Goals.{In-loop-k}
 there : (c : In-loop-k) → c.loop-k.k < get_or c.args.self.machine.graph.now edge_count_place 0
 there c = omega (arith, c.loop-k-test.true, c.edge_count-count.ensures)
 
-pub returns-then-v-eq1 : goal.returns-then-v-eq1
-returns-then-v-eq1 c ns g node p numbers o =
-    let truth = own_truth p numbers (omega (arith, p.edges, there (goal.at.returns-then-v-eq1 c).In-loop-k)) c.own-v.ensures in
-    one_holds p _ o c.loop-k.k (c.loop-k.invariant ns g node p numbers o) (there (goal.at.returns-then-v-eq1 c).In-loop-k)
-    (known_holds truth (one_decided c.own-v.result (record { sfits = c.own-v.type_inv }) c.if-v-eq1.true))
+pub returns-then-is_true : goal.returns-then-is_true
+returns-then-is_true c ns g node p numbers o =
+    let truth = own_truth p numbers (omega (arith, p.edges, there (goal.at.returns-then-is_true c).In-loop-k)) c.own-v.ensures in
+    one_holds p _ o c.loop-k.k (c.loop-k.invariant ns g node p numbers o) (there (goal.at.returns-then-is_true c).In-loop-k)
+    (known_holds truth (one_decided _ (tested c.is_true.ensures c.if-is_true.true)))
 
 pub returns-then-is_fault : goal.returns-then-is_fault
 returns-then-is_fault c ns g node p numbers o =
     let truth = own_truth p numbers (omega (arith, p.edges, there (goal.at.returns-then-is_fault c).In-loop-k)) c.own-v.ensures in
-    let fault = tested c.own-v.result (record { sfits = c.own-v.type_inv }) c.is_fault.ensures c.if-is_fault.true in
+    let fault = tested c.is_fault.ensures c.if-is_fault.true in
     none_defined p _ o c.loop-k.k (c.loop-k.invariant ns g node p numbers o) (there (goal.at.returns-then-is_fault c).In-loop-k) (fault_fails truth fault) (fault_holds_not truth fault)
 
 pub loop-k-smaller : goal.loop-k-smaller
@@ -35,10 +35,10 @@ pub loop-k-preserved : goal.loop-k-preserved
 unfolding Fails
 loop-k-preserved c ns g node p numbers o =
     let truth = own_truth p numbers (omega (arith, p.edges, there (goal.at.loop-k-preserved c).In-loop-k)) c.own-v.ensures in
-    let sound = tested c.own-v.result (record { sfits = c.own-v.type_inv }) c.is_fault.ensures c.if-is_fault.false in
+    let sound = tested c.is_fault.ensures c.if-is_fault.false in
     rw c.next_edge-k.ensures
     (next_is_followed c.args.self.linked node _ c.loop-k.k (there (goal.at.loop-k-preserved c).In-loop-k) (c.loop-k.invariant ns g node p numbers o)
-    (known_fails truth sound (other_bits c.own-v.result c.if-v-eq1.false)))
+    (known_fails truth sound (tested c.is_true.ensures c.if-is_true.false)))
 
 pub returns : goal.returns
 returns c ns g node p numbers o =

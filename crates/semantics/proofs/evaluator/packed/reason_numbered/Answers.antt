@@ -1,4 +1,4 @@
--- `evaluator::action::reason_numbered`: each arm is the list's element at its number.
+-- `evaluator::packed::reason_numbered`: each arm is the list's element at its number.
 use mathlib.Core.Path.{◌≡◌, sym}
 use mathlib.Core.List.{[], ◌∷◌}
 use mathlib.Core.Logic.{⊎_elim}
@@ -8,7 +8,7 @@ use native.Mathlib.Omega.{arith}
 use lib.ListN.{get_or-eq_default}
 use Rattle.signs.specs.declared.Reason.TheVariants.{ConditionFalse, DivisorZero, ExponentNegative, IndexNegative, IndexTooLarge, OutOfRange}
 use Rattle.semantics.specs.Parts.Coding.{reason_numbered}
-use Rattle.semantics.proofs.evaluator.action.reason_numbered.Goals as goal
+use Rattle.semantics.proofs.evaluator.packed.reason_numbered.Goals as goal
 
 pub returns-then-k-le31 : goal.returns-then-k-le31
 unfolding reason_numbered
