@@ -23,6 +23,8 @@ use Rattle.analysis.specs.Index.{arith_indexes, boolean_indexes, any_negative}
 use Rattle.analysis.specs.Signs.{signs_in}
 use Rattle.analysis.specs.Soundness.{is_negative_index}
 use Rattle.analysis.proofs.Values.{value_sound}
+use Rattle.program.proofs.Laws.{arith_told, boolean_told, command_told, arith_whole, boolean_whole, command_whole}
+use Rattle.semantics.proofs.Keys.{left_at_once}
 
 -- some set of a list has minus: the first or one of the others; of two lists, one after the other
 pub any_first : (set : ℕ) (sets : List ℕ) → any_negative (set ∷ sets) ≡ (has set Minus || any_negative sets)
@@ -188,3 +190,6 @@ module _ (ns : List ℕ) (m : List ℤ) where
       let named = and_yes (boolean_named ns a) (boolean_named ns b) t in
       short_circuit_minus k a b (truth_minus a named.0) (truth_minus b named.1) f e u
   truth_minus (negation k a) t f e u = negation_minus k a (truth_minus a t) f e u
+
+-- what an entry's tree is by how it was decoded, and what a list's parts have: by these the arms of the evaluator of indexes are answered
+pub ruleset in_parts = (arith_told, boolean_told, command_told, arith_whole, boolean_whole, command_whole, left_at_once, any_first, any_append)

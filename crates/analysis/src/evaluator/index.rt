@@ -23,7 +23,7 @@ impl Machine<'_> {
     }
 
     // Whether one in arithmetic entry `n`, a part of entry `bound`, may be.
-    #[tactic(auto, unfolding(program::specs::Tree::arith_made, crate::specs::Index::arith_indexes, crate::specs::Index::any_negative, signs::specs::Lists::any_of), using(program::proofs::Laws::arith_told, crate::proofs::Negative::any_first, crate::proofs::Negative::any_append))]
+    #[tactic(auto, unfolding(program::specs::Tree::arith_made, crate::specs::Index::arith_indexes, crate::specs::Index::any_negative, signs::specs::Lists::any_of), using(crate::proofs::Negative::in_parts))]
     fn arith_negative(self, rho: &[u8; 32], bound: u16, n: u16) -> bool
         ensures { (graph : List ℕ) →
             result ≡ spec.any_negative (spec.arith_indexes rho.now (arith_below (arith_trees (entries_in self.entry.code.now graph) bound) n)) }
@@ -41,7 +41,7 @@ impl Machine<'_> {
     }
 
     // Whether one in either of two arithmetic entries may be.
-    #[tactic(auto, using(program::proofs::Laws::arith_whole))]
+    #[tactic(auto, using(crate::proofs::Negative::in_parts))]
     fn either_negative(self, rho: &[u8; 32], p: u16, q: u16) -> bool
         ensures { (graph : List ℕ) →
             result ≡ (spec.any_negative (spec.arith_indexes rho.now (arith_at (entries_in self.entry.code.now graph) p))
@@ -51,7 +51,7 @@ impl Machine<'_> {
     }
 
     // Whether one in boolean entry `n`, a part of entry `bound`, may be.
-    #[tactic(auto, unfolding(program::specs::Tree::boolean_made, crate::specs::Index::boolean_indexes, crate::specs::Index::any_negative, signs::specs::Lists::any_of), using(program::proofs::Laws::boolean_told, crate::proofs::Negative::any_append))]
+    #[tactic(auto, unfolding(program::specs::Tree::boolean_made, crate::specs::Index::boolean_indexes, crate::specs::Index::any_negative, signs::specs::Lists::any_of), using(crate::proofs::Negative::in_parts))]
     fn boolean_negative(self, rho: &[u8; 32], bound: u16, n: u16) -> bool
         ensures { (graph : List ℕ) →
             result ≡ spec.any_negative (spec.boolean_indexes rho.now (boolean_below (boolean_trees (entries_in self.entry.code.now graph) bound) n)) }
@@ -68,7 +68,7 @@ impl Machine<'_> {
     }
 
     // Whether one in the condition for leaving a do may be, whose operand is command entry `n`, a part of entry `bound`.
-    #[tactic(auto, unfolding(program::specs::Tree::command_made, program::specs::Graph::done, crate::specs::Index::boolean_indexes, crate::specs::Index::any_negative, signs::specs::Lists::any_of), using(program::proofs::Laws::command_told, program::proofs::Laws::boolean_whole, semantics::proofs::Keys::left_at_once, crate::proofs::Negative::any_append))]
+    #[tactic(auto, unfolding(program::specs::Tree::command_made, program::specs::Graph::done, crate::specs::Index::boolean_indexes, crate::specs::Index::any_negative, signs::specs::Lists::any_of), using(crate::proofs::Negative::in_parts))]
     fn exit_negative(self, rho: &[u8; 32], bound: u16, n: u16) -> bool
         ensures { result ≡ spec.any_negative (spec.boolean_indexes rho.now
             (done (command_below (command_trees (entries_in self.entry.code.now self.entry.graph.now) bound) n))) }
@@ -84,7 +84,7 @@ impl Machine<'_> {
     }
 
     // Whether the index of a store may be, or one in its index or value.
-    #[tactic(auto, using(program::proofs::Laws::arith_whole))]
+    #[tactic(auto, using(crate::proofs::Negative::in_parts))]
     fn store_negative(self, rho: &[u8; 32], i: u16, a: u16) -> bool
         ensures { (graph : List ℕ) →
             result ≡ (has (signs_in rho.now (arith_at (entries_in self.entry.code.now graph) i)) Sign.Minus
@@ -95,7 +95,7 @@ impl Machine<'_> {
     }
 
     // Whether an index expression in an action may be negative.
-    #[tactic(auto, unfolding(program::specs::Parts::Prepared::decoded_meaning, crate::specs::Index::may_be_negative, crate::specs::Index::index_sets, crate::specs::Index::any_negative, signs::specs::Lists::any_of), using(program::proofs::Laws::arith_whole, program::proofs::Laws::boolean_whole, program::proofs::Laws::command_whole, crate::proofs::Negative::any_first, crate::proofs::Negative::any_append))]
+    #[tactic(auto, unfolding(program::specs::Parts::Prepared::decoded_meaning, crate::specs::Index::may_be_negative, crate::specs::Index::index_sets, crate::specs::Index::any_negative, signs::specs::Lists::any_of), using(crate::proofs::Negative::in_parts))]
     pub(crate) fn may_be_negative(self, rho: &[u8; 32], action: ActionNode) -> bool
         ensures { result ≡ spec.may_be_negative rho.now (decoded_meaning (entries_in self.entry.code.now self.entry.graph.now) action) }
     {
