@@ -2,7 +2,7 @@
 mod action;
 mod arithmetic;
 mod condition;
-mod packed;
+pub(crate) mod packed;
 mod selection;
 
 ghost use Rattle.std.specs.Prelude.{◌≡◌, List, ℕ, ◌+◌, ◌<◌, length};
