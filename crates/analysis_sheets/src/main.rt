@@ -106,8 +106,21 @@ fn print_solving<W: Write>(out: &mut W, solving: Solving) -> io::Result<()> {
     match solving {
         Solving::Finished => printing::text(out, b"finished"),
         Solving::Full => printing::text(out, b"refused 18 at 0"),
-        Solving::Refused(x) => printing::refusal(out, x),
-        Solving::Malformed(x) => print_wrong(out, x),
+    }
+}
+
+fn print_solved<W: Write>(out: &mut W, solved: Result<Solved, Unreadable>) -> io::Result<()> {
+    match solved {
+        Ok(list) => print_solving(out, list.solving),
+        Err(x) => print_unreadable(out, x),
+    }
+}
+
+// The number of records that the solver wrote.
+fn written(solved: Result<Solved, Unreadable>) -> u16 {
+    match solved {
+        Ok(list) => list.count,
+        Err(_) => 0,
     }
 }
 
@@ -202,7 +215,7 @@ fn answer_mark<W: Write>(out: &mut W, s: &[u8], sheet: &[u8]) -> io::Result<()> 
     print_marking(out, judging::index_mark(s, sheet))
 }
 
-fn solve_by(on: u8, s: &[u8], initial: &[u8], buffer: &mut [u8]) -> Solved {
+fn solve_by(on: u8, s: &[u8], initial: &[u8], buffer: &mut [u8]) -> Result<Solved, Unreadable> {
     if on == 0 {
         solver::solve(s, initial, buffer)
     } else {
@@ -219,11 +232,11 @@ fn answer_solve<W: Write>(
     buffer: &mut [u8],
 ) -> io::Result<u16> {
     let solved = solve_by(on, s, initial, buffer);
-    let answer = solved.solving;
-    print_solving(out, answer)?;
+    print_solved(out, solved)?;
+    let count = written(solved);
     printing::text(out, b" with ")?;
-    printing::word(out, solved.count)?;
-    Ok(solved.count)
+    printing::word(out, count)?;
+    Ok(count)
 }
 
 fn answer_split<W: Write>(out: &mut W, s: &[u8], at: u32) -> io::Result<()> {
