@@ -1,5 +1,5 @@
 -- The solver's answer: its questions, and the list that it leaves in the buffer.
-use Rattle.std.specs.Prelude.{Err, Ok}
+use Rattle.std.specs.Prelude.{Result, Err, Ok}
 use Rattle.std.proofs.Common.{◌≡◌, ℕ, zero, suc, ◌+◌, ◌*◌, ◌/◌, ◌≤◌, min, Bool, false, List, [], ◌∷◌, ◌++◌, length, get_or, take, sym, refl, ap, ◌∙◌, subst, append_assoc, append-nil, mul-le-mul_left, mul-zero, mul-suc, arith, take-append-drop, length-take-le, take-add}
 use mathlib.Core.List.{foldl, flatten}
 use native.Mathlib.Nat.{mul-div-le}
@@ -19,7 +19,8 @@ use Rattle.analysis.specs.Solver.{Found, offer, descend, solution, room_of, fini
 use Rattle.analysis.specs.Parts.Solving.{found_in, Growing, Extended, Answered}
 use Rattle.analysis.specs.declared.RecordList.TheVariants.{Initial}
 use Rattle.analysis.specs.declared.Solved.{Solved}
-use Rattle.analysis.specs.declared.Solving.TheVariants.{Refused as Refuses, Malformed}
+use Rattle.analysis.specs.declared.Unreadable.{Unreadable}
+use Rattle.analysis.specs.declared.Unreadable.TheVariants.{Refused as Refuses, Malformed}
 use Rattle.analysis.specs.declared.solver.Progress.{Progress}
 
 -- ---- The list
@@ -64,11 +65,11 @@ flatten_found width (suc n) buffer = flatten_more (tabulate n (record_at width b
 
 module _ {f : Found} {before : List ℕ} where
   pub answered_found : (width : ℕ) (buffer : List ℕ) (p : Progress) {q : Progress} {index : List ℕ} → Extended width before q buffer index p → found_in width buffer p ≡ f
-      → {r : Solved} → r ≡ record { solving = finished_or p.full; count = p.count } → Answered (Ok tt) (Ok tt) f before buffer r
+      → {r : Solved} → r ≡ record { solving = finished_or p.full; count = p.count } → Answered (Ok tt) (Ok tt) f before buffer (Ok r)
   unfolding solved_with buffer_with found_in over
   answered_found width buffer p x e {r} same =
       record {
-        reply = same ∙ ap (λ (n : ℕ). record { solving = finished_or p.full; count = n }) (sym (length_tabulate p.count (record_at width buffer))) ∙ ap (solved_with (Ok tt) (Ok tt)) e;
+        reply = ap Ok (same ∙ ap (λ (n : ℕ). record { solving = finished_or p.full; count = n }) (sym (length_tabulate p.count (record_at width buffer)))) ∙ ap (solved_with (Ok tt) (Ok tt)) e;
         buffer = laid ∙ ap (λ (v : Found). buffer_with (Ok tt) (Ok tt) v before) e;
       }
     where
@@ -79,17 +80,17 @@ module _ {f : Found} {before : List ℕ} where
       laid = rw (flatten_found width p.count buffer, long, ← x.past) (sym (take-append-drop (width * p.count) buffer))
 
   -- by the answer to each question
-  pub answered_formed : {asked formed : Validity} {buffer : List ℕ} {r : Solved} → formed ≡ Ok tt → Answered asked (Ok tt) f before buffer r → Answered asked formed f before buffer r
+  pub answered_formed : {asked formed : Validity} {buffer : List ℕ} {r : Result Solved Unreadable} → formed ≡ Ok tt → Answered asked (Ok tt) f before buffer r → Answered asked formed f before buffer r
   answered_formed {asked} {formed} {buffer} {r} e a = subst (λ (v : Validity). Answered asked v f before buffer r) (sym e) a
 
-  pub answered_asked : {asked then formed : Validity} {buffer : List ℕ} {r : Solved} → asked ≡ then → Answered then formed f before buffer r → Answered asked formed f before buffer r
+  pub answered_asked : {asked then formed : Validity} {buffer : List ℕ} {r : Result Solved Unreadable} → asked ≡ then → Answered then formed f before buffer r → Answered asked formed f before buffer r
   answered_asked {asked} {then} {formed} {buffer} {r} e a = subst (λ (v : Validity). Answered v formed f before buffer r) (sym e) a
 
-  pub answered_malformed : {formed : Validity} (x : Refusal) {r : Solved} → formed ≡ Err x → r ≡ record { solving = Malformed (wrong_byte Initial x); count = 0 } → Answered (Ok tt) formed f before before r
+  pub answered_malformed : {formed : Validity} (x : Refusal) {r : Result Solved Unreadable} → formed ≡ Err x → r ≡ Err (Malformed (wrong_byte Initial x)) → Answered (Ok tt) formed f before before r
   unfolding solved_with buffer_with
   answered_malformed x {r} e p = subst (λ (v : Validity). Answered (Ok tt) v f before before r) (sym e) (record { reply = p; buffer = refl })
 
-  pub answered_refused : {asked formed : Validity} (x : Refusal) {r : Solved} → asked ≡ Err x → r ≡ record { solving = Refuses x; count = 0 } → Answered asked formed f before before r
+  pub answered_refused : {asked formed : Validity} (x : Refusal) {r : Result Solved Unreadable} → asked ≡ Err x → r ≡ Err (Refuses x) → Answered asked formed f before before r
   unfolding solved_with buffer_with
   answered_refused {asked} {formed} x {r} e p = subst (λ (v : Validity). Answered v formed f before before r) (sym e) (record { reply = p; buffer = refl })
 
@@ -108,7 +109,7 @@ unfolding initial_validity then_ask
 validity_refused s initial x e = rw e
 
 -- the clauses of the contract
-pub answered_all : (κ : Construction) (s initial buffer : List ℕ) {buffer' : List ℕ} {r : Solved}
+pub answered_all : (κ : Construction) (s initial buffer : List ℕ) {buffer' : List ℕ} {r : Result Solved Unreadable}
     → Answered (initial_validity s initial) (initial_formed (sizes s) initial) (solution (sizes s) (graph κ s) initial (room_of (sizes s) (length buffer))) buffer buffer' r
     → record { value : (r ≡ solved κ s initial buffer) × (buffer' ≡ solved_buffer κ s initial buffer); numbers : solved_numbers r ≡ solver_row κ s initial buffer }
 unfolding solver_row solved solved_buffer solution_in

@@ -73,7 +73,7 @@ verdict_asked = Readback.verdict_asked
 pub marking_row : (m n : Result Mark Unreadable) → marking_numbers m ≡ marking_numbers n → m ≡ n
 marking_row = Readback.marking_row
 
-pub solved_row : (q r : Solved) → solved_numbers q ≡ solved_numbers r → q ≡ r
+pub solved_row : (q r : Result Solved Unreadable) → solved_numbers q ≡ solved_numbers r → q ≡ r
 solved_row = Readback.solved_row
 
 pub split_row_lem : (x y : Result Split Refusal) → split_numbers x ≡ split_numbers y → x ≡ y

@@ -8,10 +8,10 @@ use Rattle.program.specs.declared.Refusal.{Refusal}
 use Rattle.program.proofs.Never.{never}
 use Rattle.program.proofs.Laws.{same_row, refusal_read, placed_ask, validity_placed}
 use Rattle.program.proofs.Places.{Placed}
-use Rattle.analysis.specs.Records.{both_whole, list_number, wrong_byte_numbers}
+use Rattle.analysis.specs.Records.{both_whole, list_number, wrong_byte_numbers, unreadable_numbers}
 use Rattle.analysis.specs.Solver.{solving_numbers, solved_numbers}
 use Rattle.analysis.specs.Splitter.{split_numbers}
-use Rattle.analysis.specs.Verdict.{verdict_by, verdict_unless_refused, unless_malformed, verdict_over, verdict, mark_numbers, verdict_numbers, unreadable_numbers, marking_numbers}
+use Rattle.analysis.specs.Verdict.{verdict_by, verdict_unless_refused, unless_malformed, verdict_over, verdict, mark_numbers, verdict_numbers, marking_numbers}
 use Rattle.analysis.specs.declared.Mark.{Mark}
 use Rattle.analysis.specs.declared.Mark.TheVariants.{Clean, Unclean}
 use Rattle.analysis.specs.declared.Unreadable.{Unreadable}
@@ -20,7 +20,7 @@ use Rattle.analysis.specs.declared.RecordList.{RecordList}
 use Rattle.analysis.specs.declared.RecordList.TheVariants.{Initial, Solution}
 use Rattle.analysis.specs.declared.Solved.{Solved}
 use Rattle.analysis.specs.declared.Solving.{Solving}
-use Rattle.analysis.specs.declared.Solving.TheVariants.{Finished, Full, Refused as Halts, Malformed as Unfit}
+use Rattle.analysis.specs.declared.Solving.TheVariants.{Finished, Full}
 use Rattle.analysis.specs.declared.Split.{Split}
 use Rattle.analysis.specs.declared.Spot.{Spot}
 use Rattle.analysis.specs.declared.Verdict.{Verdict}
@@ -120,32 +120,36 @@ marking_row m n = same_row marking_numbers (λ l. marking_read l) (marking_back 
 
 -- ---- A list solved, and a place split
 
-abbrev solved_read : List ℕ → Solved
+abbrev solved_read : List ℕ → Result Solved Unreadable
 solved_read l =
     get_or
-    (record { solving = Full; count = 0 }
-    ∷ record { solving = Full; count = 0 }
-    ∷ record { solving = cond (eqb (get_or l 0 0) 0) Finished Full; count = get_or l 1 0 }
-    ∷ record { solving = Halts (refusal_read l); count = get_or l 2 0 }
-    ∷ record { solving = Unfit (wrong_byte_read l); count = get_or l 3 0 }
+    (Ok (record { solving = Full; count = 0 })
+    ∷ Ok (record { solving = Full; count = 0 })
+    ∷ Ok (record { solving = cond (eqb (get_or l 0 0) 0) Finished Full; count = get_or l 1 0 })
+    ∷ Err (Declined (refusal_read l))
+    ∷ Err (Misshapen (wrong_byte_read l))
     ∷ [])
     (length l)
-    (record { solving = Full; count = 0 })
+    (Ok (record { solving = Full; count = 0 }))
 
-unfit_back : (list : RecordList) (at count : ℕ) → let r : Solved = record { solving = Unfit (record { list = list; offset = at }); count = count } in solved_read (solved_numbers r) ≡ r
-unfolding solved_numbers solving_numbers wrong_byte_numbers list_number
-unfit_back Initial at count = refl
-unfit_back Solution at count = refl
+unfit_back : (list : RecordList) (at : ℕ) → let r : Result Solved Unreadable = Err (Misshapen (record { list = list; offset = at })) in solved_read (solved_numbers r) ≡ r
+unfolding solved_numbers unreadable_numbers wrong_byte_numbers list_number
+unfit_back Initial at = refl
+unfit_back Solution at = refl
 
-solved_back : (x : Solving) (count : ℕ) → let r : Solved = record { solving = x; count = count } in solved_read (solved_numbers r) ≡ r
+ended_back : (x : Solving) (count : ℕ) → let r : Result Solved Unreadable = Ok (record { solving = x; count = count }) in solved_read (solved_numbers r) ≡ r
 unfolding solved_numbers solving_numbers
-solved_back Finished count = refl
-solved_back Full count = refl
-solved_back (Halts x) count = refl
-solved_back (Unfit w) count = unfit_back w.list w.offset count
+ended_back Finished count = refl
+ended_back Full count = refl
 
-pub solved_row : (q r : Solved) → solved_numbers q ≡ solved_numbers r → q ≡ r
-solved_row q r = same_row solved_numbers (λ l. solved_read l) (solved_back q.solving q.count) (solved_back r.solving r.count)
+solved_back : (r : Result Solved Unreadable) → solved_read (solved_numbers r) ≡ r
+unfolding solved_numbers unreadable_numbers
+solved_back (Ok r) = ended_back r.solving r.count
+solved_back (Err (Declined x)) = refl
+solved_back (Err (Misshapen w)) = unfit_back w.list w.offset
+
+pub solved_row : (q r : Result Solved Unreadable) → solved_numbers q ≡ solved_numbers r → q ≡ r
+solved_row q r = same_row solved_numbers (λ l. solved_read l) (solved_back q) (solved_back r)
 
 abbrev split_read : List ℕ → Result Split Refusal
 split_read l =

@@ -8,6 +8,8 @@ use Rattle.program.specs.declared.Refusal.{Refusal}
 use Rattle.analysis.specs.Abstraction.{well_formed}
 use Rattle.analysis.specs.declared.RecordList.{RecordList}
 use Rattle.analysis.specs.declared.RecordList.TheVariants.{Initial, Solution}
+use Rattle.analysis.specs.declared.Unreadable.{Unreadable}
+use Rattle.analysis.specs.declared.Unreadable.TheVariants.{Refused, Malformed}
 use Rattle.analysis.specs.declared.WrongByte.{WrongByte}
 
 -- "A start list is such records; a sheet puts a two-byte node of the graph before each": the bytes of a record of each
@@ -100,3 +102,8 @@ list_number Solution = 2
 
 unfoldable pub wrong_byte_numbers : WrongByte → List ℕ
 wrong_byte_numbers w = 17 ∷ list_number w.list ∷ w.offset ∷ []
+
+-- why lists are not read, in the same numbers: the question's number and place, or 17's
+unfoldable pub unreadable_numbers : Unreadable → List ℕ
+unreadable_numbers (Refused x) = x.number ∷ x.offset ∷ []
+unreadable_numbers (Malformed w) = wrong_byte_numbers w

@@ -1,5 +1,5 @@
 -- The solver's list, for a graph g whose names have the sizes ns (document 01, "Signs": "The solver goes through …", and question 18).
-use Rattle.std.specs.Prelude.{ℕ, zero, suc, ◌+◌, ◌/◌, min, Bool, true, false, cond, List, [], ◌∷◌, ◌++◌, length, nat_lt, slice_index_or, Err, Ok}
+use Rattle.std.specs.Prelude.{ℕ, zero, suc, ◌+◌, ◌/◌, min, Bool, true, false, cond, List, [], ◌∷◌, ◌++◌, length, nat_lt, slice_index_or, Result, Err, Ok}
 use mathlib.Core.List.{foldl, flatten}
 use Rattle.signs.specs.Lists.{passing, indices}
 use Rattle.program.specs.Asking.{then_ask, Validity}
@@ -10,12 +10,14 @@ use Rattle.program.specs.Questions.{validity}
 use Rattle.program.specs.declared.Construction.{Construction}
 use Rattle.program.specs.Meaning.{meaning}
 use Rattle.semantics.specs.Step.{leaves}
-use Rattle.analysis.specs.Records.{initial_width, record_width, records_of, record_for, node_of, memory_of, listed, initial_whole, initial_formed, wrong_byte, wrong_byte_numbers}
+use Rattle.analysis.specs.Records.{initial_width, record_width, records_of, record_for, node_of, memory_of, listed, initial_whole, initial_formed, wrong_byte, unreadable_numbers}
 use Rattle.analysis.specs.Results.{results}
 use Rattle.analysis.specs.declared.RecordList.TheVariants.{Initial}
 use Rattle.analysis.specs.declared.Solved.{Solved}
 use Rattle.analysis.specs.declared.Solving.{Solving}
-use Rattle.analysis.specs.declared.Solving.TheVariants.{Finished, Full, Refused as Refuses, Malformed}
+use Rattle.analysis.specs.declared.Solving.TheVariants.{Finished, Full}
+use Rattle.analysis.specs.declared.Unreadable.{Unreadable}
+use Rattle.analysis.specs.declared.Unreadable.TheVariants.{Refused as Refuses, Malformed}
 
 -- the records found so far, and whether one was found that had no room
 pub record Found : Type 0 where
@@ -65,10 +67,10 @@ unfoldable pub finished_or : Bool → Solving
 finished_or true = Full
 finished_or false = Finished
 
-unfoldable pub solved_with : Validity → Validity → Found → Solved
-solved_with (Ok _) (Ok _) f = record { solving = finished_or f.full; count = length f.records }
-solved_with (Ok _) (Err x) f = record { solving = Malformed (wrong_byte Initial x); count = 0 }
-solved_with (Err x) formed f = record { solving = Refuses x; count = 0 }
+unfoldable pub solved_with : Validity → Validity → Found → Result Solved Unreadable
+solved_with (Ok _) (Ok _) f = Ok (record { solving = finished_or f.full; count = length f.records })
+solved_with (Ok _) (Err x) f = Err (Malformed (wrong_byte Initial x))
+solved_with (Err x) formed f = Err (Refuses x)
 
 -- the buffer afterwards: "After 18 the buffer holds the leading records that found room"
 unfoldable pub buffer_with : Validity → Validity → Found → List ℕ → List ℕ
@@ -83,7 +85,7 @@ initial_validity s initial = then_ask (validity s) (initial_whole (sizes s) init
 unfoldable pub solution_in : Construction → List ℕ → List ℕ → List ℕ → Found
 solution_in κ s initial buffer = solution (sizes s) (graph κ s) initial (room_of (sizes s) (length buffer))
 
-unfoldable pub solved : Construction → List ℕ → List ℕ → List ℕ → Solved
+unfoldable pub solved : Construction → List ℕ → List ℕ → List ℕ → Result Solved Unreadable
 solved κ s initial buffer =
     solved_with (initial_validity s initial) (initial_formed (sizes s) initial) (solution_in κ s initial buffer)
 
@@ -91,16 +93,15 @@ unfoldable pub solved_buffer : Construction → List ℕ → List ℕ → List �
 solved_buffer κ s initial buffer =
     buffer_with (initial_validity s initial) (initial_formed (sizes s) initial) (solution_in κ s initial buffer) buffer
 
--- an answer in document 01's numbers: 0; 18; the question's number and place; 17's
+-- an end in document 01's numbers: 0; 18
 unfoldable pub solving_numbers : Solving → List ℕ
 solving_numbers Finished = 0 ∷ []
 solving_numbers Full = 18 ∷ []
-solving_numbers (Refuses x) = x.number ∷ x.offset ∷ []
-solving_numbers (Malformed w) = wrong_byte_numbers w
 
--- a reply in document 01's numbers: the answer's, then the count
-unfoldable pub solved_numbers : Solved → List ℕ
-solved_numbers r = solving_numbers r.solving ++ (r.count ∷ [])
+-- a reply in document 01's numbers: the end's, or the question's number and place, or 17's; then the count, which "comes back as zero" where there is no list
+unfoldable pub solved_numbers : Result Solved Unreadable → List ℕ
+solved_numbers (Ok r) = solving_numbers r.solving ++ (r.count ∷ [])
+solved_numbers (Err x) = unreadable_numbers x ++ (0 ∷ [])
 
 -- the row that solving into a buffer answers
 unfoldable pub solver_row : Construction → List ℕ → List ℕ → List ℕ → List ℕ

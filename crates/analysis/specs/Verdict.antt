@@ -11,7 +11,7 @@ use Rattle.program.specs.declared.Construction.TheVariants.{Nondeterministic}
 use Rattle.program.specs.Meaning.{meaning}
 use Rattle.semantics.specs.Step.{leaves}
 use Rattle.analysis.specs.Index.{may_be_negative}
-use Rattle.analysis.specs.Records.{initial_width, record_width, record_count, record_at, node_of, memory_of, has_at, whole_records, both_whole, initial_formed, solution_formed, wrong_byte, wrong_byte_numbers}
+use Rattle.analysis.specs.Records.{initial_width, record_width, record_count, record_at, node_of, memory_of, has_at, whole_records, both_whole, initial_formed, solution_formed, wrong_byte, wrong_byte_numbers, unreadable_numbers}
 use Rattle.analysis.specs.Results.{results}
 use Rattle.analysis.specs.declared.Mark.{Mark}
 use Rattle.analysis.specs.declared.Mark.TheVariants.{Clean, Unclean}
@@ -123,10 +123,6 @@ verdict_numbers (ResultMissing k e) = 42 ∷ k ∷ e ∷ []
 verdict_numbers (Accepted mark) = 0 ∷ mark_numbers mark
 
 -- an index mark by itself in the same numbers
-unfoldable pub unreadable_numbers : Unreadable → List ℕ
-unreadable_numbers (Declined x) = x.number ∷ x.offset ∷ []
-unreadable_numbers (Misshapen w) = wrong_byte_numbers w
-
 unfoldable pub marking_numbers : Result Mark Unreadable → List ℕ
 marking_numbers (Err x) = unreadable_numbers x
 marking_numbers (Ok mark) = 0 ∷ mark_numbers mark

@@ -15,9 +15,9 @@ ghost use Rattle.analysis.specs.Parts.Tabled.{Ready};
 
 use crate::evaluator::{Machine, results};
 use crate::membership::INDEX;
-use crate::{Change, RecordList, Solved, Solving, WrongByte, lists, membership, set_table};
+use crate::{Change, RecordList, Solved, Solving, Unreadable, lists, membership, set_table};
 use program::prepared::{CODE, GRAPH, NAMES_MOST};
-use program::{ActionNode, Construction, Refusal, drawing, file, prepared, validation};
+use program::{ActionNode, Construction, drawing, file, prepared, validation};
 
 // How far the list has come: how many records were found, how many there is room for, and whether one had none.
 #[derive(Clone, Copy)]
@@ -329,7 +329,7 @@ fn solve_formed(
 ) -> Solved
     requires { Ready code.now graph.now }
     ensures { (ns : List ℕ) (g : Graph) → Prepared ns g code.now graph.now
-        → parts.Answered (Ok tt) (Ok tt) (spec.solution ns g initial.now (spec.room_of ns (length buffer.old))) buffer.old buffer.new result }
+        → parts.Answered (Ok tt) (Ok tt) (spec.solution ns g initial.now (spec.room_of ns (length buffer.old))) buffer.old buffer.new (Ok result) }
 {
     let names = prepared::name_count(code);
     let mut index = [0u16; INDEX];
@@ -339,51 +339,22 @@ fn solve_formed(
     replied(descend(Machine { code, graph }, &mut index, buffer, first))
 }
 
-// The reply where question 17 is refused.
-fn malformed(x: Refusal) -> Solved
-    ensures { result ≡ record { solving = Solving.Malformed (records.wrong_byte RecordList.Initial x); count = 0 } }
-{
-    Solved {
-        solving: Solving::Malformed(WrongByte {
-            list: RecordList::Initial,
-            offset: x.offset,
-        }),
-        count: 0,
-    }
-}
-
-// The reply where another question is refused.
-fn refused(x: Refusal) -> Solved
-    ensures { result ≡ record { solving = Solving.Refused x; count = 0 } }
-{
-    Solved {
-        solving: Solving::Refused(x),
-        count: 0,
-    }
-}
-
 // Question 16, then 17, then a solution, over a prepared program.
 fn solve_prepared(
     code: &[u16; CODE],
     graph: &[u16; GRAPH],
     initial: &[u8],
     buffer: &mut [u8],
-) -> Solved
+) -> Result<Solved, Unreadable>
     requires { Ready code.now graph.now }
     ensures { (ns : List ℕ) (g : Graph) → Prepared ns g code.now graph.now
         → parts.Answered (records.initial_whole ns initial.now) (records.initial_formed ns initial.now)
         (spec.solution ns g initial.now (spec.room_of ns (length buffer.old))) buffer.old buffer.new result }
 {
     let names = prepared::name_count(code);
-    let whole = validation::ask(lists::whole(initial, names), 16, 0);
-    if let Err(x) = whole {
-        return refused(x);
-    }
-    let formed = lists::initial_formed(code, initial);
-    match formed {
-        Ok(()) => solve_formed(code, graph, initial, buffer),
-        Err(x) => malformed(x),
-    }
+    validation::ask(lists::whole(initial, names), 16, 0)?;
+    lists::readable(RecordList::Initial, lists::initial_formed(code, initial))?;
+    Ok(solve_formed(code, graph, initial, buffer))
 }
 
 // A solution of a program and a start list on the graph by a construction: through the start records at node 0, then down the list, appending what isn't listed yet.
@@ -392,25 +363,20 @@ pub fn solve_on(
     program: &[u8],
     initial: &[u8],
     buffer: &mut [u8],
-) -> Solved
+) -> Result<Solved, Unreadable>
     ensures value { (result ≡ spec.solved construction program.now initial.now buffer.old)
         × (buffer.new ≡ spec.solved_buffer construction program.now initial.now buffer.old) }
     ensures numbers { spec.solved_numbers result ≡ spec.solver_row construction program.now initial.now buffer.old }
 {
     let mut code = [0u16; CODE];
     let mut graph = [0u16; GRAPH];
-    let v = prepared::prepare_linked(construction, program, &mut code, &mut graph);
-    match v {
-        Ok(()) => {
-            set_table::put(&mut code);
-            solve_prepared(&code, &graph, initial, buffer)
-        }
-        Err(x) => refused(x),
-    }
+    prepared::prepare_linked(construction, program, &mut code, &mut graph)?;
+    set_table::put(&mut code);
+    solve_prepared(&code, &graph, initial, buffer)
 }
 
 // The same, where the caller names no construction.
-pub fn solve(program: &[u8], initial: &[u8], buffer: &mut [u8]) -> Solved
+pub fn solve(program: &[u8], initial: &[u8], buffer: &mut [u8]) -> Result<Solved, Unreadable>
     ensures value { (result ≡ spec.solved unnamed program.now initial.now buffer.old)
         × (buffer.new ≡ spec.solved_buffer unnamed program.now initial.now buffer.old) }
     ensures numbers { spec.solved_numbers result ≡ spec.solver_row unnamed program.now initial.now buffer.old }

@@ -85,8 +85,21 @@ fn print_solving<W: Write>(out: &mut W, solving: Solving) -> io::Result<()> {
     match solving {
         Solving::Finished => write!(out, "finished"),
         Solving::Full => write!(out, "refused 18 at 0"),
-        Solving::Refused(x) => printing::refusal(out, x),
-        Solving::Malformed(x) => print_wrong(out, x),
+    }
+}
+
+fn print_solved<W: Write>(out: &mut W, solved: Result<Solved, Unreadable>) -> io::Result<()> {
+    match solved {
+        Ok(list) => print_solving(out, list.solving),
+        Err(x) => print_unreadable(out, x),
+    }
+}
+
+// The number of records that the solver wrote.
+fn written(solved: Result<Solved, Unreadable>) -> u16 {
+    match solved {
+        Ok(list) => list.count,
+        Err(_) => 0,
     }
 }
 
@@ -152,7 +165,12 @@ fn answer_mark<W: Write>(out: &mut W, s: &[u8], sheet: &[u8]) -> io::Result<()> 
     print_marking(out, judging::index_mark(s, sheet))
 }
 
-fn solve_by(on: Option<Construction>, s: &[u8], initial: &[u8], buffer: &mut [u8]) -> Solved {
+fn solve_by(
+    on: Option<Construction>,
+    s: &[u8],
+    initial: &[u8],
+    buffer: &mut [u8],
+) -> Result<Solved, Unreadable> {
     match on {
         None => solver::solve(s, initial, buffer),
         Some(on) => solver::solve_on(on, s, initial, buffer),
@@ -168,10 +186,10 @@ fn answer_solve<W: Write>(
     buffer: &mut [u8],
 ) -> io::Result<u16> {
     let solved = solve_by(on, s, initial, buffer);
-    let answer = solved.solving;
-    print_solving(out, answer)?;
-    write!(out, " with {}", solved.count)?;
-    Ok(solved.count)
+    print_solved(out, solved)?;
+    let count = written(solved);
+    write!(out, " with {count}")?;
+    Ok(count)
 }
 
 fn answer_split<W: Write>(out: &mut W, s: &[u8], at: u32) -> io::Result<()> {

@@ -20,17 +20,17 @@ use Rattle.semantics.specs.declared.Ending.TheVariants.{Arrived, Spent, Stuck, R
 use Rattle.semantics.specs.declared.Outcome.{Outcome}
 use Rattle.semantics.specs.declared.Outcome.TheVariants.{Taken, Undefined, Refused as Refuses}
 use Rattle.semantics.specs.declared.Stepped.{Stepped}
-use Rattle.analysis.specs.Records.{wrong_byte_numbers}
+use Rattle.analysis.specs.Records.{wrong_byte_numbers, unreadable_numbers}
 use Rattle.analysis.specs.Solver.{solving_numbers, solved_numbers}
 use Rattle.analysis.specs.Splitter.{split_numbers}
-use Rattle.analysis.specs.Verdict.{mark_numbers, verdict_numbers, unreadable_numbers, marking_numbers}
+use Rattle.analysis.specs.Verdict.{mark_numbers, verdict_numbers, marking_numbers}
 use Rattle.analysis.specs.declared.Mark.{Mark}
 use Rattle.analysis.specs.declared.Mark.TheVariants.{Clean, Unclean}
 use Rattle.analysis.specs.declared.Unreadable.{Unreadable}
 use Rattle.analysis.specs.declared.Unreadable.TheVariants.{Refused as Unasked, Malformed as Unfit}
 use Rattle.analysis.specs.declared.Solved.{Solved}
 use Rattle.analysis.specs.declared.Solving.{Solving}
-use Rattle.analysis.specs.declared.Solving.TheVariants.{Finished, Full, Refused as SolveRefused, Malformed as SolveMalformed}
+use Rattle.analysis.specs.declared.Solving.TheVariants.{Finished, Full}
 use Rattle.analysis.specs.declared.Split.{Split}
 use Rattle.analysis.specs.declared.Verdict.{Verdict}
 use Rattle.analysis.specs.declared.Verdict.TheVariants.{Refused as Declines, Malformed, InitialMissing, ResultMissing, Accepted}
@@ -125,15 +125,18 @@ marking_head_lem (Ok mark) told = marked_head mark
 
 -- the solver
 solving_one : (r : Solving) (count : ℕ) → solver_told (solving_numbers r ++ (count ∷ [])) ≡ tell (solving_head r) (map pos (count ∷ []))
-unfolding solving_numbers wrong_byte_numbers solver_told solving_head tell
+unfolding solving_numbers solver_told solving_head tell
 solving_one Finished count = refl
 solving_one Full count = refl
-solving_one (SolveRefused x) count = refl
-solving_one (SolveMalformed w) count = refl
 
-pub solved_head : (s : Solved) → solver_told (solved_numbers s) ≡ tell (solving_head s.solving) (map pos (s.count ∷ []))
+pub solved_head : (s : Solved) → solver_told (solved_numbers (Ok s)) ≡ tell (solving_head s.solving) (map pos (s.count ∷ []))
 unfolding solved_numbers
 solved_head s = solving_one s.solving s.count
+
+pub unsolved_head : (x : Unreadable) → solver_told (solved_numbers (Err x)) ≡ tell (unreadable_head x) (map pos (0 ∷ []))
+unfolding solved_numbers unreadable_numbers wrong_byte_numbers solver_told unreadable_head tell
+unsolved_head (Unasked x) = refl
+unsolved_head (Unfit w) = refl
 
 -- figures
 pub figures_head : (f : Figures) → figures_told (figures_numbers (Ok f)) ≡ tell (Answered 0) (class_numbers f)

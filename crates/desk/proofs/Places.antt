@@ -46,8 +46,6 @@ use Rattle.analysis.specs.declared.Unreadable.TheVariants.{Refused as Unasked, M
 use Rattle.analysis.specs.declared.RecordList.{RecordList}
 use Rattle.analysis.specs.declared.RecordList.TheVariants.{Initial, Solution}
 use Rattle.analysis.specs.declared.Solved.{Solved}
-use Rattle.analysis.specs.declared.Solving.{Solving}
-use Rattle.analysis.specs.declared.Solving.TheVariants.{Refused as SolveRefused, Malformed as SolveMalformed}
 use Rattle.analysis.specs.declared.Split.{Split}
 use Rattle.analysis.specs.declared.Spot.{Spot}
 use Rattle.analysis.specs.declared.Verdict.{Verdict}
@@ -235,18 +233,13 @@ marking_told s solution =
 
 -- ---- The solver
 
-pub record SolvingTold (r : Solving) : Type 0 where
-  pub refused : (x : Refusal) → r ≡ SolveRefused x → Told 7244 x
-  pub wrong : (w : WrongByte) → r ≡ SolveMalformed w → w.offset ≤ 139264
+pub record SolvedTold (r : Result Solved Unreadable) : Type 0 where
+  pub refused : (x : Refusal) → r ≡ Err (Unasked x) → Told 7244 x
+  pub wrong : (w : WrongByte) → r ≡ Err (Unfit w) → w.offset ≤ 139264
 
-finished_told : (b : Bool) → SolvingTold (finished_or b)
-unfolding finished_or
-finished_told true = record { refused = λ x e. never (cc); wrong = λ w e. never (cc) }
-finished_told false = record { refused = λ x e. never (cc); wrong = λ w e. never (cc) }
-
-solved_with_lem : (v f : Validity) (found : Found) → Placed 7244 v → (v ≡ Ok tt → Placed 139264 f) → SolvingTold (solved_with v f found).solving
+solved_with_lem : (v f : Validity) (found : Found) → Placed 7244 v → (v ≡ Ok tt → Placed 139264 f) → SolvedTold (solved_with v f found)
 unfolding solved_with wrong_byte
-solved_with_lem (Ok _) (Ok _) found p q = finished_told found.full
+solved_with_lem (Ok _) (Ok _) found p q = record { refused = λ x e. never (cc); wrong = λ w e. never (cc) }
 solved_with_lem (Ok _) (Err y) found p q =
     record {
       refused = λ x e. never (cc);
@@ -258,7 +251,7 @@ solved_with_lem (Err y) f found p q =
       wrong = λ w e. never (cc);
     }
 
-pub solved_told : (κ : Construction) (s initial buffer : List ℕ) → SolvingTold (solved κ s initial buffer).solving
+pub solved_told : (κ : Construction) (s initial buffer : List ℕ) → SolvedTold (solved κ s initial buffer)
 unfolding solved initial_validity initial_whole initial_width
 solved_told κ s initial buffer =
     solved_with_lem _ _ _ (placed_then _ _ (validity_placed s) (λ _. placed_ask _ 16 0 tt (omega arith)))
@@ -311,12 +304,11 @@ marking_narrow s solution same =
     let told = marking_told s solution in
     record { refused = λ x e. omega (arith, (told.refused x (sym same ∙ e)).near); malformed = λ w e. omega (arith, told.wrong w (sym same ∙ e)) }
 
-pub solved_narrow : (κ : Construction) (s initial buffer : List ℕ) {r : Solved} → r ≡ solved κ s initial buffer
-    → record { refused : ((x : Refusal) → r.solving ≡ SolveRefused x → Narrow x.offset); malformed : ((w : WrongByte) → r.solving ≡ SolveMalformed w → Narrow w.offset) }
+pub solved_narrow : (κ : Construction) (s initial buffer : List ℕ) {r : Result Solved Unreadable} → r ≡ solved κ s initial buffer
+    → record { refused : ((x : Refusal) → r ≡ Err (Unasked x) → Narrow x.offset); malformed : ((w : WrongByte) → r ≡ Err (Unfit w) → Narrow w.offset) }
 solved_narrow κ s initial buffer same =
     let told = solved_told κ s initial buffer in
-    let solving = ap (λ (r : Solved). r.solving) (sym same) in
-    record { refused = λ x e. omega (arith, (told.refused x (solving ∙ e)).near); malformed = λ w e. omega (arith, told.wrong w (solving ∙ e)) }
+    record { refused = λ x e. omega (arith, (told.refused x (sym same ∙ e)).near); malformed = λ w e. omega (arith, told.wrong w (sym same ∙ e)) }
 
 pub list_narrow : (marks : List ℤ) {f : Result Figures Refusal} → f ≡ list_figures marks → (x : Refusal) → f ≡ Err x → Narrow x.offset
 list_narrow marks same x e = omega (arith, (list_placed marks x (sym same ∙ e)).near)

@@ -34,7 +34,7 @@ pub(crate) fn list_number(list: RecordList) -> u32
 }
 
 // 17, with its list and the place in it.
-pub(crate) fn of_wrong_byte(w: WrongByte) -> Head
+fn of_wrong_byte(w: WrongByte) -> Head
     requires { spec.Narrow w.offset }
     ensures { result ≡ Head.Malformed (Records.list_number w.list) w.offset }
 {

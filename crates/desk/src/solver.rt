@@ -9,7 +9,7 @@ ghost use Rattle.desk.specs.Reply as spec;
 ghost use Rattle.desk.specs.Rows as row;
 
 use crate::{Head, files, reply, sheets};
-use analysis::{Solving, WrongByte, solver, splitting};
+use analysis::{Solving, solver, splitting};
 use program::drawing;
 
 // The numbers of each row.
@@ -18,16 +18,13 @@ const SOLVER: usize = 4;
 const SPLIT: usize = 5;
 
 // How a solver ended: 18 has no place.
+#[tactic(auto, unfolding(crate::specs::Parts::Heads::solving_head))]
 fn of_solving(solving: Solving) -> Head
-    requires refused { (x : Refusal) → solving ≡ Solving.Refused x → spec.Narrow x.offset }
-    requires malformed { (w : WrongByte) → solving ≡ Solving.Malformed w → spec.Narrow w.offset }
     ensures { result ≡ heads.solving_head solving }
 {
     match solving {
         Solving::Finished => Head::Answered(0),
         Solving::Full => Head::Refused(18, 0),
-        Solving::Refused(x) => Head::Refused(x.number, x.offset as u32),
-        Solving::Malformed(w) => sheets::of_wrong_byte(w),
     }
 }
 
@@ -47,9 +44,10 @@ pub extern "C" fn pizwoter_solve(
     if reply.len() < SOLVER {
         return reply::SHORT;
     }
-    let solved = solver::solve_on(drawing::named(construction), program, initial, buffer);
-    let solving = solved.solving;
-    reply::put(of_solving(solving), &[solved.count as u32], reply)
+    match solver::solve_on(drawing::named(construction), program, initial, buffer) {
+        Ok(solved) => reply::put(of_solving(solved.solving), &[solved.count as u32], reply),
+        Err(x) => reply::put(sheets::of_unreadable(x), &[0], reply),
+    }
 }
 
 // The record and the column of a byte of a sheet.

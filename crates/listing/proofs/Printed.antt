@@ -24,10 +24,11 @@ use Rattle.analysis.specs.Solver.{Found, room_of, finished_or, solved_with, buff
 use Rattle.analysis.specs.Verdict.{index_mark, marking}
 use Rattle.analysis.specs.declared.Mark.{Mark}
 use Rattle.analysis.specs.declared.Unreadable.{Unreadable}
+use Rattle.analysis.specs.declared.Unreadable.TheVariants.{Refused as Refuses, Malformed}
 use Rattle.analysis.specs.declared.RecordList.TheVariants.{Initial}
 use Rattle.analysis.specs.declared.Solved.{Solved}
 use Rattle.analysis.specs.declared.Solving.{Solving}
-use Rattle.analysis.specs.declared.Solving.TheVariants.{Finished, Full, Refused as Refuses, Malformed}
+use Rattle.analysis.specs.declared.Solving.TheVariants.{Finished, Full}
 use Rattle.analysis.specs.declared.WrongByte.{WrongByte}
 use Rattle.analysis.proofs.Laws.{solution_list, solution_marked}
 use Rattle.analysis.proofs.Formed.{FormedList}
@@ -92,43 +93,33 @@ module _ (input : List ℕ) where
 -- ---- The solver's reply
 
 -- where the file's questions and 16 were answered yes, it has come to its end, or to 18, or to 17
-finished : (formed : Validity) (f : Found) → (solved_with (Ok tt) formed f).solving ≡ Finished → (formed ≡ Ok tt) × (f.full ≡ false)
-unfolding solved_with finished_or
-finished (Ok _) f e = (refl, by f.full e)
-  where
-    by : (b : Bool) → finished_or b ≡ Finished → b ≡ false
-    by true e = never (cc)
-    by false e = refl
-finished (Err x) f e = never (cc)
+-- what a list that it answers with is
+ended : (formed : Validity) (f : Found) {r : Solved} → solved_with (Ok tt) formed f ≡ Ok r → (formed ≡ Ok tt) × (r ≡ record { solving = finished_or f.full; count = length f.records })
+unfolding solved_with
+ended (Ok _) f {r} e = (refl, let same : r ≡ record { solving = finished_or f.full; count = length f.records } = cc in same)
+ended (Err x) f e = never (cc)
 
-full_up : (formed : Validity) (f : Found) → (solved_with (Ok tt) formed f).solving ≡ Full → (formed ≡ Ok tt) × (f.full ≡ true)
-unfolding solved_with finished_or
-full_up (Ok _) f e = (refl, by f.full e)
-  where
-    by : (b : Bool) → finished_or b ≡ Full → b ≡ true
-    by true e = refl
-    by false e = never (cc)
-full_up (Err x) f e = never (cc)
+finished : (b : Bool) → finished_or b ≡ Finished → b ≡ false
+unfolding finished_or
+finished true e = never (cc)
+finished false e = refl
 
-malformed : (formed : Validity) (f : Found) (w : WrongByte) → (solved_with (Ok tt) formed f).solving ≡ Malformed w → (x : Refusal) × (formed ≡ Err x) × (x.offset ≡ w.offset)
-unfolding solved_with finished_or wrong_byte
-malformed (Ok tt) f w e = by f.full e
-  where
-    by : (b : Bool) → finished_or b ≡ Malformed w → (x : Refusal) × ((Ok tt) ≡ Err x) × (x.offset ≡ w.offset)
-    by true e = never (cc)
-    by false e = never (cc)
+full_up : (b : Bool) → finished_or b ≡ Full → b ≡ true
+unfolding finished_or
+full_up true e = refl
+full_up false e = never (cc)
+
+malformed : (formed : Validity) (f : Found) (w : WrongByte) → solved_with (Ok tt) formed f ≡ Err (Malformed w) → (x : Refusal) × (formed ≡ Err x) × (x.offset ≡ w.offset)
+unfolding solved_with wrong_byte
+malformed (Ok tt) f w e = never (cc)
 malformed (Err x) f w e = (x, refl, offsets)
   where
     offsets : x.offset ≡ w.offset
     offsets = let same : record { list = Initial; offset = x.offset } ≡ w = cc in ap (λ (y : WrongByte). y.offset) same
 
-unrefused : {A : Type 0} (formed : Validity) (f : Found) (x : Refusal) → (solved_with (Ok tt) formed f).solving ≡ Refuses x → A
-unfolding solved_with finished_or
-unrefused {A} (Ok tt) f x e = by f.full e
-  where
-    by : (b : Bool) → finished_or b ≡ Refuses x → A
-    by true e = never (cc)
-    by false e = never (cc)
+unrefused : {A : Type 0} (formed : Validity) (f : Found) (x : Refusal) → solved_with (Ok tt) formed f ≡ Err (Refuses x) → A
+unfolding solved_with
+unrefused (Ok tt) f x e = never (cc)
 unrefused (Err y) f x e = never (cc)
 
 -- the number of a refusal: of one question, of each of a loop, and so of 17
@@ -170,37 +161,42 @@ module _ (input : List ℕ) (fit : input_validity input ≡ Ok tt) where
       )
 
   -- the parts as they are handed to the solver
-  module _ {program initial : List ℕ} (p : program ≡ program_part input) (q : initial ≡ initial_part input) (buffer : List ℕ) (long : length buffer ≡ 65536) {r : Solved}
-      (e : r ≡ solved Nondeterministic program initial buffer) where
+  module _ {program initial : List ℕ} (p : program ≡ program_part input) (q : initial ≡ initial_part input) (buffer : List ℕ) (long : length buffer ≡ 65536)
+      {r : Result Solved Unreadable} (e : r ≡ solved Nondeterministic program initial buffer) where
     reply_is : r ≡ solved_with (Ok tt) (initial_formed (sizes (program_part input)) (initial_part input)) (sheet_of input)
     unfolding solved solution_in sheet_of
     reply_is = e ∙ rw (p, q, long, start_whole)
 
-    solving_is : {v : Solving} → r.solving ≡ v → (solved_with (Ok tt) (initial_formed (sizes (program_part input)) (initial_part input)) (sheet_of input)).solving ≡ v
-    solving_is told = ap (λ (x : Solved). x.solving) (sym reply_is) ∙ told
+    -- 17, and no other question
+    module _ {x : Unreadable} (is : r ≡ Err x) where
+      pub malformed_told : (w : WrongByte) → x ≡ Malformed w → printed_text input ≡ line_text (refusal_line (record { number = 17; offset = w.offset }))
+      unfolding then_ask
+      malformed_told w told =
+          let f = malformed _ _ w (sym reply_is ∙ is ∙ ap Err told) in
+          let same : f.0 ≡ record { number = 17; offset = w.offset } = λ i. record { number = seventeen _ _ f.0 f.1 i; offset = f.2 i } in
+          rw (← same) (refused_printed input f.0 (later input fit f.1 refl))
 
-    pub full_told : r.solving ≡ Full → printed_text input ≡ line_text (refusal_line (record { number = 18; offset = 0 }))
-    unfolding then_ask ask
-    full_told told = let f = full_up _ _ (solving_is told) in refused_printed input (record { number = 18; offset = 0 }) (later input fit f.0 f.1)
+      pub never_refused : {A : Type 0} (y : Refusal) → x ≡ Refuses y → A
+      never_refused y told = unrefused _ _ y (sym reply_is ∙ is ∙ ap Err told)
 
-    pub malformed_told : (w : WrongByte) → r.solving ≡ Malformed w → printed_text input ≡ line_text (refusal_line (record { number = 17; offset = w.offset }))
-    unfolding then_ask
-    malformed_told w told =
-        let f = malformed _ _ w (solving_is told) in
-        let same : f.0 ≡ record { number = 17; offset = w.offset } = λ i. record { number = seventeen _ _ f.0 f.1 i; offset = f.2 i } in
-        rw (← same) (refused_printed input f.0 (later input fit f.1 refl))
+    module _ {list : Solved} (is : r ≡ Ok list) where
+      list_is : (initial_formed (sizes (program_part input)) (initial_part input) ≡ Ok tt) × (list ≡ record { solving = finished_or (sheet_of input).full; count = length (sheet_of input).records })
+      list_is = ended _ _ (sym reply_is ∙ is)
 
-    pub never_refused : {A : Type 0} (x : Refusal) → r.solving ≡ Refuses x → A
-    never_refused x told = unrefused _ _ x (solving_is told)
+      ending_is : {v : Solving} → list.solving ≡ v → finished_or (sheet_of input).full ≡ v
+      ending_is told = ap (λ (x : Solved). x.solving) (sym list_is.1) ∙ told
+
+      pub full_told : list.solving ≡ Full → printed_text input ≡ line_text (refusal_line (record { number = 18; offset = 0 }))
+      unfolding then_ask ask
+      full_told told = refused_printed input (record { number = 18; offset = 0 }) (later input fit list_is.0 (full_up _ (ending_is told)))
 
     -- the listing that is to be put
-    module _ (told : r.solving ≡ Finished) where
+    module _ {list : Solved} (is : r ≡ Ok list) (told : list.solving ≡ Finished) where
       answers : (initial_formed (sizes (program_part input)) (initial_part input) ≡ Ok tt) × ((sheet_of input).full ≡ false)
-      answers = finished _ _ (solving_is told)
+      answers = ((list_is is).0, finished _ (ending_is is told))
 
-      count_is : r.count ≡ length (sheet_of input).records
-      unfolding solved_with
-      count_is = ap (λ (x : Solved). x.count) reply_is ∙ rw answers.0
+      count_is : list.count ≡ length (sheet_of input).records
+      count_is = ap (λ (x : Solved). x.count) (list_is is).1
 
       after_is : solved_buffer Nondeterministic program initial buffer ≡ over (flatten (sheet_of input).records) buffer
       unfolding solved_buffer solution_in sheet_of buffer_with
@@ -210,12 +206,12 @@ module _ (input : List ℕ) (fit : input_validity input ≡ Ok tt) where
       unfolding then_ask ask
       printed = later input fit answers.0 answers.1
 
-      pub finished_told : {after : List ℕ} → after ≡ solved_buffer Nondeterministic program initial buffer → listing_text program after r.count ≡ printed_text input
+      pub finished_told : {after : List ℕ} → after ≡ solved_buffer Nondeterministic program initial buffer → listing_text program after list.count ≡ printed_text input
       finished_told same =
           rw (same, after_is, p, count_is, listing_printed input printed)
           (listing_read (program_part input) (sheet_of input).records (few input) (sheet_list input fit answers.0) buffer)
 
-      pub finished_marked : {after : List ℕ} → after ≡ solved_buffer Nondeterministic program initial buffer → WellMarked program (take ((2 + name_count program) * r.count) after)
+      pub finished_marked : {after : List ℕ} → after ≡ solved_buffer Nondeterministic program initial buffer → WellMarked program (take ((2 + name_count program) * list.count) after)
       unfolding sheet_of
       finished_marked same =
           rw (same, after_is, p, count_is, front_is (program_part input) (sheet_of input).records (few input) (sheet_list input fit answers.0) buffer)

@@ -13,7 +13,7 @@ ghost use Rattle.program.specs.Questions as Questions;
 ghost use Rattle.listing.specs.Parts.Writing as parts;
 ghost use Rattle.listing.specs.Text as spec;
 
-use analysis::{Solving, judging, solver};
+use analysis::{Solving, Unreadable, judging, solver};
 use program::{Construction, drawing, file, validation};
 use std::io;
 use std::io::{Read, Write};
@@ -71,12 +71,15 @@ fn render_fit(input: &[u8], out: &mut [u8]) -> usize
         validation::initial_part(input),
         &mut buffer,
     );
-    let solving = solved.solving;
-    match solving {
-        Solving::Finished => put_listing(program, &buffer, solved.count, out),
-        Solving::Full => lines::put_refusal(18, 0, 0, out),
-        Solving::Malformed(w) => lines::put_refusal(17, w.offset, 0, out),
-        Solving::Refused(_) => 0,
+    match solved {
+        Ok(list) => match list.solving {
+            Solving::Finished => put_listing(program, &buffer, list.count, out),
+            Solving::Full => lines::put_refusal(18, 0, 0, out),
+        },
+        Err(x) => match x {
+            Unreadable::Malformed(w) => lines::put_refusal(17, w.offset, 0, out),
+            Unreadable::Refused(_) => 0,
+        },
     }
 }
 

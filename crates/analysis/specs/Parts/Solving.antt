@@ -1,6 +1,6 @@
 -- How the solver's list lies in the buffer that is lent. No public contract cites these.
 use Rattle.program.specs.Asking.{Validity}
-use Rattle.std.specs.Prelude.{◌≡◌, ℕ, ◌*◌, ◌≤◌, List, length, drop}
+use Rattle.std.specs.Prelude.{◌≡◌, ℕ, ◌*◌, ◌≤◌, List, length, drop, Result}
 use mathlib.Core.List.{foldl}
 use Rattle.signs.specs.Lists.{tabulate, passing, indices}
 use Rattle.program.specs.Graph.{Graph}
@@ -9,6 +9,7 @@ use Rattle.analysis.specs.Parts.Membership.{Indexed}
 use Rattle.analysis.specs.Records.{record_at}
 use Rattle.analysis.specs.Solver.{Found, solved_with, buffer_with}
 use Rattle.analysis.specs.declared.Solved.{Solved}
+use Rattle.analysis.specs.declared.Unreadable.{Unreadable}
 use Rattle.analysis.specs.declared.solver.Progress.{Progress}
 
 -- the records found so far: those that begin a buffer
@@ -36,6 +37,6 @@ unfoldable pub along : (Found → ℕ → Found) → Graph → ℕ → ℕ → F
 along f g node n found = foldl f found (passing (λ e. leaves g e node) (indices n))
 
 -- the reply and the buffer afterwards of a list found, where the questions of the program and those of the start list were answered so
-pub record Answered (asked formed : Validity) (f : Found) (before after : List ℕ) (r : Solved) : Type 0 where
+pub record Answered (asked formed : Validity) (f : Found) (before after : List ℕ) (r : Result Solved Unreadable) : Type 0 where
   pub reply : r ≡ solved_with asked formed f
   pub buffer : after ≡ buffer_with asked formed f before

@@ -12,7 +12,7 @@ use Rattle.analysis.specs.declared.Mark.TheVariants.{Clean, Unclean}
 use Rattle.analysis.specs.declared.Unreadable.{Unreadable}
 use Rattle.analysis.specs.declared.Unreadable.TheVariants.{Refused as Unasked, Malformed as Unfit}
 use Rattle.analysis.specs.declared.Solving.{Solving}
-use Rattle.analysis.specs.declared.Solving.TheVariants.{Finished, Full, Refused as SolveRefused, Malformed as SolveMalformed}
+use Rattle.analysis.specs.declared.Solving.TheVariants.{Finished, Full}
 use Rattle.analysis.specs.declared.Verdict.{Verdict}
 use Rattle.analysis.specs.declared.Verdict.TheVariants.{Refused as Declines, Malformed as Misformed, InitialMissing, ResultMissing, Accepted}
 use Rattle.desk.specs.Rows.{clean, unclean}
@@ -56,8 +56,6 @@ marking_head (Ok mark) = mark_head mark
 unfoldable pub solving_head : Solving → Head
 solving_head Finished = Answered 0
 solving_head Full = Declined 18 0
-solving_head (SolveRefused x) = Declined x.number x.offset
-solving_head (SolveMalformed w) = Malformed (list_number w.list) w.offset
 
 -- the numbers behind a verdict's head, in a program with so many names, and behind an index mark's
 unfoldable pub verdict_behind : ℕ → Verdict → List ℕ

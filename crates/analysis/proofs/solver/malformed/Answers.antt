@@ -1,8 +1,0 @@
--- `solver::malformed`: the place of the wrong byte.
-use Rattle.std.proofs.Common.{refl}
-use Rattle.analysis.specs.Records.{wrong_byte}
-use Rattle.analysis.proofs.solver.malformed.Goals as goal
-
-pub returns : goal.returns
-unfolding wrong_byte
-returns c = refl
