@@ -7,7 +7,8 @@ ghost use Rattle.analysis.specs.Records;
 
 use crate::Change;
 
-// The places of the index's sections: 34 factors, 8,192 heads and 4,096 links, both one more than a record's number.
+// The places of the index's sections: 34 factors, 8,192 heads and 4,096 links, both one more than a record's number,
+// so that 0 ends a chain. Fixed memory: no map of the library is without a heap.
 pub(crate) const INDEX: usize = 12322;
 
 const COLUMNS: usize = 34;

@@ -20,6 +20,7 @@ use program::prepared::{CODE, GRAPH, NAMES_MOST};
 use program::{ActionNode, Construction, drawing, file, prepared, validation};
 
 // How far the list has come: how many records were found, how many there is room for, and whether one had none.
+// A full list is no error on the way: what was found stays, and is handed back with its count.
 #[derive(Clone, Copy)]
 struct Progress {
     count: usize,

@@ -1,5 +1,6 @@
 // The results of actions from an abstract memory, over a prepared program. They are one number: 64 times the new sets of one name, as digits of base 8, the first lowest, and
 // the name; name 32 changes nothing. No set of a result is 0, and there are at most twelve.
+// Without a heap a list of twelve sets would be an array with a length beside it, no plainer than digits that end by themselves.
 ghost use Rattle.std.specs.Prelude.{◌≡◌, ℕ, ◌+◌, ◌*◌, ◌/◌, ◌%◌, ◌<◌, List, [], ◌∷◌, if◌then◌else◌};
 ghost use Rattle.program.specs.Parts.Prepared.{entries_in, decoded_meaning};
 ghost use Rattle.program.specs.Tree.{arith_at};
