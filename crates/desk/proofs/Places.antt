@@ -37,7 +37,7 @@ use Rattle.semantics.specs.declared.Outcome.{Outcome}
 use Rattle.semantics.specs.declared.Outcome.TheVariants.{Refused as Refuses}
 use Rattle.semantics.specs.declared.Stepped.{Stepped}
 use Rattle.analysis.specs.Records.{initial_width, record_width, record_count, whole_records, initial_whole, both_whole, memory_formed, initial_formed, solution_formed, wrong_byte}
-use Rattle.analysis.specs.Solver.{Found, finished_or, solved_with, initial_validity, solved}
+use Rattle.analysis.specs.Solver.{Found, solved_with, initial_validity, solved}
 use Rattle.analysis.specs.Splitter.{split_by, split}
 use Rattle.analysis.specs.Verdict.{verdict_unless_refused, unless_malformed, verdict_by, verdict_over, verdict, solution_validity, marking_by, marking}
 use Rattle.analysis.specs.declared.Mark.{Mark}
