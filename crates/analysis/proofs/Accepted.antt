@@ -1,7 +1,7 @@
 -- What an accepted solution is closed under: it has every start record at node 0 and, for each of its records and each edge out of its node, every
 -- result at the edge's target.
 use Rattle.program.specs.Asking.{Validity}
-use Rattle.std.specs.Prelude.{Err, Ok, None, Option, Some, is_some}
+use Rattle.std.specs.Prelude.{Result, Err, Ok, None, Option, Some, is_some}
 use Rattle.std.proofs.Common.{◌≡◌, ℕ, Bool, true, false, not, ◌&&◌, T, eqb, ltb, List, [], ◌∷◌, length, sym, refl, ap, ◌∙◌, subst, arith, eqb→eq, ltb→lt}
 use mathlib.Core.List.{Memᴰ}
 use mir.Facts.{and_yes}
@@ -20,6 +20,7 @@ use Rattle.analysis.specs.declared.Mark.{Mark}
 use Rattle.analysis.specs.declared.Mark.TheVariants.{Clean}
 use Rattle.analysis.specs.declared.RecordList.{RecordList}
 use Rattle.analysis.specs.declared.Spot.{Spot}
+use Rattle.analysis.specs.declared.Unreadable.{Unreadable}
 use Rattle.analysis.specs.declared.Verdict.{Verdict}
 use Rattle.analysis.specs.declared.Verdict.TheVariants.{Accepted}
 use Rattle.analysis.proofs.Tabulated.{member_any_of, at_any_of}
@@ -50,23 +51,23 @@ pub record Judged (ns : List ℕ) (g : Graph) (initial solution : List ℕ) (mar
   pub results_there : missing_result ns g solution ≡ None
   pub marked : index_mark ns g solution ≡ mark
 
-by_missing : (k : Option ℕ) (spot : Option Spot) (m mark : Mark) → verdict_by k spot m ≡ Accepted mark → (k ≡ None) × (spot ≡ None) × (m ≡ mark)
+by_missing : (k : Option ℕ) (spot : Option Spot) (m mark : Mark) → ◌≡◌ {A = Result Verdict Unreadable} (Ok (verdict_by k spot m)) (Ok (Accepted mark)) → (k ≡ None) × (spot ≡ None) × (m ≡ mark)
 unfolding verdict_by
 by_missing (Some k) spot m mark e = absurd (let z : ◌≡◌ {A = ℕ} 0 1 = cc in omega arith)
 by_missing None (Some x) m mark p = absurd (let z : ◌≡◌ {A = ℕ} 0 1 = cc in omega arith)
 by_missing None None m mark e = (refl, refl, cc)
 
-pub not_refused_accepted : (v : Validity) (w : Verdict) (mark : Mark) → verdict_unless_refused v w ≡ Accepted mark → (v ≡ Ok tt) × (w ≡ Accepted mark)
+pub not_refused_accepted : (v : Validity) (w : Result Verdict Unreadable) (mark : Mark) → verdict_unless_refused v w ≡ Ok (Accepted mark) → (v ≡ Ok tt) × (w ≡ Ok (Accepted mark))
 unfolding verdict_unless_refused
 not_refused_accepted (Ok _) w mark e = (refl, e)
 not_refused_accepted (Err x) w mark e = absurd (let z : ◌≡◌ {A = ℕ} 0 1 = cc in omega arith)
 
-well_formed_accepted : (list : RecordList) (v : Validity) (w : Verdict) (mark : Mark) → unless_malformed list v w ≡ Accepted mark → w ≡ Accepted mark
+well_formed_accepted : (list : RecordList) (v : Validity) (w : Result Verdict Unreadable) (mark : Mark) → unless_malformed list v w ≡ Ok (Accepted mark) → w ≡ Ok (Accepted mark)
 unfolding unless_malformed
 well_formed_accepted list (Ok _) w mark e = e
 well_formed_accepted list (Err x) w mark e = absurd (let z : ◌≡◌ {A = ℕ} 0 1 = cc in omega arith)
 
-pub accepted : (ns : List ℕ) (g : Graph) (initial solution : List ℕ) (mark : Mark) → verdict_over ns g initial solution ≡ Accepted mark → Judged ns g initial solution mark
+pub accepted : (ns : List ℕ) (g : Graph) (initial solution : List ℕ) (mark : Mark) → verdict_over ns g initial solution ≡ Ok (Accepted mark) → Judged ns g initial solution mark
 unfolding verdict_over
 accepted ns g initial solution mark e =
     let whole = (not_refused_accepted (both_whole ns initial solution) _ mark e).1 in

@@ -23,7 +23,7 @@ use Rattle.analysis.specs.declared.RecordList.{RecordList}
 use Rattle.analysis.specs.declared.Unreadable.{Unreadable}
 use Rattle.analysis.specs.declared.Unreadable.TheVariants.{Refused as Declined, Malformed as Misshapen}
 use Rattle.analysis.specs.declared.Verdict.{Verdict}
-use Rattle.analysis.specs.declared.Verdict.TheVariants.{Refused as Refuses, InitialMissing, ResultMissing}
+use Rattle.analysis.specs.declared.Verdict.TheVariants.{InitialMissing, ResultMissing}
 use Rattle.analysis.proofs.Tables.{code_long}
 use Rattle.analysis.proofs.ThirdTerm.{third_term}
 
@@ -83,7 +83,7 @@ pub ready_names : {code graph : List ℕ} → Ready code graph → (0 < names_in
 ready_names r = let c = r.prepared.coded in (omega (arith, c.some, c.count), omega (arith, c.few, c.count))
 
 -- the verdict of a program file: refused, or judged over its graph
-pub verdict_refused : (κ : Construction) (s initial solution : List ℕ) (x : Refusal) → validity s ≡ Err x → verdict κ s initial solution ≡ Refuses x
+pub verdict_refused : (κ : Construction) (s initial solution : List ℕ) (x : Refusal) → validity s ≡ Err x → verdict κ s initial solution ≡ Err (Declined x)
 unfolding verdict verdict_unless_refused
 verdict_refused κ s initial solution x p = rw p
 
@@ -92,7 +92,7 @@ unfolding verdict verdict_unless_refused
 verdict_judged κ s initial solution p = rw p
 
 -- a verdict, with document 01's numbers and the third term
-pub promised : (κ : Construction) (s initial solution : List ℕ) {r : Verdict} → r ≡ verdict κ s initial solution
+pub promised : (κ : Construction) (s initial solution : List ℕ) {r : Result Verdict Unreadable} → r ≡ verdict κ s initial solution
     → record {
       value : r ≡ verdict κ s initial solution;
       numbers : verdict_numbers r ≡ verdict_row κ s initial solution;
@@ -116,11 +116,11 @@ marking_marked s solution p = rw p
 
 -- the offending record, as a part of the list that it lies in
 pub initial_part_lem : (s initial solution : List ℕ) (names : ℕ) → names ≡ name_count s → (k : ℕ) (l : List ℕ) → l ≡ take names (drop (names * k) initial)
-    → l ≡ offending (sizes s) initial solution (InitialMissing k)
+    → l ≡ offending (sizes s) initial solution (Ok (InitialMissing k))
 unfolding offending record_at initial_width
 initial_part_lem s initial solution names p k l e = rw (sizes_length s ∙ sym p) e
 
 pub solution_part : (s initial solution : List ℕ) (names : ℕ) → names ≡ name_count s → (k edge : ℕ) (l : List ℕ) → l ≡ take (2 + names) (drop ((2 + names) * k) solution)
-    → l ≡ offending (sizes s) initial solution (ResultMissing k edge)
+    → l ≡ offending (sizes s) initial solution (Ok (ResultMissing k edge))
 unfolding offending record_at record_width
 solution_part s initial solution names p k edge l e = rw (sizes_length s ∙ sym p) e

@@ -64,7 +64,7 @@ module _ (κ : Construction) (s initial : List ℕ) (fit : validity s ≡ Ok tt)
 -- ---- Rows of numbers
 
 -- a reply is fixed by its row alone: of a verdict where refusals have a question's number, as those of `verdict` have; of an index mark, of a list solved and of a place split
-pub verdict_row_lem : (v w : Verdict) → QuestionsOnly v → QuestionsOnly w → verdict_numbers v ≡ verdict_numbers w → v ≡ w
+pub verdict_row_lem : (v w : Result Verdict Unreadable) → QuestionsOnly v → QuestionsOnly w → verdict_numbers v ≡ verdict_numbers w → v ≡ w
 verdict_row_lem = Readback.verdict_row_lem
 
 pub verdict_asked : (κ : Construction) (s initial solution : List ℕ) → QuestionsOnly (verdict κ s initial solution)

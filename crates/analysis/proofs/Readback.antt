@@ -1,6 +1,6 @@
 -- Rows of verdicts, marks, lists and splits read back: two replies with the same row are the same. Of verdicts only where a refusal has a question's
 -- number: 41 and a record are 41's row, and would be that of a question 41.
-use Rattle.std.specs.Prelude.{Result, Err, Ok, None, Option, Some}
+use Rattle.std.specs.Prelude.{Result, Err, Ok, Option}
 use Rattle.std.proofs.Common.{◌≡◌, ℕ, ◌≤◌, cond, eqb, List, [], ◌∷◌, length, get_or, refl, ap, arith, ne_eqb}
 use Rattle.program.specs.Asking.{Validity}
 use Rattle.program.specs.declared.Construction.{Construction}
@@ -24,7 +24,7 @@ use Rattle.analysis.specs.declared.Solving.TheVariants.{Finished, Full}
 use Rattle.analysis.specs.declared.Split.{Split}
 use Rattle.analysis.specs.declared.Spot.{Spot}
 use Rattle.analysis.specs.declared.Verdict.{Verdict}
-use Rattle.analysis.specs.declared.Verdict.TheVariants.{Refused as Refuses, Malformed, InitialMissing, ResultMissing, Accepted}
+use Rattle.analysis.specs.declared.Verdict.TheVariants.{InitialMissing, ResultMissing, Accepted}
 use Rattle.analysis.specs.declared.WrongByte.{WrongByte}
 
 -- the wrong byte of a row of 17
@@ -34,55 +34,53 @@ wrong_byte_read l = record { list = cond (eqb (get_or l 1 0) 1) Initial Solution
 -- ---- A verdict
 
 -- a refusal of a verdict has a question's number
-pub QuestionsOnly : Verdict → Type 0
-QuestionsOnly v = (x : Refusal) → v ≡ Refuses x → x.number ≤ 30
+pub QuestionsOnly : Result Verdict Unreadable → Type 0
+QuestionsOnly v = (x : Refusal) → v ≡ Err (Declined x) → x.number ≤ 30
 
-abbrev verdict_read : List ℕ → Verdict
+abbrev verdict_read : List ℕ → Result Verdict Unreadable
 verdict_read l =
     get_or
-    (Accepted Clean
-    ∷ Accepted Clean
-    ∷ cond (eqb (get_or l 0 0) 41) (InitialMissing (get_or l 1 0)) (Refuses (refusal_read l))
+    (Ok (Accepted Clean)
+    ∷ Ok (Accepted Clean)
+    ∷ cond (eqb (get_or l 0 0) 41) (Ok (InitialMissing (get_or l 1 0))) (Err (Declined (refusal_read l)))
     ∷ cond (eqb (get_or l 0 0) 0)
-    (Accepted (Unclean (get_or l 1 0) (get_or l 2 0)))
-    (cond (eqb (get_or l 0 0) 17) (Malformed (wrong_byte_read l)) (ResultMissing (get_or l 1 0) (get_or l 2 0)))
+    (Ok (Accepted (Unclean (get_or l 1 0) (get_or l 2 0))))
+    (cond (eqb (get_or l 0 0) 17) (Err (Misshapen (wrong_byte_read l))) (Ok (ResultMissing (get_or l 1 0) (get_or l 2 0))))
     ∷ [])
     (length l)
-    (Accepted Clean)
+    (Ok (Accepted Clean))
 
-malformed_back : (list : RecordList) (at : ℕ) → let v : Verdict = Malformed (record { list = list; offset = at }) in verdict_read (verdict_numbers v) ≡ v
-unfolding verdict_numbers wrong_byte_numbers list_number
+malformed_back : (list : RecordList) (at : ℕ) → let v : Result Verdict Unreadable = Err (Misshapen (record { list = list; offset = at })) in verdict_read (verdict_numbers v) ≡ v
+unfolding verdict_numbers unreadable_numbers wrong_byte_numbers list_number
 malformed_back Initial at = refl
 malformed_back Solution at = refl
 
-verdict_back : (v : Verdict) → QuestionsOnly v → verdict_read (verdict_numbers v) ≡ v
-unfolding verdict_numbers mark_numbers QuestionsOnly
-verdict_back (Refuses x) q = rw (ne_eqb x.number 41 (λ e. let few = q x refl in omega arith))
-verdict_back (Malformed w) q = malformed_back w.list w.offset
-verdict_back (InitialMissing k) q = refl
-verdict_back (ResultMissing k e) q = refl
-verdict_back (Accepted Clean) q = refl
-verdict_back (Accepted (Unclean k e)) q = refl
+verdict_back : (v : Result Verdict Unreadable) → QuestionsOnly v → verdict_read (verdict_numbers v) ≡ v
+unfolding verdict_numbers unreadable_numbers mark_numbers QuestionsOnly
+verdict_back (Err (Declined x)) q = rw (ne_eqb x.number 41 (λ e. let few = q x refl in omega arith))
+verdict_back (Err (Misshapen w)) q = malformed_back w.list w.offset
+verdict_back (Ok (InitialMissing k)) q = refl
+verdict_back (Ok (ResultMissing k e)) q = refl
+verdict_back (Ok (Accepted Clean)) q = refl
+verdict_back (Ok (Accepted (Unclean k e))) q = refl
 
-pub verdict_row_lem : (v w : Verdict) → QuestionsOnly v → QuestionsOnly w → verdict_numbers v ≡ verdict_numbers w → v ≡ w
+pub verdict_row_lem : (v w : Result Verdict Unreadable) → QuestionsOnly v → QuestionsOnly w → verdict_numbers v ≡ verdict_numbers w → v ≡ w
 verdict_row_lem v w p q = same_row verdict_numbers (λ l. verdict_read l) (verdict_back v p) (verdict_back w q)
 
 -- a verdict's refusals are those of questions
-unless_asked : (v : Validity) (w : Verdict) {most : ℕ} → Placed most v → QuestionsOnly w → QuestionsOnly (verdict_unless_refused v w)
+unless_asked : (v : Validity) (w : Result Verdict Unreadable) {most : ℕ} → Placed most v → QuestionsOnly w → QuestionsOnly (verdict_unless_refused v w)
 unfolding verdict_unless_refused QuestionsOnly
 unless_asked (Ok _) w p q x e = q x e
 unless_asked (Err y) w p q x e = let same : y ≡ x = cc in (p x (ap Err same)).asked
 
-formed_asked : (list : RecordList) (v : Validity) (w : Verdict) → QuestionsOnly w → QuestionsOnly (unless_malformed list v w)
+formed_asked : (list : RecordList) (v : Validity) (w : Result Verdict Unreadable) → QuestionsOnly w → QuestionsOnly (unless_malformed list v w)
 unfolding unless_malformed QuestionsOnly
 formed_asked list (Ok _) w q x e = q x e
 formed_asked list (Err y) w q x e = never cc
 
-found_asked : (f : Option ℕ) (spot : Option Spot) (mark : Mark) → QuestionsOnly (verdict_by f spot mark)
-unfolding verdict_by QuestionsOnly
-found_asked (Some k) spot mark x e = never cc
-found_asked None (Some y) mark x e = never cc
-found_asked None None mark x e = never cc
+found_asked : (f : Option ℕ) (spot : Option Spot) (mark : Mark) → QuestionsOnly (Ok (verdict_by f spot mark))
+unfolding QuestionsOnly
+found_asked f spot mark x e = never cc
 
 pub verdict_asked : (κ : Construction) (s initial solution : List ℕ) → QuestionsOnly (verdict κ s initial solution)
 unfolding verdict verdict_over both_whole

@@ -1,6 +1,6 @@
 -- Soundness of accepted solutions (document 01: the third term; book, Propositions 4.9, 4.25 and 4.31), of the very steps and runs that `Run::step` and `run`
 -- promise.
-use Rattle.std.specs.Prelude.{◌≡◌, ℕ, Bool, false, not, ◌&&◌, T, List, length, ℤ, ◌==◌}
+use Rattle.std.specs.Prelude.{◌≡◌, ℕ, Bool, false, not, ◌&&◌, T, List, length, ℤ, Result, Ok, ◌==◌}
 use Rattle.signs.specs.Lists.{all_of, indices}
 use Rattle.program.specs.File.{sizes}
 use Rattle.program.specs.Graph.{Graph, graph}
@@ -18,6 +18,7 @@ use Rattle.analysis.specs.Abstraction.{abstract_memory}
 use Rattle.analysis.specs.Records.{has_at, has_initial}
 use Rattle.analysis.specs.declared.Mark.{Mark}
 use Rattle.analysis.specs.declared.Mark.TheVariants.{Clean}
+use Rattle.analysis.specs.declared.Unreadable.{Unreadable}
 use Rattle.analysis.specs.declared.Verdict.{Verdict}
 use Rattle.analysis.specs.declared.Verdict.TheVariants.{Accepted}
 
@@ -67,5 +68,5 @@ Sound κ s initial solution mark =
 -- the third term for an answer to a program file, a start list and a solution, on the graph by the construction that was judged for: where the answer is that the
 -- solution is accepted, with a mark, all that
 -- is so kept
-unfoldable pub ThirdTermFor : Construction → List ℕ → List ℕ → List ℕ → Verdict → Type 0
-ThirdTermFor κ s initial solution answer = (mark : Mark) → answer ≡ Accepted mark → Sound κ s initial solution mark
+unfoldable pub ThirdTermFor : Construction → List ℕ → List ℕ → List ℕ → Result Verdict Unreadable → Type 0
+ThirdTermFor κ s initial solution answer = (mark : Mark) → answer ≡ Ok (Accepted mark) → Sound κ s initial solution mark

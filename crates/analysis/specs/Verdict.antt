@@ -11,7 +11,7 @@ use Rattle.program.specs.declared.Construction.TheVariants.{Nondeterministic}
 use Rattle.program.specs.Meaning.{meaning}
 use Rattle.semantics.specs.Step.{leaves}
 use Rattle.analysis.specs.Index.{may_be_negative}
-use Rattle.analysis.specs.Records.{initial_width, record_width, record_count, record_at, node_of, memory_of, has_at, whole_records, both_whole, initial_formed, solution_formed, wrong_byte, wrong_byte_numbers, unreadable_numbers}
+use Rattle.analysis.specs.Records.{initial_width, record_width, record_count, record_at, node_of, memory_of, has_at, whole_records, both_whole, initial_formed, solution_formed, wrong_byte, unreadable_numbers}
 use Rattle.analysis.specs.Results.{results}
 use Rattle.analysis.specs.declared.Mark.{Mark}
 use Rattle.analysis.specs.declared.Mark.TheVariants.{Clean, Unclean}
@@ -21,7 +21,7 @@ use Rattle.analysis.specs.declared.Spot.{Spot}
 use Rattle.analysis.specs.declared.Unreadable.{Unreadable}
 use Rattle.analysis.specs.declared.Unreadable.TheVariants.{Refused as Declined, Malformed as Misshapen}
 use Rattle.analysis.specs.declared.Verdict.{Verdict}
-use Rattle.analysis.specs.declared.Verdict.TheVariants.{Refused as Refuses, Malformed, InitialMissing, ResultMissing, Accepted}
+use Rattle.analysis.specs.declared.Verdict.TheVariants.{InitialMissing, ResultMissing, Accepted}
 
 -- "41, a start record missing at node 0 (first such)"
 unfoldable pub missing_initial : List ℕ → List ℕ → List ℕ → Option ℕ
@@ -64,24 +64,24 @@ verdict_by None (Some x) mark = ResultMissing x.«record» x.edge
 verdict_by None None mark = Accepted mark
 
 -- a verdict where no question is refused, and where no record of a list is malformed
-unfoldable pub verdict_unless_refused : Validity → Verdict → Verdict
+unfoldable pub verdict_unless_refused : Validity → Result Verdict Unreadable → Result Verdict Unreadable
 verdict_unless_refused (Ok _) v = v
-verdict_unless_refused (Err x) v = Refuses x
+verdict_unless_refused (Err x) v = Err (Declined x)
 
-unfoldable pub unless_malformed : RecordList → Validity → Verdict → Verdict
+unfoldable pub unless_malformed : RecordList → Validity → Result Verdict Unreadable → Result Verdict Unreadable
 unless_malformed list (Ok _) v = v
-unless_malformed list (Err x) v = Malformed (wrong_byte list x)
+unless_malformed list (Err x) v = Err (Misshapen (wrong_byte list x))
 
 -- 16, 17 of the start list and then of the solution, 41, 42
-unfoldable pub verdict_over : List ℕ → Graph → List ℕ → List ℕ → Verdict
+unfoldable pub verdict_over : List ℕ → Graph → List ℕ → List ℕ → Result Verdict Unreadable
 verdict_over ns g initial solution =
     verdict_unless_refused (both_whole ns initial solution)
     (unless_malformed Initial (initial_formed ns initial)
     (unless_malformed Solution (solution_formed ns g solution)
-    (verdict_by (missing_initial ns initial solution) (missing_result ns g solution) (index_mark ns g solution))))
+    (Ok (verdict_by (missing_initial ns initial solution) (missing_result ns g solution) (index_mark ns g solution)))))
 
 -- the verdict for a program file and a construction of its graph, of which the file's questions are asked first
-unfoldable pub verdict : Construction → List ℕ → List ℕ → List ℕ → Verdict
+unfoldable pub verdict : Construction → List ℕ → List ℕ → List ℕ → Result Verdict Unreadable
 verdict κ s initial solution = verdict_unless_refused (validity s) (verdict_over (sizes s) (graph κ s) initial solution)
 
 -- the index mark of a list of records by itself, of which 16 and 17 are asked after the questions of the program file
@@ -101,12 +101,11 @@ marking s solution =
     (index_mark (sizes s) (graph Nondeterministic s) solution)
 
 -- "With 41 or 42 comes the offending record itself, as a part of whichever of the two lists it lies in; otherwise that part is empty."
-unfoldable pub offending : List ℕ → List ℕ → List ℕ → Verdict → List ℕ
-offending ns initial solution (Refuses x) = []
-offending ns initial solution (Malformed w) = []
-offending ns initial solution (InitialMissing k) = record_at (initial_width ns) initial k
-offending ns initial solution (ResultMissing k e) = record_at (record_width ns) solution k
-offending ns initial solution (Accepted mark) = []
+unfoldable pub offending : List ℕ → List ℕ → List ℕ → Result Verdict Unreadable → List ℕ
+offending ns initial solution (Err x) = []
+offending ns initial solution (Ok (InitialMissing k)) = record_at (initial_width ns) initial k
+offending ns initial solution (Ok (ResultMissing k e)) = record_at (record_width ns) solution k
+offending ns initial solution (Ok (Accepted mark)) = []
 
 -- an index mark in numbers: nothing where it is clean, else the record and the edge
 unfoldable pub mark_numbers : Mark → List ℕ
@@ -115,12 +114,11 @@ mark_numbers (Unclean k e) = k ∷ e ∷ []
 
 -- a verdict in document 01's numbers: the question's number and place; 17's; 41 and the record; 42, the record and the edge; or 0 and the index
 -- mark's
-unfoldable pub verdict_numbers : Verdict → List ℕ
-verdict_numbers (Refuses x) = x.number ∷ x.offset ∷ []
-verdict_numbers (Malformed w) = wrong_byte_numbers w
-verdict_numbers (InitialMissing k) = 41 ∷ k ∷ []
-verdict_numbers (ResultMissing k e) = 42 ∷ k ∷ e ∷ []
-verdict_numbers (Accepted mark) = 0 ∷ mark_numbers mark
+unfoldable pub verdict_numbers : Result Verdict Unreadable → List ℕ
+verdict_numbers (Err x) = unreadable_numbers x
+verdict_numbers (Ok (InitialMissing k)) = 41 ∷ k ∷ []
+verdict_numbers (Ok (ResultMissing k e)) = 42 ∷ k ∷ e ∷ []
+verdict_numbers (Ok (Accepted mark)) = 0 ∷ mark_numbers mark
 
 -- an index mark by itself in the same numbers
 unfoldable pub marking_numbers : Result Mark Unreadable → List ℕ

@@ -14,11 +14,9 @@ ghost use Rattle.analysis.specs.Verdict as spec;
 
 use crate::evaluator::{Machine, results};
 use crate::membership::INDEX;
-use crate::{
-    Change, Mark, RecordList, Spot, Unreadable, Verdict, WrongByte, lists, membership, set_table,
-};
+use crate::{Change, Mark, RecordList, Spot, Unreadable, Verdict, lists, membership, set_table};
 use program::prepared::{CODE, GRAPH, NAMES_MOST};
-use program::{Construction, Refusal, drawing, file, prepared, validation};
+use program::{Construction, drawing, file, prepared, validation};
 
 // What is looked for, in the records of a solution and the edges out of their nodes: 42, or the index mark. The index is read for 42 alone.
 #[derive(Clone, Copy)]
@@ -372,15 +370,6 @@ fn judge_formed(
     }
 }
 
-fn malformed(list: RecordList, x: Refusal) -> WrongByte
-    ensures { result ≡ Records.wrong_byte list x }
-{
-    WrongByte {
-        list,
-        offset: x.offset,
-    }
-}
-
 // Whether both lists are whole records, at most 4,096 each.
 fn both_whole(initial: &[u8], solution: &[u8], names: usize) -> bool
     requires { (0 < names) × (names ≤ 32) }
@@ -395,25 +384,18 @@ fn judge_prepared(
     graph: &[u16; GRAPH],
     initial: &[u8],
     solution: &[u8],
-) -> Verdict
+) -> Result<Verdict, Unreadable>
     requires { Tabled.Ready code.now graph.now }
     ensures { (ns : List ℕ) (g : Graph.Graph) → Prepared.Prepared ns g code.now graph.now
         → result ≡ spec.verdict_over ns g initial.now solution.now }
 {
     let names = prepared::name_count(code);
-    let whole = validation::ask(both_whole(initial, solution, names), 16, 0);
-    if let Err(x) = whole {
-        return Verdict::Refused(x);
-    }
+    validation::ask(both_whole(initial, solution, names), 16, 0)?;
     let first = lists::initial_formed(code, initial);
-    if let Err(x) = first {
-        return Verdict::Malformed(malformed(RecordList::Initial, x));
-    }
+    lists::readable(RecordList::Initial, first)?;
     let second = lists::solution_formed(code, prepared::node_count(graph), solution);
-    match second {
-        Ok(()) => judge_formed(code, graph, initial, solution),
-        Err(x) => Verdict::Malformed(malformed(RecordList::Solution, x)),
-    }
+    lists::readable(RecordList::Solution, second)?;
+    Ok(judge_formed(code, graph, initial, solution))
 }
 
 // The index mark of a list of whole, well-formed records, of which none is sought.
@@ -451,25 +433,20 @@ pub fn judge_on(
     program: &[u8],
     initial: &[u8],
     solution: &[u8],
-) -> Verdict
+) -> Result<Verdict, Unreadable>
     ensures value { result ≡ spec.verdict construction program.now initial.now solution.now }
     ensures numbers { spec.verdict_numbers result ≡ spec.verdict_row construction program.now initial.now solution.now }
     ensures third { Soundness.ThirdTermFor construction program.now initial.now solution.now result }
 {
     let mut code = [0u16; CODE];
     let mut graph = [0u16; GRAPH];
-    let v = prepared::prepare_linked(construction, program, &mut code, &mut graph);
-    match v {
-        Ok(()) => {
-            set_table::put(&mut code);
-            judge_prepared(&code, &graph, initial, solution)
-        }
-        Err(x) => Verdict::Refused(x),
-    }
+    prepared::prepare_linked(construction, program, &mut code, &mut graph)?;
+    set_table::put(&mut code);
+    judge_prepared(&code, &graph, initial, solution)
 }
 
 // The same, where the caller names no construction.
-pub fn judge(program: &[u8], initial: &[u8], solution: &[u8]) -> Verdict
+pub fn judge(program: &[u8], initial: &[u8], solution: &[u8]) -> Result<Verdict, Unreadable>
     ensures value { result ≡ spec.verdict Graph.unnamed program.now initial.now solution.now }
     ensures numbers { spec.verdict_numbers result ≡ spec.verdict_row Graph.unnamed program.now initial.now solution.now }
     ensures third { Soundness.ThirdTermFor Graph.unnamed program.now initial.now solution.now result }
@@ -488,17 +465,15 @@ pub fn offending_on<'a>(
         (spec.verdict construction program.now initial.now solution.now) }
 {
     let names = file::name_count(program) as usize;
-    let v = judge_on(construction, program, initial, solution);
-    match v {
-        Verdict::InitialMissing { record } => {
+    match judge_on(construction, program, initial, solution) {
+        Ok(Verdict::InitialMissing { record }) => {
             validation::part(initial, names * record as usize, names)
         }
-        Verdict::ResultMissing { record, edge: _ } => {
+        Ok(Verdict::ResultMissing { record, edge: _ }) => {
             validation::part(solution, (2 + names) * record as usize, 2 + names)
         }
-        Verdict::Refused(_) => &initial[..0],
-        Verdict::Malformed(_) => &initial[..0],
-        Verdict::Accepted(_) => &initial[..0],
+        Ok(Verdict::Accepted(_)) => &initial[..0],
+        Err(_) => &initial[..0],
     }
 }
 

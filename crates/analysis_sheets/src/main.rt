@@ -71,13 +71,14 @@ fn print_accepted<W: Write>(out: &mut W, mark: Mark) -> io::Result<()> {
     printing::mark(out, mark)
 }
 
-fn print_verdict<W: Write>(out: &mut W, verdict: Verdict) -> io::Result<()> {
+fn print_verdict<W: Write>(out: &mut W, verdict: Result<Verdict, Unreadable>) -> io::Result<()> {
     match verdict {
-        Verdict::Refused(x) => printing::refusal(out, x),
-        Verdict::Malformed(x) => print_wrong(out, x),
-        Verdict::InitialMissing { record } => write!(out, "41 record {record}"),
-        Verdict::ResultMissing { record, edge } => write!(out, "42 record {record} arrow {edge}"),
-        Verdict::Accepted(mark) => print_accepted(out, mark),
+        Ok(Verdict::InitialMissing { record }) => write!(out, "41 record {record}"),
+        Ok(Verdict::ResultMissing { record, edge }) => {
+            write!(out, "42 record {record} arrow {edge}")
+        }
+        Ok(Verdict::Accepted(mark)) => print_accepted(out, mark),
+        Err(x) => print_unreadable(out, x),
     }
 }
 

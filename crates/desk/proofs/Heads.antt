@@ -33,7 +33,7 @@ use Rattle.analysis.specs.declared.Solving.{Solving}
 use Rattle.analysis.specs.declared.Solving.TheVariants.{Finished, Full}
 use Rattle.analysis.specs.declared.Split.{Split}
 use Rattle.analysis.specs.declared.Verdict.{Verdict}
-use Rattle.analysis.specs.declared.Verdict.TheVariants.{Refused as Declines, Malformed, InitialMissing, ResultMissing, Accepted}
+use Rattle.analysis.specs.declared.Verdict.TheVariants.{InitialMissing, ResultMissing, Accepted}
 use Rattle.figures.specs.Figures.{fraction_numbers, totals_numbers, class_numbers, no_figures, figures_numbers}
 use Rattle.figures.specs.declared.Figures.{Figures}
 use Rattle.desk.specs.Parts.Heads.{unreadable_head, validity_head, outcome_head, ending_head, verdict_head, mark_head, marking_head, solving_head, verdict_behind, mark_behind}
@@ -95,20 +95,20 @@ unfolding ended_numbers
 ended_head e = ending_two e.ending e.run.node e.run.count
 
 -- a verdict and an index mark, whose refusals have the number of a question
-accepted_head : (names : ℕ) (mark : Mark) → verdict_told names (0 ∷ mark_numbers mark) ≡ tell (verdict_head (Accepted mark)) (map pos (verdict_behind names (Accepted mark)))
+accepted_head : (names : ℕ) (mark : Mark) → verdict_told names (0 ∷ mark_numbers mark) ≡ tell (verdict_head (Ok (Accepted mark))) (map pos (verdict_behind names (Ok (Accepted mark))))
 unfolding mark_numbers verdict_told marking verdict_head verdict_behind tell
 accepted_head names Clean = refl
 accepted_head names (Unclean k e) = refl
 
-pub verdict_head_lem : (names : ℕ) (v : Verdict) → VerdictTold v → verdict_told names (verdict_numbers v) ≡ tell (verdict_head v) (map pos (verdict_behind names v))
-unfolding verdict_numbers wrong_byte_numbers verdict_told verdict_head verdict_behind tell
-verdict_head_lem names (Declines x) told =
+pub verdict_head_lem : (names : ℕ) (v : Result Verdict Unreadable) → VerdictTold v → verdict_told names (verdict_numbers v) ≡ tell (verdict_head v) (map pos (verdict_behind names v))
+unfolding verdict_numbers unreadable_numbers wrong_byte_numbers verdict_told verdict_head unreadable_head verdict_behind tell
+verdict_head_lem names (Err (Unasked x)) told =
     let asked = told.refused x refl in
     rw (ne_eqb x.number 0 (λ e. omega (arith, asked.numbered)), ne_eqb x.number 41 (λ e. omega (arith, asked.asked)), ne_eqb x.number 42 (λ e. omega (arith, asked.asked)))
-verdict_head_lem names (Malformed w) told = refl
-verdict_head_lem names (InitialMissing k) told = refl
-verdict_head_lem names (ResultMissing k e) told = refl
-verdict_head_lem names (Accepted mark) told = accepted_head names mark
+verdict_head_lem names (Err (Unfit w)) told = refl
+verdict_head_lem names (Ok (InitialMissing k)) told = refl
+verdict_head_lem names (Ok (ResultMissing k e)) told = refl
+verdict_head_lem names (Ok (Accepted mark)) told = accepted_head names mark
 
 marked_head : (mark : Mark) → mark_told (0 ∷ mark_numbers mark) ≡ tell (mark_head mark) (map pos (mark_behind (Ok mark)))
 unfolding mark_numbers mark_told marking mark_head mark_behind tell

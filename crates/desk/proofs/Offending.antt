@@ -1,6 +1,6 @@
 -- The offending record lies inside its list.
 use Rattle.program.specs.Asking.{Validity}
-use Rattle.std.specs.Prelude.{Err, Ok, None, Option, Some, is_some}
+use Rattle.std.specs.Prelude.{Result, Err, Ok, None, Option, Some, is_some}
 use Rattle.analysis.proofs.Accepted.{none_only}
 use mathlib.Core.Path.{◌≡◌, refl, sym, ◌∙◌, ap}
 use mathlib.Core.Bool.{Bool}
@@ -20,9 +20,11 @@ use Rattle.analysis.specs.declared.Mark.{Mark}
 use Rattle.analysis.specs.declared.Mark.TheVariants.{Clean, Unclean}
 use Rattle.analysis.specs.declared.RecordList.{RecordList}
 use Rattle.analysis.specs.declared.Spot.{Spot}
+use Rattle.analysis.specs.declared.Unreadable.{Unreadable}
+use Rattle.analysis.specs.declared.Unreadable.TheVariants.{Refused as Unasked, Malformed as Unfit}
 use Rattle.analysis.specs.declared.Verdict.{Verdict}
-use Rattle.analysis.specs.declared.Verdict.TheVariants.{Refused as Refuses, Malformed, InitialMissing, ResultMissing, Accepted}
-use Rattle.desk.specs.Parts.Heads.{verdict_head, verdict_behind}
+use Rattle.analysis.specs.declared.Verdict.TheVariants.{InitialMissing, ResultMissing, Accepted}
+use Rattle.desk.specs.Parts.Heads.{unreadable_head, verdict_head, verdict_behind}
 use Rattle.desk.specs.Reply.{answered_with, refused_with, malformed_with, tell}
 use Rattle.desk.specs.Rows.{told_at, judged, list_named, part_named}
 use Rattle.program.proofs.Never.{never}
@@ -37,24 +39,24 @@ told_as_verdict κ s initial solution = rw (← sizes_length s) (verdict_head_le
 
 -- a row names the record itself
 pub offending_part : (κ : Construction) (s initial solution : List ℕ) → part_named initial solution (judged κ s initial solution) ≡ offending (sizes s) initial solution (verdict κ s initial solution)
-unfolding part_named list_named offending record_at initial_width record_width tell answered_with refused_with malformed_with verdict_head verdict_behind
+unfolding part_named list_named offending record_at initial_width record_width tell answered_with refused_with malformed_with verdict_head unreadable_head verdict_behind
 offending_part κ s initial solution = rw (told_as_verdict κ s initial solution) (by (verdict κ s initial solution))
   where
-    by : (v : Verdict) → part_named initial solution (tell (verdict_head v) (map pos (verdict_behind (length (sizes s)) v))) ≡ offending (sizes s) initial solution v
-    by (Refuses x) = refl
-    by (Malformed w) = refl
-    by (InitialMissing k) = refl
-    by (ResultMissing k e) = refl
-    by (Accepted Clean) = refl
-    by (Accepted (Unclean k e)) = refl
+    by : (v : Result Verdict Unreadable) → part_named initial solution (tell (verdict_head v) (map pos (verdict_behind (length (sizes s)) v))) ≡ offending (sizes s) initial solution v
+    by (Err (Unasked x)) = refl
+    by (Err (Unfit w)) = refl
+    by (Ok (InitialMissing k)) = refl
+    by (Ok (ResultMissing k e)) = refl
+    by (Ok (Accepted Clean)) = refl
+    by (Ok (Accepted (Unclean k e))) = refl
 
 -- a verdict names records that are there
-record Named (initials solutions : ℕ) (v : Verdict) : Type 0 where
-  first : (k : ℕ) → v ≡ InitialMissing k → k < initials
-  later : (k e : ℕ) → v ≡ ResultMissing k e → k < solutions
+record Named (initials solutions : ℕ) (v : Result Verdict Unreadable) : Type 0 where
+  first : (k : ℕ) → v ≡ Ok (InitialMissing k) → k < initials
+  later : (k e : ℕ) → v ≡ Ok (ResultMissing k e) → k < solutions
 
 module _ (initials solutions : ℕ) where
-  unless_named : (x : Validity) (v : Verdict) → Named initials solutions v → Named initials solutions (verdict_unless_refused x v)
+  unless_named : (x : Validity) (v : Result Verdict Unreadable) → Named initials solutions v → Named initials solutions (verdict_unless_refused x v)
   unfolding verdict_unless_refused
   unless_named (Ok _) v p = p
   unless_named (Err x) v p =
@@ -63,7 +65,7 @@ module _ (initials solutions : ℕ) where
         later = λ k a e. never (cc);
       }
 
-  formed_named : (list : RecordList) (x : Validity) (v : Verdict) → Named initials solutions v → Named initials solutions (unless_malformed list x v)
+  formed_named : (list : RecordList) (x : Validity) (v : Result Verdict Unreadable) → Named initials solutions v → Named initials solutions (unless_malformed list x v)
   unfolding unless_malformed
   formed_named list (Ok _) v p = p
   formed_named list (Err x) v p =
@@ -73,7 +75,7 @@ module _ (initials solutions : ℕ) where
       }
 
   found_named : (f : Option ℕ) (spot : Option Spot) (mark : Mark) → ((k : ℕ) → f ≡ Some k → k < initials) → ((x : Spot) → spot ≡ Some x → x.«record» < solutions)
-      → Named initials solutions (verdict_by f spot mark)
+      → Named initials solutions (Ok (verdict_by f spot mark))
   unfolding verdict_by
   found_named (Some j) spot mark p q =
       record {
@@ -115,16 +117,16 @@ over_named ns g initial solution =
 
 -- so the part that a row names lies inside its list
 pub offending_inside : (κ : Construction) (s initial solution : List ℕ) → let t = judged κ s initial solution in told_at t 5 + told_at t 6 ≤ length (list_named initial solution (told_at t 0))
-unfolding list_named verdict record_count initial_width record_width tell answered_with refused_with malformed_with verdict_head verdict_behind
+unfolding list_named verdict record_count initial_width record_width tell answered_with refused_with malformed_with verdict_head unreadable_head verdict_behind
 offending_inside κ s initial solution =
     rw (told_as_verdict κ s initial solution)
     (by (verdict κ s initial solution) refl (unless_named _ _ (validity s) _ (over_named (sizes s) (graph κ s) initial solution)))
   where
-    by : (v : Verdict) → verdict κ s initial solution ≡ v → Named (length initial / length (sizes s)) (length solution / (2 + length (sizes s))) (verdict κ s initial solution)
+    by : (v : Result Verdict Unreadable) → verdict κ s initial solution ≡ v → Named (length initial / length (sizes s)) (length solution / (2 + length (sizes s))) (verdict κ s initial solution)
         → (let t = tell (verdict_head v) (map pos (verdict_behind (length (sizes s)) v)) in told_at t 5 + told_at t 6 ≤ length (list_named initial solution (told_at t 0)))
-    by (Refuses x) e named = omega arith
-    by (Malformed w) e named = omega arith
-    by (InitialMissing k) e named = record_inside (length (sizes s)) (length initial) k (named.first k e)
-    by (ResultMissing k a) e named = record_inside (2 + length (sizes s)) (length solution) k (named.later k a e)
-    by (Accepted Clean) e named = omega arith
-    by (Accepted (Unclean k a)) e named = omega arith
+    by (Err (Unasked x)) e named = omega arith
+    by (Err (Unfit w)) e named = omega arith
+    by (Ok (InitialMissing k)) e named = record_inside (length (sizes s)) (length initial) k (named.first k e)
+    by (Ok (ResultMissing k a)) e named = record_inside (2 + length (sizes s)) (length solution) k (named.later k a e)
+    by (Ok (Accepted Clean)) e named = omega arith
+    by (Ok (Accepted (Unclean k a))) e named = omega arith

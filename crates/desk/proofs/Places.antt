@@ -49,7 +49,6 @@ use Rattle.analysis.specs.declared.Solved.{Solved}
 use Rattle.analysis.specs.declared.Split.{Split}
 use Rattle.analysis.specs.declared.Spot.{Spot}
 use Rattle.analysis.specs.declared.Verdict.{Verdict}
-use Rattle.analysis.specs.declared.Verdict.TheVariants.{Refused as Declines, Malformed}
 use Rattle.analysis.specs.declared.WrongByte.{WrongByte}
 use Rattle.desk.specs.Reply.{Narrow}
 use Rattle.program.proofs.Never.{never}
@@ -155,11 +154,11 @@ few_names s fit = omega (arith, sizes_length s, (counts s fit).names)
 
 -- ---- Verdicts
 
-pub record VerdictTold (v : Verdict) : Type 0 where
-  pub refused : (x : Refusal) → v ≡ Declines x → Told 7244 x
-  pub wrong : (w : WrongByte) → v ≡ Malformed w → w.offset ≤ 139264
+pub record VerdictTold (v : Result Verdict Unreadable) : Type 0 where
+  pub refused : (x : Refusal) → v ≡ Err (Unasked x) → Told 7244 x
+  pub wrong : (w : WrongByte) → v ≡ Err (Unfit w) → w.offset ≤ 139264
 
-verdict_unless : (v : Validity) (d : Verdict) → Placed 7244 v → (v ≡ Ok tt → VerdictTold d) → VerdictTold (verdict_unless_refused v d)
+verdict_unless : (v : Validity) (d : Result Verdict Unreadable) → Placed 7244 v → (v ≡ Ok tt → VerdictTold d) → VerdictTold (verdict_unless_refused v d)
 unfolding verdict_unless_refused
 verdict_unless (Ok _) d p q = q refl
 verdict_unless (Err y) d p q =
@@ -168,7 +167,7 @@ verdict_unless (Err y) d p q =
       wrong = λ w e. never (cc);
     }
 
-verdict_formed : (list : RecordList) (v : Validity) (d : Verdict) → Placed 139264 v → VerdictTold d → VerdictTold (unless_malformed list v d)
+verdict_formed : (list : RecordList) (v : Validity) (d : Result Verdict Unreadable) → Placed 139264 v → VerdictTold d → VerdictTold (unless_malformed list v d)
 unfolding unless_malformed wrong_byte
 verdict_formed list (Ok _) d p q = q
 verdict_formed list (Err y) d p q =
@@ -177,11 +176,8 @@ verdict_formed list (Err y) d p q =
       wrong = λ w e. let same : wrong_byte list y ≡ w = cc in rw (← same) (p y refl).near;
     }
 
-verdict_found : (f : Option ℕ) (spot : Option Spot) (mark : Mark) → VerdictTold (verdict_by f spot mark)
-unfolding verdict_by
-verdict_found (Some k) spot mark = record { refused = λ x e. never (cc); wrong = λ w e. never (cc) }
-verdict_found None (Some x) mark = record { refused = λ x e. never (cc); wrong = λ w e. never (cc) }
-verdict_found None None mark = record { refused = λ x e. never (cc); wrong = λ w e. never (cc) }
+verdict_found : (f : Option ℕ) (spot : Option Spot) (mark : Mark) → VerdictTold (Ok (verdict_by f spot mark))
+verdict_found f spot mark = record { refused = λ x e. never (cc); wrong = λ w e. never (cc) }
 
 both_short : (ns initial solution : List ℕ) → length ns ≤ 32 → both_whole ns initial solution ≡ Ok tt → (length initial ≤ 139264) × (length solution ≤ 139264)
 unfolding both_whole initial_width record_width
@@ -292,8 +288,8 @@ stepped_narrow κ s c e same x p = omega (arith, (step_told κ s c e x (ap (λ (
 pub ended_narrow : (κ : Construction) (s : List ℕ) (budget : ℕ) (m : List ℤ) {r : Ended} → r ≡ budget_reply κ s budget m → (x : Refusal) → r.ending ≡ Halts x → Narrow x.offset
 ended_narrow κ s budget m same x p = omega (arith, (budget_told κ s budget m x (ap (λ (r : Ended). r.ending) (sym same) ∙ p)).near)
 
-pub verdict_narrow : (κ : Construction) (s initial solution : List ℕ) {v : Verdict} → v ≡ verdict κ s initial solution
-    → record { refused : ((x : Refusal) → v ≡ Declines x → Narrow x.offset); malformed : ((w : WrongByte) → v ≡ Malformed w → Narrow w.offset) }
+pub verdict_narrow : (κ : Construction) (s initial solution : List ℕ) {v : Result Verdict Unreadable} → v ≡ verdict κ s initial solution
+    → record { refused : ((x : Refusal) → v ≡ Err (Unasked x) → Narrow x.offset); malformed : ((w : WrongByte) → v ≡ Err (Unfit w) → Narrow w.offset) }
 verdict_narrow κ s initial solution same =
     let told = verdict_told_lem κ s initial solution in
     record { refused = λ x e. omega (arith, (told.refused x (sym same ∙ e)).near); malformed = λ w e. omega (arith, told.wrong w (sym same ∙ e)) }

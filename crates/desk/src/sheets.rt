@@ -55,41 +55,41 @@ pub(crate) fn of_unreadable(x: Unreadable) -> Head
 }
 
 // A verdict: 0, 41 or 42.
-fn of_verdict(v: Verdict) -> Head
-    requires refused { (x : Refusal) → v ≡ Verdict.Refused x → spec.Narrow x.offset }
-    requires malformed { (w : WrongByte) → v ≡ Verdict.Malformed w → spec.Narrow w.offset }
+#[tactic(auto, unfolding(crate::specs::Parts::Heads::verdict_head))]
+fn of_verdict(v: Result<Verdict, Unreadable>) -> Head
+    requires refused { (x : Refusal) → v ≡ Err (Unreadable.Refused x) → spec.Narrow x.offset }
+    requires malformed { (w : WrongByte) → v ≡ Err (Unreadable.Malformed w) → spec.Narrow w.offset }
     ensures { result ≡ heads.verdict_head v }
 {
     match v {
-        Verdict::Refused(x) => Head::Refused(x.number, x.offset as u32),
-        Verdict::Malformed(w) => of_wrong_byte(w),
-        Verdict::InitialMissing { record: _ } => Head::Answered(41),
-        Verdict::ResultMissing { record: _, edge: _ } => Head::Answered(42),
-        Verdict::Accepted(_) => Head::Answered(0),
+        Ok(Verdict::InitialMissing { record: _ }) => Head::Answered(41),
+        Ok(Verdict::ResultMissing { record: _, edge: _ }) => Head::Answered(42),
+        Ok(Verdict::Accepted(_)) => Head::Answered(0),
+        Err(x) => of_unreadable(x),
     }
 }
 
 // What stands behind it: record and edge, the offending record's offset and length, and the index mark, in a program with so many names.
-fn behind(names: u16, v: Verdict) -> [u32; 7]
+#[tactic(auto, unfolding(crate::specs::Parts::Heads::verdict_behind))]
+fn behind(names: u16, v: Result<Verdict, Unreadable>) -> [u32; 7]
     ensures { result ≡ heads.verdict_behind names v }
 {
     let names = names as u32;
     match v {
-        Verdict::Refused(_) => [0; 7],
-        Verdict::Malformed(_) => [0; 7],
-        Verdict::InitialMissing { record } => {
+        Ok(Verdict::InitialMissing { record }) => {
             let record = record as u32;
             [record, 0, names * record, names, 0, 0, 0]
         }
-        Verdict::ResultMissing { record, edge } => {
+        Ok(Verdict::ResultMissing { record, edge }) => {
             let record = record as u32;
             let width = 2 + names;
             [record, edge as u32, width * record, width, 0, 0, 0]
         }
-        Verdict::Accepted(mark) => match mark {
-            Mark::Clean => [0, 0, 0, 0, CLEAN, 0, 0],
-            Mark::Unclean { record, edge } => { [0, 0, 0, 0, UNCLEAN, record as u32, edge as u32] }
-        },
+        Ok(Verdict::Accepted(Mark::Clean)) => [0, 0, 0, 0, CLEAN, 0, 0],
+        Ok(Verdict::Accepted(Mark::Unclean { record, edge })) => {
+            [0, 0, 0, 0, UNCLEAN, record as u32, edge as u32]
+        }
+        Err(_) => [0; 7],
     }
 }
 

@@ -14,7 +14,7 @@ use Rattle.analysis.specs.declared.Unreadable.TheVariants.{Refused as Unasked, M
 use Rattle.analysis.specs.declared.Solving.{Solving}
 use Rattle.analysis.specs.declared.Solving.TheVariants.{Finished, Full}
 use Rattle.analysis.specs.declared.Verdict.{Verdict}
-use Rattle.analysis.specs.declared.Verdict.TheVariants.{Refused as Declines, Malformed as Misformed, InitialMissing, ResultMissing, Accepted}
+use Rattle.analysis.specs.declared.Verdict.TheVariants.{InitialMissing, ResultMissing, Accepted}
 use Rattle.desk.specs.Rows.{clean, unclean}
 use Rattle.desk.specs.declared.Head.{Head}
 use Rattle.desk.specs.declared.Head.TheVariants.{Answered, Refused as Declined, Malformed}
@@ -38,12 +38,11 @@ unfoldable pub unreadable_head : Unreadable → Head
 unreadable_head (Unasked x) = Declined x.number x.offset
 unreadable_head (Unfit w) = Malformed (list_number w.list) w.offset
 
-unfoldable pub verdict_head : Verdict → Head
-verdict_head (Declines x) = Declined x.number x.offset
-verdict_head (Misformed w) = Malformed (list_number w.list) w.offset
-verdict_head (InitialMissing k) = Answered 41
-verdict_head (ResultMissing k e) = Answered 42
-verdict_head (Accepted mark) = Answered 0
+unfoldable pub verdict_head : Result Verdict Unreadable → Head
+verdict_head (Err x) = unreadable_head x
+verdict_head (Ok (InitialMissing k)) = Answered 41
+verdict_head (Ok (ResultMissing k e)) = Answered 42
+verdict_head (Ok (Accepted mark)) = Answered 0
 
 unfoldable pub mark_head : Mark → Head
 mark_head Clean = Answered clean
@@ -58,13 +57,12 @@ solving_head Finished = Answered 0
 solving_head Full = Declined 18 0
 
 -- the numbers behind a verdict's head, in a program with so many names, and behind an index mark's
-unfoldable pub verdict_behind : ℕ → Verdict → List ℕ
-verdict_behind names (Declines x) = replicate 7 0
-verdict_behind names (Misformed w) = replicate 7 0
-verdict_behind names (InitialMissing k) = k ∷ 0 ∷ (names * k) ∷ names ∷ 0 ∷ 0 ∷ 0 ∷ []
-verdict_behind names (ResultMissing k e) = k ∷ e ∷ ((2 + names) * k) ∷ (2 + names) ∷ 0 ∷ 0 ∷ 0 ∷ []
-verdict_behind names (Accepted Clean) = 0 ∷ 0 ∷ 0 ∷ 0 ∷ clean ∷ 0 ∷ 0 ∷ []
-verdict_behind names (Accepted (Unclean k e)) = 0 ∷ 0 ∷ 0 ∷ 0 ∷ unclean ∷ k ∷ e ∷ []
+unfoldable pub verdict_behind : ℕ → Result Verdict Unreadable → List ℕ
+verdict_behind names (Err x) = replicate 7 0
+verdict_behind names (Ok (InitialMissing k)) = k ∷ 0 ∷ (names * k) ∷ names ∷ 0 ∷ 0 ∷ 0 ∷ []
+verdict_behind names (Ok (ResultMissing k e)) = k ∷ e ∷ ((2 + names) * k) ∷ (2 + names) ∷ 0 ∷ 0 ∷ 0 ∷ []
+verdict_behind names (Ok (Accepted Clean)) = 0 ∷ 0 ∷ 0 ∷ 0 ∷ clean ∷ 0 ∷ 0 ∷ []
+verdict_behind names (Ok (Accepted (Unclean k e))) = 0 ∷ 0 ∷ 0 ∷ 0 ∷ unclean ∷ k ∷ e ∷ []
 
 unfoldable pub mark_behind : Result Mark Unreadable → List ℕ
 mark_behind (Err x) = replicate 2 0
