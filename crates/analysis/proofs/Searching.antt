@@ -116,14 +116,14 @@ module _ {ns : List ℕ} {g : Graph} {code graph : List ℕ} (p : Prepared ns g 
   none_along h = none_such _ _ (λ k l. fails k (omega (arith, p.edges)) l)
 
 -- an edge that a query does not pick, whatever program was prepared and whatever abstract memory was read
-abbrev pub Unpicked : (q : Query) (code graph solution index rho : List ℕ) (e : ℕ) → Type 0
-Unpicked q code graph solution index rho e =
-    (ns : List ℕ) (g : Graph) (ρ : List ℕ) → Searched ns g code graph q solution index → ReadInto ρ rho (length ns) → picks ns g solution q ρ e ≡ false
+abbrev pub Unpicked : (q : Query) (code graph solution index rho : List ℕ) (names e : ℕ) → Type 0
+Unpicked q code graph solution index rho names e =
+    (ns : List ℕ) (g : Graph) (ρ : List ℕ) → length ns ≡ names → Searched ns g code graph q solution index → ReadInto ρ rho (length ns) → picks ns g solution q ρ e ≡ false
 
-module _ (q : Query) (code graph solution index rho : List ℕ) (node e : ℕ) (at : Following graph node (Unpicked q code graph solution index rho) e)
-    (ns : List ℕ) (g : Graph) (ρ : List ℕ) (x : Searched ns g code graph q solution index) (y : ReadInto ρ rho (length ns)) where
+module _ (q : Query) (code graph solution index rho : List ℕ) (names node e : ℕ) (at : Following graph node (Unpicked q code graph solution index rho names) e)
+    (ns : List ℕ) (g : Graph) (ρ : List ℕ) (sized : length ns ≡ names) (x : Searched ns g code graph q solution index) (y : ReadInto ρ rho (length ns)) where
   unpicked_before : Following graph node (λ k. picks ns g solution q ρ k ≡ false) e
-  unpicked_before = record { here = at.here; before = λ k h l t. at.before k h l t ns g ρ x y }
+  unpicked_before = record { here = at.here; before = λ k h l t. at.before k h l t ns g ρ sized x y }
 
   pub picked_here : e < get_or graph edge_count_place 0 → picks ns g solution q ρ e ≡ true → first_picked ns g solution q node ρ ≡ Some e
   unfolding first_picked
@@ -136,13 +136,13 @@ module _ (q : Query) (code graph solution index rho : List ℕ) (node e : ℕ) (
 -- ---- 42 at a node whose lowest edge is a guard's of the deterministic graph
 
 -- an edge that is passed over: its own guard may fail, and where it may hold, the abstract memory is listed at the target
-pub record Passed (code graph solution index rho : List ℕ) (e : ℕ) : Type 0 where
+pub record Passed (code graph solution index rho : List ℕ) (names e : ℕ) : Type 0 where
   pub fails : (truths_in rho (own_at code graph e)).fails ≡ true
-  pub listed : (ns : List ℕ) (g : Graph) (ρ : List ℕ) → Searched ns g code graph MissingResult solution index → ReadInto ρ rho (length ns) → e < length g.edges
+  pub listed : (ns : List ℕ) (g : Graph) (ρ : List ℕ) → length ns ≡ names → Searched ns g code graph MissingResult solution index → ReadInto ρ rho (length ns) → e < length g.edges
       → any_missing ns solution (edge_at g e).target (cond (truths_in rho (own_at code graph e)).holds (ρ ∷ []) []) ≡ false
 
-module _ {ns : List ℕ} {g : Graph} {code graph solution index ρ rho : List ℕ} (x : Searched ns g code graph MissingResult solution index) (y : ReadInto ρ rho (length ns))
-    {node first : ℕ} (opened : Opens graph node first) (e : ℕ) (at : Following graph node (Passed code graph solution index rho) e) where
+module _ {ns : List ℕ} {g : Graph} {code graph solution index ρ rho : List ℕ} {names : ℕ} (sized : length ns ≡ names) (x : Searched ns g code graph MissingResult solution index) (y : ReadInto ρ rho (length ns))
+    {node first : ℕ} (opened : Opens graph node first) (e : ℕ) (at : Following graph node (Passed code graph solution index rho names) e) where
   count_is : get_or graph edge_count_place 0 ≡ length g.edges
   count_is = x.prepared.edges
 
@@ -160,7 +160,7 @@ module _ {ns : List ℕ} {g : Graph} {code graph solution index ρ rho : List �
       ∙ ap (λ (v : Truths). cond v.holds (ρ ∷ []) []) (alike k))
 
   unpicked : (k : ℕ) → k < e → k < get_or graph edge_count_place 0 → eqb (source_in graph k) node ≡ true → picks ns g solution MissingResult ρ k ≡ false
-  unpicked k l h s = picks_own k (omega arith) h s ∙ (at.before k l h s).listed ns g ρ x y (omega (arith, count_is))
+  unpicked k l h s = picks_own k (omega arith) h s ∙ (at.before k l h s).listed ns g ρ sized x y (omega (arith, count_is))
 
   pub no_guard : get_or graph edge_count_place 0 ≤ e → first_picked ns g solution MissingResult node ρ ≡ None
   unfolding first_picked

@@ -3,6 +3,7 @@ pub mod RecordParts
 pub mod Changing
 pub mod Tabled
 pub mod Judging
+pub mod Counted
 pub mod Solving
 pub mod Doubling
 pub mod Covering

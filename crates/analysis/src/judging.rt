@@ -6,6 +6,7 @@ ghost use Rattle.program.specs.Graph;
 ghost use Rattle.program.specs.Parts.Prepared;
 ghost use Rattle.semantics.specs.Parts.Selecting;
 ghost use Rattle.analysis.specs.Parts.Changing;
+ghost use Rattle.analysis.specs.Parts.Counted.{ordered_prop};
 ghost use Rattle.analysis.specs.Parts.Judging as parts;
 ghost use Rattle.analysis.specs.Records;
 ghost use Rattle.analysis.specs.Soundness;
@@ -25,53 +26,6 @@ enum Query {
     NegativeIndex,
 }
 
-// Whether a solution has a changed record.
-fn listed(
-    index: &[u16; INDEX],
-    solution: &[u8],
-    names: usize,
-    rho: &[u8; 32],
-    weight: u32,
-    change: Change,
-) -> bool
-    requires { parts.Ordered names solution.now index.now rho.now weight }
-    ensures { (ns ρ : List ℕ) → length ns ≡ names → parts.Filled names solution.now index.now → parts.ReadInto ρ rho.now names
-        → result ≡ Records.has_at ns solution.now change.node (set ρ change.name change.set) }
-{
-    let h = membership::hash_changed(index, names, rho, weight, change);
-    membership::find(index, solution, names, rho, change, h)
-}
-
-// Whether one of the results of an edge is missing at its target.
-fn any_missing(
-    index: &[u16; INDEX],
-    solution: &[u8],
-    names: usize,
-    rho: &[u8; 32],
-    weight: u32,
-    node: u16,
-    found: u64,
-) -> bool
-    requires { parts.Ordered names solution.now index.now rho.now weight × (found / 64 < Changing.digits_end) }
-    ensures { (ns ρ : List ℕ) → length ns ≡ names → parts.Filled names solution.now index.now → parts.ReadInto ρ rho.now names
-        → result ≡ parts.any_missing ns solution.now node (map (set ρ (found % 64)) (Changing.sets_of (found / 64))) }
-{
-    let name = results::name_of(found);
-    let mut sets = results::sets_of(found);
-    while 0 < sets {
-        let change = Change {
-            node,
-            name,
-            set: results::first_set(sets),
-        };
-        if !listed(index, solution, names, rho, weight, change) {
-            return true;
-        }
-        sets = results::other_sets(sets);
-    }
-    false
-}
-
 // Whether a query is handed over at an edge: 42 is, at a guard's of the deterministic graph, whose results depend on the guards before it.
 fn handed_over(query: Query, graph: &[u16; GRAPH], e: u16) -> bool
     ensures { result ≡ parts.handed_over query (Prepared.action_in graph.now e) }
@@ -82,127 +36,134 @@ fn handed_over(query: Query, graph: &[u16; GRAPH], e: u16) -> bool
     }
 }
 
-// Whether a query picks an abstract memory and an edge, at which it is not handed over.
-fn picked(
-    query: Query,
-    machine: Machine<'_>,
-    index: &[u16; INDEX],
-    solution: &[u8],
-    rho: &[u8; 32],
+// An abstract memory with its weight, and a solution, some of whose records are indexed, in which it is looked for with one name changed. A method borrows it: it is seven words,
+// more than a call hands on in registers.
+#[derive(Clone, Copy)]
+struct Lookup<'a> {
+    index: &'a [u16; INDEX],
+    solution: &'a [u8],
+    names: usize,
+    rho: &'a [u8; 32],
     weight: u32,
-    e: u16,
-) -> bool
-    requires { parts.Ordered (parts.names_in machine.code.now) solution.now index.now rho.now weight }
-    ensures { (ns : List ℕ) (g : Graph.Graph) (ρ : List ℕ)
-        → parts.Searched ns g machine.entry.code.now machine.entry.graph.now query solution.now index.now
-        → parts.ReadInto ρ rho.now (length ns) → e < length g.edges → parts.handed_over query (Prepared.action_in machine.entry.graph.now e) ≡ false
-        → result ≡ parts.picks ns g solution.now query ρ e }
-{
-    match query {
-        Query::MissingResult => {
-            let action = prepared::plain_action(machine.graph, e);
-            let found = machine.results(rho, action);
-            let names = prepared::name_count(machine.code);
+    ghost bytes: { (i : ℕ) → slice_index solution.now i < 256 },
+    ghost ordered: { parts.Ordered names solution.now index.now rho.now weight } by { ordered_prop names solution.now index.now rho.now weight },
+}
+
+impl Lookup<'_> {
+    // Whether the solution has a changed record.
+    fn listed(&self, change: Change) -> bool
+        ensures { (ns ρ : List ℕ) → length ns ≡ self.now.names → parts.Filled self.now.names self.now.solution.now self.now.index.now → parts.ReadInto ρ self.now.rho.now self.now.names
+            → result ≡ Records.has_at ns self.now.solution.now change.node (set ρ change.name change.set) }
+    {
+        let h = membership::hash_changed(self.index, self.names, self.rho, self.weight, change);
+        membership::find(self.index, self.solution, self.names, self.rho, change, h)
+    }
+
+    // Whether one of the results of an edge is missing at its target.
+    fn any_missing(&self, node: u16, found: u64) -> bool
+        requires { found / 64 < Changing.digits_end }
+        ensures { (ns ρ : List ℕ) → length ns ≡ self.now.names → parts.Filled self.now.names self.now.solution.now self.now.index.now → parts.ReadInto ρ self.now.rho.now self.now.names
+            → result ≡ parts.any_missing ns self.now.solution.now node (map (set ρ (found % 64)) (Changing.sets_of (found / 64))) }
+    {
+        let name = results::name_of(found);
+        let mut sets = results::sets_of(found);
+        while 0 < sets {
+            let change = Change {
+                node,
+                name,
+                set: results::first_set(sets),
+            };
+            if !self.listed(change) {
+                return true;
+            }
+            sets = results::other_sets(sets);
+        }
+        false
+    }
+
+    // Whether a query picks the abstract memory and an edge, at which it is not handed over.
+    fn picked(&self, query: Query, machine: Machine<'_>, e: u16) -> bool
+        ensures { (ns : List ℕ) (g : Graph.Graph) (ρ : List ℕ) → length ns ≡ self.now.names
+            → parts.Searched ns g machine.entry.code.now machine.entry.graph.now query self.now.solution.now self.now.index.now
+            → parts.ReadInto ρ self.now.rho.now (length ns) → e < length g.edges → parts.handed_over query (Prepared.action_in machine.entry.graph.now e) ≡ false
+            → result ≡ parts.picks ns g self.now.solution.now query ρ e }
+    {
+        match query {
+            Query::MissingResult => {
+                let action = prepared::plain_action(machine.graph, e);
+                let found = machine.results(self.rho, action);
+                let node = prepared::edge_target(machine.graph, e);
+                self.any_missing(node, found)
+            }
+            Query::NegativeIndex => {
+                let action = prepared::action(machine.graph, e);
+                machine.may_be_negative(self.rho, action)
+            }
+        }
+    }
+
+    // Whether the abstract memory itself is missing at the target of an edge, where the edge's own guard may hold.
+    fn guard_missing(&self, machine: Machine<'_>, e: u16, holds: bool) -> bool
+        ensures { (ns : List ℕ) (g : Graph.Graph) (ρ : List ℕ) → length ns ≡ self.now.names
+            → parts.Searched ns g machine.entry.code.now machine.entry.graph.now Query.MissingResult self.now.solution.now self.now.index.now
+            → parts.ReadInto ρ self.now.rho.now (length ns) → e < length g.edges
+            → result ≡ parts.any_missing ns self.now.solution.now (Graph.edge_at g e).target (if holds then ρ ∷ [] else []) }
+    {
+        if holds {
             let node = prepared::edge_target(machine.graph, e);
-            any_missing(index, solution, names, rho, weight, node, found)
+            // no name has this number: nothing is changed
+            let change = Change {
+                node,
+                name: NAMES_MOST,
+                set: 0,
+            };
+            return !self.listed(change);
         }
-        Query::NegativeIndex => {
-            let action = prepared::action(machine.graph, e);
-            machine.may_be_negative(rho, action)
-        }
+        false
     }
-}
 
-// Whether the abstract memory itself is missing at the target of an edge, where the edge's own guard may hold.
-fn guard_missing(
-    machine: Machine<'_>,
-    index: &[u16; INDEX],
-    solution: &[u8],
-    rho: &[u8; 32],
-    weight: u32,
-    e: u16,
-    holds: bool,
-) -> bool
-    requires { parts.Ordered (parts.names_in machine.code.now) solution.now index.now rho.now weight }
-    ensures { (ns : List ℕ) (g : Graph.Graph) (ρ : List ℕ)
-        → parts.Searched ns g machine.entry.code.now machine.entry.graph.now Query.MissingResult solution.now index.now
-        → parts.ReadInto ρ rho.now (length ns) → e < length g.edges
-        → result ≡ parts.any_missing ns solution.now (Graph.edge_at g e).target (if holds then ρ ∷ [] else []) }
-{
-    if holds {
-        let names = prepared::name_count(machine.code);
-        let node = prepared::edge_target(machine.graph, e);
-        // no name has this number: nothing is changed
-        let change = Change {
-            node,
-            name: NAMES_MOST,
-            set: 0,
-        };
-        return !listed(index, solution, names, rho, weight, change);
+    // 42 at a node of the deterministic graph whose lowest edge is a guard's: the first edge along which a result is missing. An edge has its own guard's results where
+    // each guard before it may fail, and none where one may not; so each guard is worked out once.
+    fn first_missing(&self, machine: Machine<'_>, first: u16) -> Option<u16>
+        ensures { (ns : List ℕ) (g : Graph.Graph) (ρ : List ℕ) (node : ℕ) → length ns ≡ self.now.names
+            → parts.Searched ns g machine.entry.code.now machine.entry.graph.now Query.MissingResult self.now.solution.now self.now.index.now
+            → parts.ReadInto ρ self.now.rho.now (length ns) → Selecting.Opens machine.entry.graph.now node first
+            → result ≡ parts.first_picked ns g self.now.solution.now Query.MissingResult node ρ }
+    {
+        let count = prepared::edge_count(machine.graph);
+        let mut e = first;
+        while e < count {
+            let t = machine.own_truths(self.rho, e);
+            if self.guard_missing(machine, e, t.holds) {
+                return Some(e);
+            }
+            if !t.fails {
+                return None;
+            }
+            e = prepared::next_edge(machine.graph, e);
+        }
+        None
     }
-    false
-}
 
-// 42 at a node of the deterministic graph whose lowest edge is a guard's: the first edge along which a result is missing. An edge has its own guard's results where
-// each guard before it may fail, and none where one may not; so each guard is worked out once.
-fn first_missing(
-    machine: Machine<'_>,
-    index: &[u16; INDEX],
-    solution: &[u8],
-    rho: &[u8; 32],
-    weight: u32,
-    first: u16,
-) -> Option<u16>
-    requires { parts.Ordered (parts.names_in machine.code.now) solution.now index.now rho.now weight }
-    ensures { (ns : List ℕ) (g : Graph.Graph) (ρ : List ℕ) (node : ℕ)
-        → parts.Searched ns g machine.entry.code.now machine.entry.graph.now Query.MissingResult solution.now index.now
-        → parts.ReadInto ρ rho.now (length ns) → Selecting.Opens machine.entry.graph.now node first
-        → result ≡ parts.first_picked ns g solution.now Query.MissingResult node ρ }
-{
-    let count = prepared::edge_count(machine.graph);
-    let mut e = first;
-    while e < count {
-        let t = machine.own_truths(rho, e);
-        if guard_missing(machine, index, solution, rho, weight, e, t.holds) {
-            return Some(e);
+    // The first edge out of a node that a query picks.
+    fn first_picked(&self, query: Query, machine: Machine<'_>, node: u16) -> Option<u16>
+        ensures { (ns : List ℕ) (g : Graph.Graph) (ρ : List ℕ) → length ns ≡ self.now.names
+            → parts.Searched ns g machine.entry.code.now machine.entry.graph.now query self.now.solution.now self.now.index.now
+            → parts.ReadInto ρ self.now.rho.now (length ns) → node < Prepared.nodes_most → result ≡ parts.first_picked ns g self.now.solution.now query node ρ }
+    {
+        let count = prepared::edge_count(machine.graph);
+        let mut e = prepared::first_edge(machine.graph, node);
+        while e < count {
+            if handed_over(query, machine.graph, e) {
+                return self.first_missing(machine, e);
+            }
+            if self.picked(query, machine, e) {
+                return Some(e);
+            }
+            e = prepared::next_edge(machine.graph, e);
         }
-        if !t.fails {
-            return None;
-        }
-        e = prepared::next_edge(machine.graph, e);
+        None
     }
-    None
-}
-
-// The first edge out of a node that a query picks.
-fn first_picked(
-    query: Query,
-    code: &[u16; CODE],
-    graph: &[u16; GRAPH],
-    index: &[u16; INDEX],
-    solution: &[u8],
-    rho: &[u8; 32],
-    weight: u32,
-    node: u16,
-) -> Option<u16>
-    requires { parts.Ordered (parts.names_in code.now) solution.now index.now rho.now weight × Prepared.Linked graph.now × Tabled.Tabled code.now }
-    ensures { (ns : List ℕ) (g : Graph.Graph) (ρ : List ℕ)
-        → parts.Searched ns g code.now graph.now query solution.now index.now
-        → parts.ReadInto ρ rho.now (length ns) → node < Prepared.nodes_most → result ≡ parts.first_picked ns g solution.now query node ρ }
-{
-    let machine = Machine { code, graph };
-    let count = prepared::edge_count(graph);
-    let mut e = prepared::first_edge(graph, node);
-    while e < count {
-        if handed_over(query, graph, e) {
-            return first_missing(machine, index, solution, rho, weight, e);
-        }
-        if picked(query, machine, index, solution, rho, weight, e) {
-            return Some(e);
-        }
-        e = prepared::next_edge(graph, e);
-    }
-    None
 }
 
 // What a query finds at record k.
@@ -225,7 +186,14 @@ fn spot_at(
     let mut rho = [0u8; 32];
     lists::read_memory(&mut rho, solution, at + 2, names);
     let weight = membership::weight(index, solution, at + 2, names);
-    let edge = first_picked(query, code, graph, index, solution, &rho, weight, node)?;
+    let lookup = Lookup {
+        index,
+        solution,
+        names,
+        rho: &rho,
+        weight,
+    };
+    let edge = lookup.first_picked(query, Machine { code, graph }, node)?;
     Some(Spot { record: k, edge })
 }
 
@@ -281,7 +249,14 @@ fn initial_listed(
         name: 32,
         set: 0,
     };
-    listed(index, solution, names, &rho, weight, change)
+    let lookup = Lookup {
+        index,
+        solution,
+        names,
+        rho: &rho,
+        weight,
+    };
+    lookup.listed(change)
 }
 
 // 41: the first start record that is missing at node 0.

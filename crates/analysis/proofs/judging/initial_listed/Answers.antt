@@ -17,10 +17,6 @@ overflow_mul-at c = record { fits = omega (arith, inside (goal.at.overflow_mul-a
 pub weight-weight-requires : goal.weight-weight-requires
 weight-weight-requires c = (c.requires.0.factored, c.requires.1, inside (goal.at.weight-weight-requires c).Start)
 
-pub listed-requires : goal.listed-requires
-listed-requires c =
-    record { count = _; indexed = c.requires.0; weighed = rw c.read_memory.ensures c.weight-weight.ensures }
-
 pub returns : goal.returns
 returns c ns e =
     c.listed.ensures ns _ e c.requires.0 (start_read ns e c.requires.1 _ _ c.requires.2 _ c.read_memory.ensures)

@@ -1,5 +1,5 @@
 -- `judging::spot_at`: the record's node and abstract memory are read, and the edges out of the node followed.
-use Rattle.std.proofs.Common.{◌≡◌, ℕ, ◌+◌, ◌*◌, ◌≤◌, List, length, arith}
+use Rattle.std.proofs.Common.{◌≡◌, ℕ, ◌+◌, ◌*◌, ◌≤◌, List, length, sym, ◌∙◌, arith}
 use Rattle.program.specs.Graph.{Graph}
 use Rattle.analysis.specs.Parts.Judging.{spot_of, names_in, Searched}
 use Rattle.analysis.specs.Records.{record_count}
@@ -32,17 +32,6 @@ pub weight-weight-requires : goal.weight-weight-requires
 weight-weight-requires c =
     (c.requires.0.indexed.factored, rw c.name_count-names.ensures (ready_names c.requires.0.ready).1, rw c.name_count-names.ensures (omega (arith, inside (goal.at.weight-weight-requires c).Start)))
 
-pub first_picked-requires : goal.first_picked-requires
-first_picked-requires c = (
-  record {
-    count = c.requires.0.count;
-    indexed = c.requires.0.indexed;
-    weighed = rw (← c.name_count-names.ensures, c.read_memory.ensures) c.weight-weight.ensures;
-  },
-  c.requires.0.ready.linked,
-  c.requires.0.ready.tabled,
-)
-
 -- what was found
 picked : (c : After-first_picked) (ns : List ℕ) (g : Graph)
     → Searched ns g c.args.code.now c.args.graph.now c.args.query c.args.solution.now c.args.index.now
@@ -51,8 +40,9 @@ unfolding spot_of
 picked c ns g x =
     let h = c.requires.1 in
     let node = rw c.name_count-names.ensures at c.word_at-node.ensures in
+    let sized = sym (c.name_count-names.ensures ∙ x.prepared.coded.count) in
     let memory = rw c.name_count-names.ensures at c.read_memory.ensures in
-    rw (node_read x _ h _ node, ← c.first_picked.ensures ns g _ x (memory_read x _ h _ memory) (node_low x _ h _ node))
+    rw (node_read x _ h _ node, ← c.first_picked.ensures ns g _ sized x (memory_read x _ h _ memory) (node_low x _ h _ node))
 
 pub returns : goal.returns
 unfolding spot_at

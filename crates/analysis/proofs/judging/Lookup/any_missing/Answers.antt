@@ -1,12 +1,12 @@
--- `judging::any_missing`: set by set, up to the first that is missing; what is left decides.
+-- `Lookup::any_missing`: set by set, up to the first that is missing; what is left decides.
 use Rattle.std.proofs.Common.{sym, ◌∙◌, arith}
 use borrow.Author.Tests.{not-true, not-false}
 use Rattle.analysis.proofs.Searching.{none_left, one_missing, one_listed}
-use Rattle.analysis.proofs.judging.any_missing.Goals as goal
+use Rattle.analysis.proofs.judging.Lookup.any_missing.Goals as goal
 
 pub loop-sets-init : goal.loop-sets-init
 loop-sets-init c =
-    (rw c.sets_of-sets.ensures c.requires.1, λ ns ρ e x y. rw (c.name_of-name.ensures, c.sets_of-sets.ensures))
+    (rw c.sets_of-sets.ensures c.requires, λ ns ρ e x y. rw (c.name_of-name.ensures, c.sets_of-sets.ensures))
 
 pub returns-then-not-listed : goal.returns-then-not-listed
 returns-then-not-listed c ns ρ e x y =
@@ -29,10 +29,6 @@ pub returns : goal.returns
 returns c ns ρ e x y =
     let l = c.loop-sets in
     sym (l.invariant.1 ns ρ e x y ∙ none_left ns _ _ ρ _ l.sets (omega (arith, c.loop-sets-test.false)))
-
-pub listed-requires : goal.listed-requires
-listed-requires c =
-    c.requires.0
 
 pub loop-sets-smaller : goal.loop-sets-smaller
 loop-sets-smaller c =
