@@ -40,8 +40,9 @@ fn listed(
     ensures { (ns ρ : List ℕ) → length ns ≡ names → parts.Filled names solution.now index.now → parts.ReadInto ρ rho.now names
         → result ≡ Records.has_at ns solution.now change.node (set ρ change.name change.set) }
 {
-    let h = membership::hash_changed(index, names, rho, weight, change);
-    membership::find(index, solution, names, rho, change, h)
+    let memory = membership::Memory { names, rho, weight };
+    let h = membership::hash_changed(index, memory, change);
+    membership::find(index, solution, memory, change, h)
 }
 
 // Whether one of the results of an edge is missing at its target.

@@ -27,7 +27,7 @@ offer_guard-progress-requires c = (c.loop-e.invariant.0.growing, c.requires.1)
 
 -- whether its own guard may fail
 failing : (c : After-own_truths-t) {b : Bool} → c.own_truths-t.result.fails ≡ b
-    → (truths_in c.args.rho.now (own_at c.args.machine.code.now c.args.machine.graph.now c.loop-e.e)).fails ≡ b
+    → (truths_in c.args.memory.rho.now (own_at c.args.machine.code.now c.args.machine.graph.now c.loop-e.e)).fails ≡ b
 failing c t = sym (ap (λ (v : Truths). v.fails) c.own_truths-t.ensures) ∙ t
 
 pub returns-then-not-t : goal.returns-then-not-t
