@@ -49,10 +49,6 @@ pub overflow_mul-memory : goal.overflow_mul-memory
 overflow_mul-memory c =
     omega (arith, (there (goal.at.overflow_mul-memory c).In-loop-link).room)
 
-pub is_changed-requires : goal.is_changed-requires
-is_changed-requires c =
-    (there (goal.at.is_changed-requires c).In-loop-link).room
-
 pub overflow_add-link-in-loop-link : goal.overflow_add-link-in-loop-link
 overflow_add-link-in-loop-link c =
     omega (arith, there (goal.at.overflow_add-link-in-loop-link c).In-loop-link)

@@ -9,7 +9,3 @@ returns c =
     c.hash.ensures
     ∙ rw (f.each 0 (omega arith), f.each 1 (omega arith), c.changed_weight.ensures.value)
     (hash_changed c.args.memory.names c.args.memory.rho.now c.args.change (omega (arith, c.args.memory.weighed.front)))
-
-pub hash-requires : goal.hash-requires
-hash-requires c =
-    c.changed_weight.ensures.small

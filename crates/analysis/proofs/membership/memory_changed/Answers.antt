@@ -26,7 +26,3 @@ returns c =
     let a = c.args in
     rw c.agreeing-count.ensures
     (same_past (take a.memory.names (drop a.at a.bytes.now)) a.memory.rho.now a.memory.names (sized (goal.at.returns c).Start) (omega (arith, a.memory.weighed.front)) a.x a.set c.if-x-memory.false)
-
-pub agreeing-count-requires : goal.agreeing-count-requires
-agreeing-count-requires c =
-    (c.args.memory.weighed.front.few, c.requires)
