@@ -14,7 +14,7 @@ ghost use Rattle.analysis.specs.Parts.Tabled;
 ghost use Rattle.analysis.specs.Verdict as spec;
 
 use crate::evaluator::{Machine, results};
-use crate::membership::INDEX;
+use crate::membership::{INDEX, Memory};
 use crate::{Change, Mark, RecordList, Spot, Unreadable, Verdict, lists, membership, set_table};
 use program::prepared::{CODE, GRAPH, NAMES_MOST};
 use program::{Construction, drawing, file, prepared, validation};
@@ -55,8 +55,13 @@ impl Lookup<'_> {
         ensures { (ns ρ : List ℕ) → length ns ≡ self.now.names → parts.Filled self.now.names self.now.solution.now self.now.index.now → parts.ReadInto ρ self.now.rho.now self.now.names
             → result ≡ Records.has_at ns self.now.solution.now change.node (set ρ change.name change.set) }
     {
-        let h = membership::hash_changed(self.index, self.names, self.rho, self.weight, change);
-        membership::find(self.index, self.solution, self.names, self.rho, change, h)
+        let memory = Memory {
+            names: self.names,
+            rho: self.rho,
+            weight: self.weight,
+        };
+        let h = membership::hash_changed(self.index, memory, change);
+        membership::find(self.index, self.solution, memory, change, h)
     }
 
     // Whether one of the results of an edge is missing at its target.

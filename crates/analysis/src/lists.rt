@@ -5,10 +5,11 @@ ghost use Rattle.program.specs.Parts.DrawingParts;
 ghost use Rattle.program.specs.Graph;
 ghost use Rattle.program.specs.Parts.Prepared;
 ghost use Rattle.analysis.specs.Abstraction;
-ghost use Rattle.analysis.specs.Parts.Membership.{Front, changed};
+ghost use Rattle.analysis.specs.Parts.Membership.{changed};
 ghost use Rattle.analysis.specs.Parts.RecordParts as parts;
 ghost use Rattle.analysis.specs.Records as spec;
 
+use crate::membership::Memory;
 use crate::{Change, RecordList, Unreadable, WrongByte};
 use program::prepared::{CODE, NAMES_MOST};
 use program::{Refusal, file, prepared, validation};
@@ -125,11 +126,13 @@ pub(crate) fn read_memory(out: &mut [u8; 32], bytes: &[u8], at: usize, names: us
 }
 
 // An abstract memory's bytes over a buffer from a place on.
-fn put_memory(buffer: &mut [u8], at: usize, names: usize, rho: &[u8; 32])
-    requires { Front names rho.now × (at + names ≤ length buffer.old) }
-    ensures { buffer.new ≡ DrawingParts.over_at at (take names rho.now) buffer.old }
+fn put_memory(buffer: &mut [u8], at: usize, memory: Memory<'_>)
+    requires { at + memory.names ≤ length buffer.old }
+    ensures { buffer.new ≡ DrawingParts.over_at at (take memory.entry.names memory.entry.rho.now) buffer.old }
 {
-    buffer[at..at + names].copy_from_slice(&rho[..names]);
+    // a part of an array is lent from a variable: the borrow checker does not lend it from a struct's field
+    let rho = memory.rho;
+    buffer[at..at + memory.names].copy_from_slice(&rho[..memory.names]);
 }
 
 // A node's two bytes over a buffer from a place on.
@@ -141,20 +144,14 @@ fn put_node(buffer: &mut [u8], at: usize, node: u16)
 }
 
 // A changed record over a buffer from a place on.
-pub(crate) fn put_changed(
-    buffer: &mut [u8],
-    at: usize,
-    names: usize,
-    rho: &[u8; 32],
-    change: Change,
-)
-    requires { Front names rho.now × (at + (2 + names) ≤ length buffer.old) }
-    ensures { buffer.new ≡ DrawingParts.over_at at (changed names rho.now change) buffer.old }
+pub(crate) fn put_changed(buffer: &mut [u8], at: usize, memory: Memory<'_>, change: Change)
+    requires { at + (2 + memory.names) ≤ length buffer.old }
+    ensures { buffer.new ≡ DrawingParts.over_at at (changed memory.entry.names memory.entry.rho.now change) buffer.old }
 {
     put_node(buffer, at, change.node);
-    put_memory(buffer, at + 2, names, rho);
+    put_memory(buffer, at + 2, memory);
     let x = change.name as usize;
-    if x < names {
+    if x < memory.names {
         buffer[at + 2 + x] = change.set;
     }
 }

@@ -19,6 +19,15 @@ const HEADS: usize = 34;
 
 const NEXT: usize = 8226;
 
+// An abstract memory that is lent as an array: how many names it has, and the weight of its bytes in an index. It is handed on by value.
+#[derive(Clone, Copy)]
+pub(crate) struct Memory<'a> {
+    pub(crate) names: usize,
+    pub(crate) rho: &'a [u8; 32],
+    pub(crate) weight: u32,
+    pub(crate) ghost weighed: { spec.Weighed names rho.now weight },
+}
+
 // A sum times this number, and of the product some bits from the middle: sums that are close fall apart.
 const SPREAD: usize = 2654435769;
 
@@ -74,41 +83,25 @@ fn hash(index: &[u16; INDEX], node: u16, weight: u32) -> usize
 }
 
 // The weight of a changed memory: one term is another.
-fn changed_weight(
-    index: &[u16; INDEX],
-    names: usize,
-    rho: &[u8; 32],
-    weight: u32,
-    change: Change,
-) -> u32
-    requires { spec.Factored index.now × spec.Weighed names rho.now weight }
-    ensures value { result ≡ spec.weighted 2 (set (take names rho.now) change.name change.set) names }
+fn changed_weight(index: &[u16; INDEX], memory: Memory<'_>, change: Change) -> u32
+    requires { spec.Factored index.now }
+    ensures value { result ≡ spec.weighted 2 (set (take memory.entry.names memory.entry.rho.now) change.name change.set) memory.entry.names }
     ensures small { result ≤ spec.changed_most }
 {
     let x = change.name as usize;
-    if x < names {
-        let without = weight - term(index, 2 + x, rho[x]);
+    if x < memory.names {
+        let without = memory.weight - term(index, 2 + x, memory.rho[x]);
         return without + term(index, 2 + x, change.set);
     }
-    weight
+    memory.weight
 }
 
 // The hash of a changed record.
-pub(crate) fn hash_changed(
-    index: &[u16; INDEX],
-    names: usize,
-    rho: &[u8; 32],
-    weight: u32,
-    change: Change,
-) -> usize
-    requires { spec.Factored index.now × spec.Weighed names rho.now weight }
-    ensures { result ≡ spec.bucket (spec.changed names rho.now change) }
+pub(crate) fn hash_changed(index: &[u16; INDEX], memory: Memory<'_>, change: Change) -> usize
+    requires { spec.Factored index.now }
+    ensures { result ≡ spec.bucket (spec.changed memory.entry.names memory.entry.rho.now change) }
 {
-    hash(
-        index,
-        change.node,
-        changed_weight(index, names, rho, weight, change),
-    )
+    hash(index, change.node, changed_weight(index, memory, change))
 }
 
 // How many names of the memory at a place have the same set as in another one. In a byte, so that many are compared at once.
@@ -124,46 +117,43 @@ fn agreeing(bytes: &[u8], at: usize, names: usize, rho: &[u8; 32]) -> u8
 }
 
 // Whether the memory at a place is a changed one: it has the change, and agrees in all other names.
-fn memory_changed(bytes: &[u8], at: usize, names: usize, rho: &[u8; 32], x: usize, set: u8) -> bool
-    requires { spec.Front names rho.now × (at + names ≤ length bytes.now) }
-    ensures { result ≡ Records.same_signs (take names (drop at bytes.now)) (slice_set (take names rho.now) x set) }
+fn memory_changed(bytes: &[u8], at: usize, memory: Memory<'_>, x: usize, set: u8) -> bool
+    requires { at + memory.names ≤ length bytes.now }
+    ensures { result ≡ Records.same_signs (take memory.entry.names (drop at bytes.now)) (slice_set (take memory.entry.names memory.entry.rho.now) x set) }
 {
-    let count = agreeing(bytes, at, names, rho);
-    if x < names {
-        let wanted = names as u8 - (rho[x] != set) as u8;
+    let count = agreeing(bytes, at, memory.names, memory.rho);
+    if x < memory.names {
+        let wanted = memory.names as u8 - (memory.rho[x] != set) as u8;
         return (bytes[at + x] == set) & (count == wanted);
     }
-    count == names as u8
+    count == memory.names as u8
 }
 
 // Whether the record at a place is a changed one.
-fn is_changed(bytes: &[u8], at: usize, names: usize, rho: &[u8; 32], change: Change) -> bool
-    requires { spec.Front names rho.now × (at + (2 + names) ≤ length bytes.now) }
-    ensures { result ≡ Records.same_signs (take (2 + names) (drop at bytes.now)) (spec.changed names rho.now change) }
+fn is_changed(bytes: &[u8], at: usize, memory: Memory<'_>, change: Change) -> bool
+    requires { at + (2 + memory.names) ≤ length bytes.now }
+    ensures { result ≡ Records.same_signs (take (2 + memory.entry.names) (drop at bytes.now)) (spec.changed memory.entry.names memory.entry.rho.now change) }
 {
     let node = u16::from_be_bytes([bytes[at], bytes[at + 1]]);
-    (node == change.node)
-        & memory_changed(bytes, at + 2, names, rho, change.name as usize, change.set)
+    (node == change.node) & memory_changed(bytes, at + 2, memory, change.name as usize, change.set)
 }
 
 // Whether a changed record with this hash is among those indexed.
 pub(crate) fn find(
     index: &[u16; INDEX],
     bytes: &[u8],
-    names: usize,
-    rho: &[u8; 32],
+    memory: Memory<'_>,
     change: Change,
     h: usize,
 ) -> bool
-    requires front { spec.Front names rho.now }
-    requires sought { (n : ℕ) × spec.Sought (2 + names) bytes.now n index.now (spec.changed names rho.now change) h }
-    ensures { (n : ℕ) → spec.Sought (2 + names) bytes.now n index.now (spec.changed names rho.now change) h
-        → result ≡ spec.among (2 + names) bytes.now n (spec.changed names rho.now change) }
+    requires { (n : ℕ) × spec.Sought (2 + memory.names) bytes.now n index.now (spec.changed memory.names memory.rho.now change) h }
+    ensures { (n : ℕ) → spec.Sought (2 + memory.entry.names) bytes.now n index.now (spec.changed memory.entry.names memory.entry.rho.now change) h
+        → result ≡ spec.among (2 + memory.entry.names) bytes.now n (spec.changed memory.entry.names memory.entry.rho.now change) }
 {
     let mut link = index[HEADS + h] as usize;
     while 0 < link {
         let k = link - 1;
-        if is_changed(bytes, (2 + names) * k, names, rho, change) {
+        if is_changed(bytes, (2 + memory.names) * k, memory, change) {
             return true;
         }
         link = index[NEXT + k] as usize;

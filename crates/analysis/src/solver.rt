@@ -7,14 +7,13 @@ ghost use Rattle.program.specs.Parts.Prepared.{Prepared, action_in, is_guard_nod
 ghost use Rattle.semantics.specs.Parts.Selecting.{Opens};
 ghost use Rattle.analysis.specs.Parts.Changing.{digits_end, sets_of};
 ghost use Rattle.analysis.specs.Parts.Judging.{ReadInto, names_in};
-ghost use Rattle.analysis.specs.Parts.Membership.{Weighed};
 ghost use Rattle.analysis.specs.Records as records;
 ghost use Rattle.analysis.specs.Solver as spec;
 ghost use Rattle.analysis.specs.Parts.Solving as parts;
 ghost use Rattle.analysis.specs.Parts.Tabled.{Ready};
 
 use crate::evaluator::{Machine, results};
-use crate::membership::INDEX;
+use crate::membership::{INDEX, Memory};
 use crate::{Change, RecordList, Solved, Solving, Unreadable, lists, membership, set_table};
 use program::prepared::{CODE, GRAPH, NAMES_MOST};
 use program::{ActionNode, Construction, drawing, file, prepared, validation};
@@ -32,29 +31,27 @@ struct Progress {
 fn offer(
     index: &mut [u16; INDEX],
     buffer: &mut [u8],
-    names: usize,
-    rho: &[u8; 32],
-    weight: u32,
+    memory: Memory<'_>,
     change: Change,
     p: Progress,
 ) -> Progress
-    requires { parts.Growing (2 + names) buffer.old index.old p × Weighed names rho.now weight }
-    ensures extended { parts.Extended (2 + names) buffer.old p buffer.new index.new result }
-    ensures offers { (ns ρ : List ℕ) (room : ℕ) → length ns ≡ names → ReadInto ρ rho.now names → p.room ≡ room → change.node < 65536
-        → parts.found_in (2 + names) buffer.new result
-        ≡ spec.offer ns room change.node (parts.found_in (2 + names) buffer.old p) (set ρ change.name change.set) }
+    requires { parts.Growing (2 + memory.names) buffer.old index.old p }
+    ensures extended { parts.Extended (2 + memory.entry.names) buffer.old p buffer.new index.new result }
+    ensures offers { (ns ρ : List ℕ) (room : ℕ) → length ns ≡ memory.entry.names → ReadInto ρ memory.entry.rho.now memory.entry.names → p.room ≡ room → change.node < 65536
+        → parts.found_in (2 + memory.entry.names) buffer.new result
+        ≡ spec.offer ns room change.node (parts.found_in (2 + memory.entry.names) buffer.old p) (set ρ change.name change.set) }
 {
     if p.full {
         return p;
     }
-    let h = membership::hash_changed(index, names, rho, weight, change);
-    if membership::find(index, buffer, names, rho, change, h) {
+    let h = membership::hash_changed(index, memory, change);
+    if membership::find(index, buffer, memory, change, h) {
         return p;
     }
     if p.count == p.room {
         return Progress { full: true, ..p };
     }
-    lists::put_changed(buffer, (2 + names) * p.count, names, rho, change);
+    lists::put_changed(buffer, (2 + memory.names) * p.count, memory, change);
     membership::enter(index, p.count, h);
     Progress {
         count: p.count + 1,
@@ -67,18 +64,16 @@ fn offer(
 fn offer_results(
     index: &mut [u16; INDEX],
     buffer: &mut [u8],
-    names: usize,
-    rho: &[u8; 32],
-    weight: u32,
+    memory: Memory<'_>,
     node: u16,
     found: u64,
     p: Progress,
 ) -> Progress
-    requires { parts.Growing (2 + names) buffer.old index.old p × Weighed names rho.now weight × (found / 64 < digits_end) }
-    ensures extended { parts.Extended (2 + names) buffer.old p buffer.new index.new result }
-    ensures offers { (ns ρ : List ℕ) (room : ℕ) → length ns ≡ names → ReadInto ρ rho.now names → p.room ≡ room
-        → parts.found_in (2 + names) buffer.new result
-        ≡ foldl (spec.offer ns room node) (parts.found_in (2 + names) buffer.old p) (map (set ρ (found % 64)) (sets_of (found / 64))) }
+    requires { parts.Growing (2 + memory.names) buffer.old index.old p × (found / 64 < digits_end) }
+    ensures extended { parts.Extended (2 + memory.entry.names) buffer.old p buffer.new index.new result }
+    ensures offers { (ns ρ : List ℕ) (room : ℕ) → length ns ≡ memory.entry.names → ReadInto ρ memory.entry.rho.now memory.entry.names → p.room ≡ room
+        → parts.found_in (2 + memory.entry.names) buffer.new result
+        ≡ foldl (spec.offer ns room node) (parts.found_in (2 + memory.entry.names) buffer.old p) (map (set ρ (found % 64)) (sets_of (found / 64))) }
 {
     let name = results::name_of(found);
     let mut progress = p;
@@ -89,7 +84,7 @@ fn offer_results(
             name,
             set: results::first_set(sets),
         };
-        progress = offer(index, buffer, names, rho, weight, change, progress);
+        progress = offer(index, buffer, memory, change, progress);
         sets = results::other_sets(sets);
     }
     progress
@@ -100,30 +95,20 @@ fn offer_edge(
     machine: Machine<'_>,
     index: &mut [u16; INDEX],
     buffer: &mut [u8],
-    rho: &[u8; 32],
-    weight: u32,
+    memory: Memory<'_>,
     e: u16,
     action: ActionNode,
     p: Progress,
 ) -> Progress
-    requires { parts.Growing (2 + names_in machine.code.now) buffer.old index.old p × Weighed (names_in machine.code.now) rho.now weight }
+    requires { parts.Growing (2 + names_in machine.code.now) buffer.old index.old p × (memory.names ≡ names_in machine.code.now) }
     ensures extended { parts.Extended (2 + names_in machine.entry.code.now) buffer.old p buffer.new index.new result }
-    ensures offers { (ns : List ℕ) (g : Graph) (ρ : List ℕ) (room : ℕ) → Prepared ns g machine.entry.code.now machine.entry.graph.now → ReadInto ρ rho.now (length ns)
+    ensures offers { (ns : List ℕ) (g : Graph) (ρ : List ℕ) (room : ℕ) → Prepared ns g machine.entry.code.now machine.entry.graph.now → ReadInto ρ memory.entry.rho.now (length ns)
         → p.room ≡ room → e < length g.edges → action ≡ action_in machine.entry.graph.now e → is_guard_node action ≡ false
         → parts.found_in (2 + names_in machine.entry.code.now) buffer.new result ≡ spec.offer_results ns g room ρ (parts.found_in (2 + names_in machine.entry.code.now) buffer.old p) e }
 {
-    let names = prepared::name_count(machine.code);
-    let found = machine.results(rho, action);
-    offer_results(
-        index,
-        buffer,
-        names,
-        rho,
-        weight,
-        prepared::edge_target(machine.graph, e),
-        found,
-        p,
-    )
+    let found = machine.results(memory.rho, action);
+    let node = prepared::edge_target(machine.graph, e);
+    offer_results(index, buffer, memory, node, found, p)
 }
 
 // The abstract memory itself offered at the target of an edge, where the edge's own guard may hold.
@@ -131,23 +116,21 @@ fn offer_guard(
     machine: Machine<'_>,
     index: &mut [u16; INDEX],
     buffer: &mut [u8],
-    rho: &[u8; 32],
-    weight: u32,
+    memory: Memory<'_>,
     e: u16,
     holds: bool,
     p: Progress,
 ) -> Progress
-    requires { parts.Growing (2 + names_in machine.code.now) buffer.old index.old p × Weighed (names_in machine.code.now) rho.now weight }
+    requires { parts.Growing (2 + names_in machine.code.now) buffer.old index.old p × (memory.names ≡ names_in machine.code.now) }
     ensures extended { parts.Extended (2 + names_in machine.entry.code.now) buffer.old p buffer.new index.new result }
-    ensures offers { (ns : List ℕ) (g : Graph) (ρ : List ℕ) (room : ℕ) → Prepared ns g machine.entry.code.now machine.entry.graph.now → ReadInto ρ rho.now (length ns)
+    ensures offers { (ns : List ℕ) (g : Graph) (ρ : List ℕ) (room : ℕ) → Prepared ns g machine.entry.code.now machine.entry.graph.now → ReadInto ρ memory.entry.rho.now (length ns)
         → p.room ≡ room → e < length g.edges
         → parts.found_in (2 + names_in machine.entry.code.now) buffer.new result
         ≡ foldl (spec.offer ns room (edge_at g e).target) (parts.found_in (2 + names_in machine.entry.code.now) buffer.old p) (if holds then ρ ∷ [] else []) }
 {
-    let names = prepared::name_count(machine.code);
     let node = prepared::edge_target(machine.graph, e);
     let found = results::unchanged(holds);
-    offer_results(index, buffer, names, rho, weight, node, found, p)
+    offer_results(index, buffer, memory, node, found, p)
 }
 
 // What follows an abstract memory at a node of the deterministic graph whose lowest edge is a guard's, offered edge by edge: along an edge where its own guard may
@@ -156,14 +139,13 @@ fn offer_guarded(
     machine: Machine<'_>,
     index: &mut [u16; INDEX],
     buffer: &mut [u8],
-    rho: &[u8; 32],
-    weight: u32,
+    memory: Memory<'_>,
     first: u16,
     p: Progress,
 ) -> Progress
-    requires { parts.Growing (2 + names_in machine.code.now) buffer.old index.old p × Weighed (names_in machine.code.now) rho.now weight }
+    requires { parts.Growing (2 + names_in machine.code.now) buffer.old index.old p × (memory.names ≡ names_in machine.code.now) }
     ensures extended { parts.Extended (2 + names_in machine.entry.code.now) buffer.old p buffer.new index.new result }
-    ensures offers { (ns : List ℕ) (g : Graph) (ρ : List ℕ) (room node : ℕ) → Prepared ns g machine.entry.code.now machine.entry.graph.now → ReadInto ρ rho.now (length ns)
+    ensures offers { (ns : List ℕ) (g : Graph) (ρ : List ℕ) (room node : ℕ) → Prepared ns g machine.entry.code.now machine.entry.graph.now → ReadInto ρ memory.entry.rho.now (length ns)
         → p.room ≡ room → Opens machine.entry.graph.now node first
         → parts.found_in (2 + names_in machine.entry.code.now) buffer.new result
         ≡ parts.along (spec.offer_results ns g room ρ) g node (length g.edges) (parts.found_in (2 + names_in machine.entry.code.now) buffer.old p) }
@@ -172,8 +154,8 @@ fn offer_guarded(
     let mut progress = p;
     let mut e = first;
     while e < count {
-        let t = machine.own_truths(rho, e);
-        progress = offer_guard(machine, index, buffer, rho, weight, e, t.holds, progress);
+        let t = machine.own_truths(memory.rho, e);
+        progress = offer_guard(machine, index, buffer, memory, e, t.holds, progress);
         if !t.fails {
             return progress;
         }
@@ -187,14 +169,13 @@ fn offer_successors(
     machine: Machine<'_>,
     index: &mut [u16; INDEX],
     buffer: &mut [u8],
-    rho: &[u8; 32],
-    weight: u32,
+    memory: Memory<'_>,
     node: u16,
     p: Progress,
 ) -> Progress
-    requires { parts.Growing (2 + names_in machine.code.now) buffer.old index.old p × Weighed (names_in machine.code.now) rho.now weight }
+    requires { parts.Growing (2 + names_in machine.code.now) buffer.old index.old p × (memory.names ≡ names_in machine.code.now) }
     ensures extended { parts.Extended (2 + names_in machine.entry.code.now) buffer.old p buffer.new index.new result }
-    ensures offers { (ns : List ℕ) (g : Graph) (ρ : List ℕ) (room : ℕ) → Prepared ns g machine.entry.code.now machine.entry.graph.now → ReadInto ρ rho.now (length ns)
+    ensures offers { (ns : List ℕ) (g : Graph) (ρ : List ℕ) (room : ℕ) → Prepared ns g machine.entry.code.now machine.entry.graph.now → ReadInto ρ memory.entry.rho.now (length ns)
         → p.room ≡ room
         → parts.found_in (2 + names_in machine.entry.code.now) buffer.new result
         ≡ parts.along (spec.offer_results ns g room ρ) g node (length g.edges) (parts.found_in (2 + names_in machine.entry.code.now) buffer.old p) }
@@ -204,10 +185,10 @@ fn offer_successors(
     let mut e = prepared::first_edge(machine.graph, node);
     while e < count {
         if prepared::guards(machine.graph, e) {
-            return offer_guarded(machine, index, buffer, rho, weight, e, progress);
+            return offer_guarded(machine, index, buffer, memory, e, progress);
         }
         let action = prepared::plain_action(machine.graph, e);
-        progress = offer_edge(machine, index, buffer, rho, weight, e, action, progress);
+        progress = offer_edge(machine, index, buffer, memory, e, action, progress);
         e = prepared::next_edge(machine.graph, e);
     }
     progress
@@ -233,7 +214,12 @@ fn offer_from(
     let mut rho = [0u8; 32];
     lists::read_memory(&mut rho, buffer, at + 2, names);
     let weight = membership::weight(index, buffer, at + 2, names);
-    offer_successors(machine, index, buffer, &rho, weight, node, p)
+    let memory = Memory {
+        names,
+        rho: &rho,
+        weight,
+    };
+    offer_successors(machine, index, buffer, memory, node, p)
 }
 
 // Down the list: what follows each record is offered, until one has no room.
@@ -284,7 +270,12 @@ fn offer_initial(
             name: NAMES_MOST,
             set: 0,
         };
-        progress = offer(index, buffer, names, &rho, weight, change, progress);
+        let memory = Memory {
+            names,
+            rho: &rho,
+            weight,
+        };
+        progress = offer(index, buffer, memory, change, progress);
     }
     progress
 }

@@ -3,16 +3,16 @@ use Rattle.std.proofs.Common.{length-set, rules}
 use Rattle.analysis.proofs.Laid.{wrote_changed, wrote_kept}
 use Rattle.analysis.proofs.lists.put_changed.Goals as goal
 
-pub returns-then-x-names : goal.returns-then-x-names
-returns-then-x-names c =
+pub returns-then-x-memory : goal.returns-then-x-memory
+returns-then-x-memory c =
     let a = c.args in
-    wrote_changed a.at a.names a.rho.now a.change c.requires.0 a.buffer.now c.requires.1 _ _ c.put_node.ensures c.put_memory.ensures c.if-x-names.true
+    wrote_changed a.at a.memory.names a.memory.rho.now a.change a.memory.weighed.front a.buffer.now c.requires _ _ c.put_node.ensures c.put_memory.ensures c.if-x-memory.true
 
-pub returns-else-x-names : goal.returns-else-x-names
-returns-else-x-names c =
+pub returns-else-x-memory : goal.returns-else-x-memory
+returns-else-x-memory c =
     let a = c.args in
-    wrote_kept a.at a.names a.rho.now a.change c.requires.0 a.buffer.now c.requires.1 _ _ c.put_node.ensures c.put_memory.ensures c.if-x-names.false
+    wrote_kept a.at a.memory.names a.memory.rho.now a.change a.memory.weighed.front a.buffer.now c.requires _ _ c.put_node.ensures c.put_memory.ensures c.if-x-memory.false
 
-pub shape_of-buffer-then-x-names : goal.shape_of-buffer-then-x-names
-shape_of-buffer-then-x-names c =
+pub shape_of-buffer-then-x-memory : goal.shape_of-buffer-then-x-memory
+shape_of-buffer-then-x-memory c =
     simp length-set (search rules)

@@ -8,5 +8,5 @@ pub returns : goal.returns
 unfolding over over_at
 returns c =
     let a = c.args in
-    let e : a.at + a.names - a.at ≡ a.names = omega arith in
-    rw (e, c.copy_from_slice.ensures.after, length-take-le a.names a.rho.now (omega arith))
+    let e : a.at + a.memory.names - a.at ≡ a.memory.names = omega arith in
+    rw (e, c.copy_from_slice.ensures.after, length-take-le a.memory.names a.memory.rho.now (omega arith))

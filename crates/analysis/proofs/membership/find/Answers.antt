@@ -6,16 +6,16 @@ use Rattle.analysis.proofs.membership.find.Goals as goal
 use Rattle.analysis.proofs.membership.find.Goals.{After-shared_slice_known-1, In-loop-link}
 
 -- the record before the link
-there : (c : In-loop-link) → let a = c.args in There (2 + a.names) a.bytes.now a.index.now c.loop-link.link
+there : (c : In-loop-link) → let a = c.args in There (2 + a.memory.names) a.bytes.now a.index.now c.loop-link.link
 there c =
     let p = c.requires in
-    walked_there _ _ _ _ _ _ p.sought.1 c.loop-link.link (omega (arith, c.loop-link-test.true)) (c.loop-link.invariant p.sought.0 p.sought.1)
+    walked_there _ _ _ _ _ _ p.1 c.loop-link.link (omega (arith, c.loop-link-test.true)) (c.loop-link.invariant p.0 p.1)
 
 small : (c : After-shared_slice_known-1) → c.args.h < 8192
-small c = hash_small _ _ _ _ _ _ c.requires.sought.1
+small c = hash_small _ _ _ _ _ _ c.requires.1
 
 pub overflow_cast-link : goal.overflow_cast-link
-overflow_cast-link c = let x = c.requires.sought.1 in omega (arith, (walked_first _ _ _ _ _ _ x).inside, x.indexed.few)
+overflow_cast-link c = let x = c.requires.1 in omega (arith, (walked_first _ _ _ _ _ _ x).inside, x.indexed.few)
 
 pub loop-link-init : goal.loop-link-init
 loop-link-init c n x = walked_first _ _ _ _ _ _ x
@@ -45,13 +45,9 @@ pub bounds-index-h : goal.bounds-index-h
 bounds-index-h c =
     omega (arith, small (goal.at.bounds-index-h c).After-shared_slice_known-1)
 
-pub overflow_mul-names : goal.overflow_mul-names
-overflow_mul-names c =
-    omega (arith, (there (goal.at.overflow_mul-names c).In-loop-link).room)
-
-pub is_changed-requires : goal.is_changed-requires
-is_changed-requires c =
-    (c.requires.front, (there (goal.at.is_changed-requires c).In-loop-link).room)
+pub overflow_mul-memory : goal.overflow_mul-memory
+overflow_mul-memory c =
+    omega (arith, (there (goal.at.overflow_mul-memory c).In-loop-link).room)
 
 pub overflow_add-link-in-loop-link : goal.overflow_add-link-in-loop-link
 overflow_add-link-in-loop-link c =

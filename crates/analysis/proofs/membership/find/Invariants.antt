@@ -6,7 +6,7 @@ use Rattle.analysis.proofs.membership.find.Given as goal
 
 abbrev pub invariant-loop-link : goal.invariant-loop-link
 invariant-loop-link l =
-    (n : ℕ) → Sought (2 + l.names) l.bytes n l.index (changed l.names l.rho l.change) l.h → Walked (2 + l.names) l.bytes n (changed l.names l.rho l.change) l.h l.link
+    (n : ℕ) → Sought (2 + l.memory.names) l.bytes n l.index (changed l.memory.names l.memory.rho.now l.change) l.h → Walked (2 + l.memory.names) l.bytes n (changed l.memory.names l.memory.rho.now l.change) l.h l.link
 
 abbrev pub decreases-loop-link : goal.decreases-loop-link
 decreases-loop-link l = l.link

@@ -5,11 +5,7 @@ use Rattle.analysis.proofs.membership.hash_changed.Goals as goal
 
 pub returns : goal.returns
 returns c =
-    let f = c.requires.0 in
+    let f = c.requires in
     c.hash.ensures
     ∙ rw (f.each 0 (omega arith), f.each 1 (omega arith), c.changed_weight.ensures.value)
-    (hash_changed c.args.names c.args.rho.now c.args.change (omega (arith, c.requires.1.front)))
-
-pub hash-requires : goal.hash-requires
-hash-requires c =
-    c.changed_weight.ensures.small
+    (hash_changed c.args.memory.names c.args.memory.rho.now c.args.change (omega (arith, c.args.memory.weighed.front)))

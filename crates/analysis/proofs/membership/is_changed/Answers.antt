@@ -7,4 +7,4 @@ pub returns : goal.returns
 returns c =
     let a = c.args in
     rw (c.from_be_bytes-node.ensures, c.memory_changed.ensures)
-    (changed_read a.bytes.now a.at a.names c.requires.1 (λ i h. omega (arith, c.shared_slice_known-1.given i)) a.rho.now a.change (search rules))
+    (changed_read a.bytes.now a.at a.memory.names c.requires (λ i h. omega (arith, c.shared_slice_known-1.given i)) a.memory.rho.now a.change (search rules))

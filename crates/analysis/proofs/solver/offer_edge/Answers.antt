@@ -5,14 +5,14 @@ use Rattle.analysis.proofs.solver.offer_edge.Goals as goal
 
 pub offer_results-requires : goal.offer_results-requires
 offer_results-requires c =
-    rw c.name_count-names.ensures (c.requires.0, c.requires.1, c.results-found.ensures.few)
+    rw c.requires.1 (c.requires.0, c.results-found.ensures.few)
 
 pub returns : goal.returns
 returns c =
     record {
-      extended = rw c.name_count-names.ensures at c.offer_results.ensures.extended;
+      extended = rw c.requires.1 at c.offer_results.ensures.extended;
       offers = λ ns g ρ room x y q h told plainly.
-          let e = sym (c.name_count-names.ensures ∙ x.coded.count) in
+          let e = sym (c.requires.1 ∙ x.coded.count) in
           edge_offered x c.args.e h told plainly ρ _ y _ c.results-found.ensures room _
-          (rw (c.name_count-names.ensures, c.edge_target.ensures) at (c.offer_results.ensures.offers ns ρ room e (rw e at y) q));
+          (rw (c.requires.1, c.edge_target-node.ensures) at (c.offer_results.ensures.offers ns ρ room e (rw e at y) q));
     }

@@ -21,10 +21,6 @@ pub weight-weight-requires : goal.weight-weight-requires
 weight-weight-requires c =
     ((told (goal.at.weight-weight-requires c).After-name_count-names).indexed.factored, omega (arith, (told (goal.at.weight-weight-requires c).After-name_count-names).wide), omega (arith, inside (goal.at.weight-weight-requires c).After-name_count-names))
 
-pub offer_successors-requires : goal.offer_successors-requires
-offer_successors-requires c =
-    (c.requires.0, rw (c.read_memory.ensures, c.name_count-names.ensures) (rw c.name_count-names.ensures at c.weight-weight.ensures))
-
 -- the record's memory as it was read
 read : (c : After-read_memory) → let a = c.args in
     Growing (2 + c.name_count-names.result) a.buffer.now a.index.now a.p

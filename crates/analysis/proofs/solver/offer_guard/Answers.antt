@@ -6,14 +6,14 @@ use Rattle.analysis.proofs.solver.offer_guard.Goals as goal
 
 pub offer_results-requires : goal.offer_results-requires
 offer_results-requires c =
-    (rw c.name_count-names.ensures c.requires.0, rw c.name_count-names.ensures c.requires.1, rw c.unchanged-found.ensures (as_few c.args.holds))
+    (rw c.requires.1 c.requires.0, rw c.unchanged-found.ensures (as_few c.args.holds))
 
 pub returns : goal.returns
 returns c =
     record {
-      extended = rw c.name_count-names.ensures at c.offer_results.ensures.extended;
+      extended = rw c.requires.1 at c.offer_results.ensures.extended;
       offers = λ ns g ρ room x y q h.
-          let e = sym (c.name_count-names.ensures ∙ x.coded.count) in
+          let e = sym (c.requires.1 ∙ x.coded.count) in
           own_offered x c.args.e h y room c.args.holds c.unchanged-found.ensures c.edge_target-node.ensures _
-          (rw c.name_count-names.ensures at (c.offer_results.ensures.offers ns ρ room e (rw e at y) q));
+          (rw c.requires.1 at (c.offer_results.ensures.offers ns ρ room e (rw e at y) q));
     }

@@ -22,12 +22,9 @@ loop-e-init c = (
 inside : (c : In-loop-e) → c.loop-e.e < get_or c.args.machine.graph.now edge_count_place 0
 inside c = omega (arith, c.loop-e-test.true, c.edge_count-count.ensures)
 
-pub offer_guard-progress-requires : goal.offer_guard-progress-requires
-offer_guard-progress-requires c = (c.loop-e.invariant.0.growing, c.requires.1)
-
 -- whether its own guard may fail
 failing : (c : After-own_truths-t) {b : Bool} → c.own_truths-t.result.fails ≡ b
-    → (truths_in c.args.rho.now (own_at c.args.machine.code.now c.args.machine.graph.now c.loop-e.e)).fails ≡ b
+    → (truths_in c.args.memory.rho.now (own_at c.args.machine.code.now c.args.machine.graph.now c.loop-e.e)).fails ≡ b
 failing c t = sym (ap (λ (v : Truths). v.fails) c.own_truths-t.ensures) ∙ t
 
 pub returns-then-not-t : goal.returns-then-not-t

@@ -12,8 +12,8 @@ use Rattle.analysis.proofs.solver.offer_guarded.Given as goal
 abbrev pub invariant-loop-e : goal.invariant-loop-e
 invariant-loop-e l =
     Extended (2 + names_in l.machine.code.now) l.initial.buffer l.initial.progress l.buffer l.index l.progress
-    × ((node : ℕ) → Opens l.machine.graph.now node l.first → Following l.machine.graph.now node (MayFail l.machine.code.now l.machine.graph.now l.rho) l.e)
-    × ((ns : List ℕ) (g : Graph) (ρ : List ℕ) (room node : ℕ) → Prepared ns g l.machine.code.now l.machine.graph.now → ReadInto ρ l.rho (length ns) → l.initial.progress.room ≡ room → Opens l.machine.graph.now node l.first
+    × ((node : ℕ) → Opens l.machine.graph.now node l.first → Following l.machine.graph.now node (MayFail l.machine.code.now l.machine.graph.now l.memory.rho.now) l.e)
+    × ((ns : List ℕ) (g : Graph) (ρ : List ℕ) (room node : ℕ) → Prepared ns g l.machine.code.now l.machine.graph.now → ReadInto ρ l.memory.rho.now (length ns) → l.initial.progress.room ≡ room → Opens l.machine.graph.now node l.first
     → found_in (2 + names_in l.machine.code.now) l.buffer l.progress
     ≡ along (offer_results ns g room ρ) g node (min l.e (get_or l.machine.graph.now edge_count_place 0)) (found_in (2 + names_in l.machine.code.now) l.initial.buffer l.initial.progress))
 

@@ -29,10 +29,6 @@ weight-weight-requires c =
     let g = c.loop-k.invariant.0.growing in
     (g.indexed.factored, omega (arith, g.wide), inside (goal.at.weight-weight-requires c).In-loop-k)
 
-pub offer-progress-requires : goal.offer-progress-requires
-offer-progress-requires c =
-    (c.loop-k.invariant.0.growing, rw c.read_memory.ensures c.weight-weight.ensures)
-
 pub loop-k-preserved : goal.loop-k-preserved
 loop-k-preserved c =
     let l = c.loop-k in

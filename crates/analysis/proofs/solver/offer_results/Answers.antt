@@ -6,10 +6,7 @@ use Rattle.analysis.proofs.solver.offer_results.Goals as goal
 
 pub loop-sets-init : goal.loop-sets-init
 loop-sets-init c =
-    rw c.sets_of-sets.ensures (c.requires.2, extended_none _ _ _ _ c.requires.0, λ ns ρ room e y q. refl)
-
-pub offer-progress-requires : goal.offer-progress-requires
-offer-progress-requires c = (c.loop-sets.invariant.1.growing, c.requires.1)
+    rw c.sets_of-sets.ensures (c.requires.1, extended_none _ _ _ _ c.requires.0, λ ns ρ room e y q. refl)
 
 pub loop-sets-smaller : goal.loop-sets-smaller
 loop-sets-smaller c = omega (arith, c.other_sets-sets.ensures, c.loop-sets-test.true)

@@ -10,10 +10,10 @@ use Rattle.analysis.proofs.solver.offer_results.Given as goal
 abbrev pub invariant-loop-sets : goal.invariant-loop-sets
 invariant-loop-sets l =
     (l.sets < 68719476736)
-    × Extended (2 + l.names) l.initial.buffer l.initial.progress l.buffer l.index l.progress
-    × ((ns ρ : List ℕ) (room : ℕ) → length ns ≡ l.names → ReadInto ρ l.rho l.names → l.initial.progress.room ≡ room
-    → foldl (offer ns room l.node) (found_in (2 + l.names) l.initial.buffer l.initial.progress) (map (set ρ (l.found % 64)) (sets_of (l.found / 64)))
-    ≡ foldl (offer ns room l.node) (found_in (2 + l.names) l.buffer l.progress) (map (set ρ (l.found % 64)) (sets_of l.sets)))
+    × Extended (2 + l.memory.names) l.initial.buffer l.initial.progress l.buffer l.index l.progress
+    × ((ns ρ : List ℕ) (room : ℕ) → length ns ≡ l.memory.names → ReadInto ρ l.memory.rho.now l.memory.names → l.initial.progress.room ≡ room
+    → foldl (offer ns room l.node) (found_in (2 + l.memory.names) l.initial.buffer l.initial.progress) (map (set ρ (l.found % 64)) (sets_of (l.found / 64)))
+    ≡ foldl (offer ns room l.node) (found_in (2 + l.memory.names) l.buffer l.progress) (map (set ρ (l.found % 64)) (sets_of l.sets)))
 
 abbrev pub decreases-loop-sets : goal.decreases-loop-sets
 decreases-loop-sets l = l.sets

@@ -21,10 +21,6 @@ guard : (c : After-guards) {b : Bool} → c.guards.result ≡ b
     → is_guard_node (action_in c.args.machine.graph.now c.loop-e.e) ≡ b
 guard c t = sym c.guards.ensures ∙ t
 
-pub offer_guarded-requires : goal.offer_guarded-requires
-offer_guarded-requires c =
-    (c.loop-e.invariant.1.growing, c.requires.1)
-
 pub returns-then-guards : goal.returns-then-guards
 returns-then-guards c =
     let l = c.loop-e in
@@ -34,10 +30,6 @@ returns-then-guards c =
           guarded_all x y w room _ l.e (inside (goal.at.returns-then-guards c).In-loop-e) (l.invariant.0 (inside (goal.at.returns-then-guards c).In-loop-e)) l.invariant.3 (guard (goal.at.returns-then-guards c).After-guards c.if-guards.true) (l.invariant.2 ns g ρ room x y q)
           (λ n. c.offer_guarded.ensures.offers ns g ρ room _ x y (l.invariant.1.room ∙ q) n);
     }
-
-pub offer_edge-progress-requires : goal.offer_edge-progress-requires
-offer_edge-progress-requires c =
-    (c.loop-e.invariant.1.growing, c.requires.1)
 
 pub loop-e-smaller : goal.loop-e-smaller
 loop-e-smaller c =

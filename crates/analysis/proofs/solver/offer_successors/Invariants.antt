@@ -11,7 +11,7 @@ abbrev pub invariant-loop-e : goal.invariant-loop-e
 invariant-loop-e l =
     (l.e < get_or l.machine.graph.now edge_count_place 0 → source_in l.machine.graph.now l.e ≡ l.node)
     × Extended (2 + names_in l.machine.code.now) l.initial.buffer l.initial.progress l.buffer l.index l.progress
-    × ((ns : List ℕ) (g : Graph) (ρ : List ℕ) (room : ℕ) → Prepared ns g l.machine.code.now l.machine.graph.now → ReadInto ρ l.rho (length ns) → l.initial.progress.room ≡ room
+    × ((ns : List ℕ) (g : Graph) (ρ : List ℕ) (room : ℕ) → Prepared ns g l.machine.code.now l.machine.graph.now → ReadInto ρ l.memory.rho.now (length ns) → l.initial.progress.room ≡ room
     → found_in (2 + names_in l.machine.code.now) l.buffer l.progress
     ≡ along (offer_results ns g room ρ) g l.node (min l.e (get_or l.machine.graph.now edge_count_place 0)) (found_in (2 + names_in l.machine.code.now) l.initial.buffer l.initial.progress))
     × (l.node < 129 → Following l.machine.graph.now l.node (λ k. is_guard_node (action_in l.machine.graph.now k) ≡ false) l.e)

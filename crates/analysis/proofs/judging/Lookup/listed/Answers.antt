@@ -10,7 +10,7 @@ low c = search rules
 pub find-requires : goal.find-requires
 find-requires c =
     let s = c.args.self.now.ordered in
-    record { front = s.weighed.front; sought = (s.count, record { indexed = s.indexed; hashed = c.hash_changed-h.ensures }) }
+    (s.count, record { indexed = s.indexed; hashed = c.hash_changed-h.ensures })
 
 pub returns : goal.returns
 returns c ns ρ e x y =
