@@ -20,6 +20,7 @@ use program::prepared::{CODE, GRAPH, NAMES_MOST};
 use program::{Construction, drawing, file, prepared, validation};
 
 // What is looked for, in the records of a solution and the edges out of their nodes: 42, or the index mark. The index is read for 42 alone.
+// A trait of two types or a closure would be no plainer: the definition `picks` has both cases too, and the loop over records is one for both as it is.
 #[derive(Clone, Copy)]
 enum Query {
     MissingResult,
