@@ -19,7 +19,8 @@ const HEADS: usize = 34;
 
 const NEXT: usize = 8226;
 
-// An abstract memory that is lent as an array: how many names it has, and the weight of its bytes in an index. It is handed on by value.
+// An abstract memory that is lent as an array: how many names it has, and the weight of its bytes in an index. The solver lends it on, and copies it where it asks the
+// index: copied at each guard, a solution with many guards takes a sixth longer.
 #[derive(Clone, Copy)]
 pub(crate) struct Memory<'a> {
     pub(crate) names: usize,

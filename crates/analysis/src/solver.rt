@@ -31,27 +31,27 @@ struct Progress {
 fn offer(
     index: &mut [u16; INDEX],
     buffer: &mut [u8],
-    memory: Memory<'_>,
+    memory: &Memory<'_>,
     change: Change,
     p: Progress,
 ) -> Progress
-    requires { parts.Growing (2 + memory.names) buffer.old index.old p }
-    ensures extended { parts.Extended (2 + memory.entry.names) buffer.old p buffer.new index.new result }
-    ensures offers { (ns ρ : List ℕ) (room : ℕ) → length ns ≡ memory.entry.names → ReadInto ρ memory.entry.rho.now memory.entry.names → p.room ≡ room → change.node < 65536
-        → parts.found_in (2 + memory.entry.names) buffer.new result
-        ≡ spec.offer ns room change.node (parts.found_in (2 + memory.entry.names) buffer.old p) (set ρ change.name change.set) }
+    requires { parts.Growing (2 + memory.now.names) buffer.old index.old p }
+    ensures extended { parts.Extended (2 + memory.now.names) buffer.old p buffer.new index.new result }
+    ensures offers { (ns ρ : List ℕ) (room : ℕ) → length ns ≡ memory.now.names → ReadInto ρ memory.now.rho.now memory.now.names → p.room ≡ room → change.node < 65536
+        → parts.found_in (2 + memory.now.names) buffer.new result
+        ≡ spec.offer ns room change.node (parts.found_in (2 + memory.now.names) buffer.old p) (set ρ change.name change.set) }
 {
     if p.full {
         return p;
     }
-    let h = membership::hash_changed(index, memory, change);
-    if membership::find(index, buffer, memory, change, h) {
+    let h = membership::hash_changed(index, *memory, change);
+    if membership::find(index, buffer, *memory, change, h) {
         return p;
     }
     if p.count == p.room {
         return Progress { full: true, ..p };
     }
-    lists::put_changed(buffer, (2 + memory.names) * p.count, memory, change);
+    lists::put_changed(buffer, (2 + memory.names) * p.count, *memory, change);
     membership::enter(index, p.count, h);
     Progress {
         count: p.count + 1,
@@ -64,16 +64,16 @@ fn offer(
 fn offer_results(
     index: &mut [u16; INDEX],
     buffer: &mut [u8],
-    memory: Memory<'_>,
+    memory: &Memory<'_>,
     node: u16,
     found: u64,
     p: Progress,
 ) -> Progress
-    requires { parts.Growing (2 + memory.names) buffer.old index.old p × (found / 64 < digits_end) }
-    ensures extended { parts.Extended (2 + memory.entry.names) buffer.old p buffer.new index.new result }
-    ensures offers { (ns ρ : List ℕ) (room : ℕ) → length ns ≡ memory.entry.names → ReadInto ρ memory.entry.rho.now memory.entry.names → p.room ≡ room
-        → parts.found_in (2 + memory.entry.names) buffer.new result
-        ≡ foldl (spec.offer ns room node) (parts.found_in (2 + memory.entry.names) buffer.old p) (map (set ρ (found % 64)) (sets_of (found / 64))) }
+    requires { parts.Growing (2 + memory.now.names) buffer.old index.old p × (found / 64 < digits_end) }
+    ensures extended { parts.Extended (2 + memory.now.names) buffer.old p buffer.new index.new result }
+    ensures offers { (ns ρ : List ℕ) (room : ℕ) → length ns ≡ memory.now.names → ReadInto ρ memory.now.rho.now memory.now.names → p.room ≡ room
+        → parts.found_in (2 + memory.now.names) buffer.new result
+        ≡ foldl (spec.offer ns room node) (parts.found_in (2 + memory.now.names) buffer.old p) (map (set ρ (found % 64)) (sets_of (found / 64))) }
 {
     let name = results::name_of(found);
     let mut progress = p;
@@ -95,14 +95,14 @@ fn offer_edge(
     machine: Machine<'_>,
     index: &mut [u16; INDEX],
     buffer: &mut [u8],
-    memory: Memory<'_>,
+    memory: &Memory<'_>,
     e: u16,
     action: ActionNode,
     p: Progress,
 ) -> Progress
-    requires { parts.Growing (2 + names_in machine.code.now) buffer.old index.old p × (memory.names ≡ names_in machine.code.now) }
+    requires { parts.Growing (2 + names_in machine.code.now) buffer.old index.old p × (memory.now.names ≡ names_in machine.code.now) }
     ensures extended { parts.Extended (2 + names_in machine.entry.code.now) buffer.old p buffer.new index.new result }
-    ensures offers { (ns : List ℕ) (g : Graph) (ρ : List ℕ) (room : ℕ) → Prepared ns g machine.entry.code.now machine.entry.graph.now → ReadInto ρ memory.entry.rho.now (length ns)
+    ensures offers { (ns : List ℕ) (g : Graph) (ρ : List ℕ) (room : ℕ) → Prepared ns g machine.entry.code.now machine.entry.graph.now → ReadInto ρ memory.now.rho.now (length ns)
         → p.room ≡ room → e < length g.edges → action ≡ action_in machine.entry.graph.now e → is_guard_node action ≡ false
         → parts.found_in (2 + names_in machine.entry.code.now) buffer.new result ≡ spec.offer_results ns g room ρ (parts.found_in (2 + names_in machine.entry.code.now) buffer.old p) e }
 {
@@ -116,14 +116,14 @@ fn offer_guard(
     machine: Machine<'_>,
     index: &mut [u16; INDEX],
     buffer: &mut [u8],
-    memory: Memory<'_>,
+    memory: &Memory<'_>,
     e: u16,
     holds: bool,
     p: Progress,
 ) -> Progress
-    requires { parts.Growing (2 + names_in machine.code.now) buffer.old index.old p × (memory.names ≡ names_in machine.code.now) }
+    requires { parts.Growing (2 + names_in machine.code.now) buffer.old index.old p × (memory.now.names ≡ names_in machine.code.now) }
     ensures extended { parts.Extended (2 + names_in machine.entry.code.now) buffer.old p buffer.new index.new result }
-    ensures offers { (ns : List ℕ) (g : Graph) (ρ : List ℕ) (room : ℕ) → Prepared ns g machine.entry.code.now machine.entry.graph.now → ReadInto ρ memory.entry.rho.now (length ns)
+    ensures offers { (ns : List ℕ) (g : Graph) (ρ : List ℕ) (room : ℕ) → Prepared ns g machine.entry.code.now machine.entry.graph.now → ReadInto ρ memory.now.rho.now (length ns)
         → p.room ≡ room → e < length g.edges
         → parts.found_in (2 + names_in machine.entry.code.now) buffer.new result
         ≡ foldl (spec.offer ns room (edge_at g e).target) (parts.found_in (2 + names_in machine.entry.code.now) buffer.old p) (if holds then ρ ∷ [] else []) }
@@ -139,13 +139,13 @@ fn offer_guarded(
     machine: Machine<'_>,
     index: &mut [u16; INDEX],
     buffer: &mut [u8],
-    memory: Memory<'_>,
+    memory: &Memory<'_>,
     first: u16,
     p: Progress,
 ) -> Progress
-    requires { parts.Growing (2 + names_in machine.code.now) buffer.old index.old p × (memory.names ≡ names_in machine.code.now) }
+    requires { parts.Growing (2 + names_in machine.code.now) buffer.old index.old p × (memory.now.names ≡ names_in machine.code.now) }
     ensures extended { parts.Extended (2 + names_in machine.entry.code.now) buffer.old p buffer.new index.new result }
-    ensures offers { (ns : List ℕ) (g : Graph) (ρ : List ℕ) (room node : ℕ) → Prepared ns g machine.entry.code.now machine.entry.graph.now → ReadInto ρ memory.entry.rho.now (length ns)
+    ensures offers { (ns : List ℕ) (g : Graph) (ρ : List ℕ) (room node : ℕ) → Prepared ns g machine.entry.code.now machine.entry.graph.now → ReadInto ρ memory.now.rho.now (length ns)
         → p.room ≡ room → Opens machine.entry.graph.now node first
         → parts.found_in (2 + names_in machine.entry.code.now) buffer.new result
         ≡ parts.along (spec.offer_results ns g room ρ) g node (length g.edges) (parts.found_in (2 + names_in machine.entry.code.now) buffer.old p) }
@@ -169,13 +169,13 @@ fn offer_successors(
     machine: Machine<'_>,
     index: &mut [u16; INDEX],
     buffer: &mut [u8],
-    memory: Memory<'_>,
+    memory: &Memory<'_>,
     node: u16,
     p: Progress,
 ) -> Progress
-    requires { parts.Growing (2 + names_in machine.code.now) buffer.old index.old p × (memory.names ≡ names_in machine.code.now) }
+    requires { parts.Growing (2 + names_in machine.code.now) buffer.old index.old p × (memory.now.names ≡ names_in machine.code.now) }
     ensures extended { parts.Extended (2 + names_in machine.entry.code.now) buffer.old p buffer.new index.new result }
-    ensures offers { (ns : List ℕ) (g : Graph) (ρ : List ℕ) (room : ℕ) → Prepared ns g machine.entry.code.now machine.entry.graph.now → ReadInto ρ memory.entry.rho.now (length ns)
+    ensures offers { (ns : List ℕ) (g : Graph) (ρ : List ℕ) (room : ℕ) → Prepared ns g machine.entry.code.now machine.entry.graph.now → ReadInto ρ memory.now.rho.now (length ns)
         → p.room ≡ room
         → parts.found_in (2 + names_in machine.entry.code.now) buffer.new result
         ≡ parts.along (spec.offer_results ns g room ρ) g node (length g.edges) (parts.found_in (2 + names_in machine.entry.code.now) buffer.old p) }
@@ -219,7 +219,7 @@ fn offer_from(
         rho: &rho,
         weight,
     };
-    offer_successors(machine, index, buffer, memory, node, p)
+    offer_successors(machine, index, buffer, &memory, node, p)
 }
 
 // Down the list: what follows each record is offered, until one has no room.
@@ -275,7 +275,7 @@ fn offer_initial(
             rho: &rho,
             weight,
         };
-        progress = offer(index, buffer, memory, change, progress);
+        progress = offer(index, buffer, &memory, change, progress);
     }
     progress
 }

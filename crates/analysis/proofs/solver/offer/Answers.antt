@@ -18,10 +18,10 @@ find-requires c = (_, record { indexed = c.requires.indexed; hashed = c.hash_cha
 
 -- what the index answered
 told : (c : After-find)
-    → (ns ρ : List ℕ) → length ns ≡ c.args.memory.names → ReadInto ρ c.args.memory.rho.now c.args.memory.names → c.args.change.node < 65536
-    → listed ns (found_in (2 + c.args.memory.names) c.args.buffer.now c.args.p).records c.args.change.node (set ρ c.args.change.name c.args.change.set) ≡ c.find.result
+    → (ns ρ : List ℕ) → length ns ≡ c.args.memory.now.names → ReadInto ρ c.args.memory.now.rho.now c.args.memory.now.names → c.args.change.node < 65536
+    → listed ns (found_in (2 + c.args.memory.now.names) c.args.buffer.now c.args.p).records c.args.change.node (set ρ c.args.change.name c.args.change.set) ≡ c.find.result
 told c ns ρ e y low =
-    listed_told c.requires (λ i. omega (arith, c.slice_known-1.given i)) ns _ _ _ low (width_of ns e) (changed_record y c.args.memory.weighed.front c.args.change) _
+    listed_told c.requires (λ i. omega (arith, c.slice_known-1.given i)) ns _ _ _ low (width_of ns e) (changed_record y c.args.memory.now.weighed.front c.args.change) _
     (c.find.ensures _ (record { indexed = c.requires.indexed; hashed = c.hash_changed-h.ensures }))
 
 pub returns-then-find : goal.returns-then-find
@@ -46,9 +46,9 @@ enter-requires c =
 
 pub returns : goal.returns
 returns c =
-    let sized = changed_sized c.args.memory.weighed.front c.args.change in record {
+    let sized = changed_sized c.args.memory.now.weighed.front c.args.change in record {
       extended = extended_put _ _ _ _ c.requires c.if-p-2.false _ _ sized c.put_changed.ensures _ _ c.hash_changed-h.ensures (c.enter.ensures _ _);
       offers = λ ns ρ room m y q low. found_put _ _ _ _ c.requires c.if-p-2.false _ _ sized c.put_changed.ensures
-          ∙ sym (offer_more _ _ _ _ _ (found_full _ _ _ ∙ c.if-p.false) (told (goal.at.returns c).After-find ns ρ m y low ∙ c.if-find.false) (changed_record y c.args.memory.weighed.front c.args.change)
+          ∙ sym (offer_more _ _ _ _ _ (found_full _ _ _ ∙ c.if-p.false) (told (goal.at.returns c).After-find ns ρ m y low ∙ c.if-find.false) (changed_record y c.args.memory.now.weighed.front c.args.change)
           (omega (arith, q, found_count c.requires, c.requires.few, c.if-p-2.false)));
     }

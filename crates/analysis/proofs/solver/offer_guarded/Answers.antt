@@ -24,7 +24,7 @@ inside c = omega (arith, c.loop-e-test.true, c.edge_count-count.ensures)
 
 -- whether its own guard may fail
 failing : (c : After-own_truths-t) {b : Bool} → c.own_truths-t.result.fails ≡ b
-    → (truths_in c.args.memory.rho.now (own_at c.args.machine.code.now c.args.machine.graph.now c.loop-e.e)).fails ≡ b
+    → (truths_in c.args.memory.now.rho.now (own_at c.args.machine.code.now c.args.machine.graph.now c.loop-e.e)).fails ≡ b
 failing c t = sym (ap (λ (v : Truths). v.fails) c.own_truths-t.ensures) ∙ t
 
 pub returns-then-not-t : goal.returns-then-not-t
