@@ -426,7 +426,7 @@ pub fn judge_on(
     judge_prepared(&code, &graph, initial, solution)
 }
 
-// The same, where the caller names no construction.
+// The same, where the caller names no construction: a public name of its own, which stays.
 pub fn judge(program: &[u8], initial: &[u8], solution: &[u8]) -> Result<Verdict, Unreadable>
     ensures value { result ≡ spec.verdict Graph.unnamed program.now initial.now solution.now }
     ensures numbers { spec.verdict_numbers result ≡ spec.verdict_row Graph.unnamed program.now initial.now solution.now }
@@ -458,7 +458,7 @@ pub fn offending_on<'a>(
     }
 }
 
-// The same, where the caller names no construction.
+// The same, where the caller names no construction: a public name of its own, which stays.
 pub fn offending<'a>(program: &[u8], initial: &'a [u8], solution: &'a [u8]) -> &'a [u8]
     ensures { result.now ≡ spec.offending (File.sizes program.now) initial.now solution.now
         (spec.verdict Graph.unnamed program.now initial.now solution.now) }

@@ -367,7 +367,7 @@ pub fn solve_on(
     solve_prepared(&code, &graph, initial, buffer)
 }
 
-// The same, where the caller names no construction.
+// The same, where the caller names no construction: a public name of its own, which stays.
 pub fn solve(program: &[u8], initial: &[u8], buffer: &mut [u8]) -> Result<Solved, Unreadable>
     ensures value { (result ≡ spec.solved unnamed program.now initial.now buffer.old)
         × (buffer.new ≡ spec.solved_buffer unnamed program.now initial.now buffer.old) }

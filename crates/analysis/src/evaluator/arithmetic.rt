@@ -39,7 +39,7 @@ impl Machine<'_> {
         }
     }
 
-    // The same of an entry that is often a leaf: a number or a variable is read where it stands, without a call, and an element decoded once.
+    // The same of an entry that is often a leaf: a number or a variable is read where it stands, without a call, and an element decoded once: for speed, and so no twin to be rid of.
     #[cycle(operand_signs)]
     #[tactic(auto, unfolding(program::specs::Tree::arith_made, crate::specs::Signs::signs_in), using(program::proofs::Laws::arith_told))]
     pub(crate) fn operand(self, rho: &[u8; 32], bound: u16, n: u16) -> u8
