@@ -98,7 +98,7 @@ unfoldable pub solving_numbers : Solving → List ℕ
 solving_numbers Finished = 0 ∷ []
 solving_numbers Full = 18 ∷ []
 
--- a reply in document 01's numbers: the end's, or the question's number and place, or 17's; then the count, which "comes back as zero" where there is no list
+-- a reply in document 01's numbers: the end's, or the question's number and place, or 17's; then the count: "other counts and nodes come back as zero"
 unfoldable pub solved_numbers : Result Solved Unreadable → List ℕ
 solved_numbers (Ok r) = solving_numbers r.solving ++ (r.count ∷ [])
 solved_numbers (Err x) = unreadable_numbers x ++ (0 ∷ [])
