@@ -40,10 +40,10 @@ fn all_formed(code: &[u16; CODE], names: usize, bytes: &[u8], at: usize) -> bool
     ensures { (ns : List ℕ) → parts.SizesIn ns code.now names → result ≡ true → spec.memory_formed ns bytes.now at ≡ Ok tt }
 {
     // the same number, which is then seen to be at most 32: so that the loop needs no test for each name, and many go at once
-    let count = names.min(NAMES_MOST as usize);
+    let count = names.min(NAMES_MOST as usize) as u16;
     let mut formed = true;
-    for (i, byte) in bytes[at..at + count].iter().enumerate() {
-        formed &= byte_formed(prepared::size_of(code, i as u16), *byte);
+    for i in 0..count {
+        formed &= byte_formed(prepared::size_of(code, i), bytes[at + i as usize]);
     }
     formed
 }
@@ -130,8 +130,8 @@ fn put_memory(buffer: &mut [u8], at: usize, memory: Memory<'_>)
     requires { at + memory.names ≤ length buffer.old }
     ensures { buffer.new ≡ DrawingParts.over_at at (take memory.entry.names memory.entry.rho.now) buffer.old }
 {
-    // a part of an array is lent from a variable: the borrow checker does not lend it from a struct's field
-    let rho = memory.rho;
+    // a copy of its own, which the buffer cannot lie over: from what is lent, the copying would be one of parts that may overlap, by C's memmove
+    let rho = *memory.rho;
     buffer[at..at + memory.names].copy_from_slice(&rho[..memory.names]);
 }
 

@@ -87,10 +87,10 @@ pub fn signed_at(bytes: &[u8], i: usize) -> i64 {
     i64::from_be_bytes(bytes_at(bytes, i))
 }
 
-// Sets each cell of a memory to that of a list of cells, four bytes each, two's complement: to 0 where the list has no more.
+// Sets each cell of a memory to that of a list of cells, four bytes each, two's complement: to 0 where the list has no more, and past 8,192 cells, which no list has.
 pub fn set_cells(memory: &mut [i32], bytes: &[u8]) {
     memory.fill(0);
-    for (cell, part) in memory.iter_mut().zip(bytes.chunks(4)) {
+    for (cell, part) in memory.iter_mut().zip(bytes.chunks(4)).take(8192) {
         *cell = i32::from_be_bytes(first(part));
     }
 }

@@ -58,8 +58,8 @@ struct Around {
 }
 
 // Where a jump goes from inside a do.
-fn landing(jump: Jump, around: Around) -> u16
-    ensures { result ≡ Graph.landing (Graph.within around.first around.last) jump }
+fn landing(jump: Jump, around: &Around) -> u16
+    ensures { result ≡ Graph.landing (Graph.within around.now.first around.now.last) jump }
 {
     match jump {
         Jump::Break => around.last,
@@ -86,7 +86,8 @@ fn draw_guard(
     }
 }
 
-// The edges of command entry `n`, a part of entry `bound`, from node `a` to node `b`. Earlier guards make no difference to an edge's numbers.
+// The edges of command entry `n`, a part of entry `bound`, from node `a` to node `b`. Earlier guards make no difference to an edge's numbers. What stands around is lent: handed on by
+// value it is copied at each level, and a last call could not become a loop.
 fn draw_part(
     graph: &mut [u16; GRAPH],
     bound: u16,
@@ -94,10 +95,10 @@ fn draw_part(
     a: u16,
     b: u16,
     pen: u32,
-    around: Around,
+    around: &Around,
 ) -> u32
-    requires { parts.Room (parts.strip around.construction (Graph.within around.first around.last) (parts.part_at (entries_in [] graph.old) bound n) a b (parts.fresh_of pen)) (parts.next_of pen) }
-    ensures { parts.Drew (parts.strip around.construction (Graph.within around.first around.last) (parts.part_at (entries_in [] graph.old) bound n) a b (parts.fresh_of pen)) (parts.next_of pen) graph.old graph.new result }
+    requires { parts.Room (parts.strip around.now.construction (Graph.within around.now.first around.now.last) (parts.part_at (entries_in [] graph.old) bound n) a b (parts.fresh_of pen)) (parts.next_of pen) }
+    ensures { parts.Drew (parts.strip around.now.construction (Graph.within around.now.first around.now.last) (parts.part_at (entries_in [] graph.old) bound n) a b (parts.fresh_of pen)) (parts.next_of pen) graph.old graph.new result }
 {
     let fresh = (pen % PEN) as u16;
     let node = prepared::command_node(graph, bound, n);
@@ -114,9 +115,9 @@ fn draw_part(
             let inside = Around {
                 first: a,
                 last: b,
-                ..around
+                ..*around
             };
-            let body = draw_part(graph, n, p, a, a, pen, inside);
+            let body = draw_part(graph, n, p, a, a, pen, &inside);
             draw_edge(graph, body, a, b, 3, p)
         }
         CommandNode::Guarded(g, p) => {
@@ -149,7 +150,7 @@ pub(crate) fn put_graph(
         last: 1,
         construction,
     };
-    let pen = draw_part(graph, count, count - 1, 0, 1, 2, around);
+    let pen = draw_part(graph, count, count - 1, 0, 1, 2, &around);
     graph[NODES] = (pen % PEN) as u16;
     graph[EDGES] = (pen / PEN) as u16;
 }

@@ -21,8 +21,8 @@ pub(super) fn note(jumps: &mut bool, kind: u8)
 
 impl Script<'_> {
     // What command entry `n` is as a part of entry `bound`: one that is not lower is a skip.
-    fn command_at(self, bound: u16, n: u16) -> CommandNode
-        ensures { result ≡ Node.command_form (File.entry self.entry.bytes.now) bound n }
+    fn command_at(&self, bound: u16, n: u16) -> CommandNode
+        ensures { result ≡ Node.command_form (File.entry self.now.bytes.now) bound n }
     {
         if bound <= n {
             return CommandNode::Skip;
@@ -31,9 +31,9 @@ impl Script<'_> {
         decoding::command_kind(e.kind as u16, e.p, e.q, e.r)
     }
 
-    // The lowest of `found` and of the jumps outside every do in command entry `n`, a part of entry `bound`.
-    fn lowest(self, bound: u16, n: u16, found: u16) -> u16
-        ensures { result ≡ spec.lowest (part_at (File.entry self.entry.bytes.now) bound n) found }
+    // The lowest of `found` and of the jumps outside every do in command entry `n`, a part of entry `bound`. The script is lent, since a copy at each level is slower.
+    fn lowest(&self, bound: u16, n: u16, found: u16) -> u16
+        ensures { result ≡ spec.lowest (part_at (File.entry self.now.bytes.now) bound n) found }
     {
         match self.command_at(bound, n) {
             CommandNode::Sequence(p, q) | CommandNode::Choice(p, q) => {

@@ -10,6 +10,7 @@ use program::{ActionNode, prepared};
 
 impl Machine<'_> {
     // The truth of an edge's own guard; of an edge that is no guard's, true.
+    #[tactic(auto, unfolding(program::specs::Parts::Prepared::own_in), using(program::proofs::Laws::boolean_whole, crate::proofs::Valued::true_holds))]
     pub(crate) fn own(self, memory: &[i32; MEMORY], e: u16) -> Packed
         ensures { coding.TruthIn self.entry.code.now memory.now
             (made.own_in (made.entries_in self.entry.code.now self.entry.graph.now) (made.action_in self.entry.graph.now e)) result }

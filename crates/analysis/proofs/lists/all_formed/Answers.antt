@@ -1,7 +1,6 @@
 -- `lists::all_formed`: while it is true, each byte passed is right.
-use Rattle.std.proofs.Common.{◌≡◌, ◌+◌, ◌<◌, sym, refl, ◌∙◌, add-one, arith}
+use Rattle.std.proofs.Common.{◌≡◌, sym, refl, ◌∙◌, add-one, arith}
 use Rattle.std.proofs.lemmas.Bool.{and_parts}
-use Rattle.std.proofs.lemmas.List.Edits.{length-between, get_or-between}
 use Rattle.program.specs.Asking.{ask_each}
 use Rattle.program.specs.File.{byte_at}
 use Rattle.program.specs.FirstSuch.{first_of}
@@ -17,15 +16,10 @@ unfolding byte_at
 loop-i-preserved c p =
     let a = c.args in
     let l = c.loop-i in
-    let end = a.at + c.min-count.result in
-    let inside : l.i < c.min-count.result = omega (arith, length-between a.bytes.now a.at end (omega arith)) in
     let two = and_parts _ _ p in
-    rw add-one
-    (byte_passed a.code.now a.bytes.now a.at l.i (l.invariant two.0)
-    (sym (c.byte_formed-formed.ensures ∙ rw (c.size_of.ensures, get_or-between a.bytes.now a.at end l.i 0 (omega arith))) ∙ two.1))
+    rw add-one (byte_passed a.code.now a.bytes.now a.at l.i (l.invariant two.0) (sym (c.byte_formed-formed.ensures ∙ rw c.size_of.ensures) ∙ two.1))
 
 pub returns : goal.returns
 returns c ns y p =
-    let a = c.args in
-    let all : c.loop-i.i ≡ a.names = omega (arith, length-between a.bytes.now a.at (a.at + c.min-count.result) (omega arith)) in
+    let all : c.loop-i.i ≡ c.args.names = omega arith in
     rw (← memory_asked y _ _, ← all) (c.loop-i.invariant p)

@@ -22,11 +22,11 @@ module _ (t : ℕ) (c : After-command_node-node t) where
   fresh = fresh_of c.args.pen
 
   abbrev around : Around
-  around = within c.args.around.first c.args.around.last
+  around = within c.args.around.now.first c.args.around.now.last
 
   -- the entry's numbers, and what drawing does with a part of them, from a pen on
   abbrev whole : Strip
-  whole = strip c.args.around.construction around (part_at commands c.args.bound c.args.n) c.args.a c.args.b fresh
+  whole = strip c.args.around.now.construction around (part_at commands c.args.bound c.args.n) c.args.a c.args.b fresh
 
   abbrev Draws : Strip → ℕ → List ℕ → ℕ → Type 0
   Draws x pen after r = Drew x (next_of pen) c.args.graph.now after r
@@ -37,18 +37,18 @@ module _ (t : ℕ) (c : After-command_node-node t) where
     pen = taking k c.args.pen
 
     abbrev front : ℕ → Strip
-    front = first_as c.args.around.construction commands around c.args.n k c.args.a c.args.b fresh
+    front = first_as c.args.around.now.construction commands around c.args.n k c.args.a c.args.b fresh
 
     abbrev rest_in : Entries → ℕ → Strip
-    rest_in es = rest_as c.args.around.construction es around c.args.n k c.args.a c.args.b fresh
+    rest_in es = rest_as c.args.around.now.construction es around c.args.n k c.args.a c.args.b fresh
 
     abbrev rest : ℕ → Strip
     rest = rest_in commands
 
-    same : whole ≡ drawn_as c.args.around.construction commands around c.args.n k c.args.a c.args.b fresh
-    same = strip_part _ c.args.around.construction around _ _ (c.command_node-node.ensures []) told c.args.a c.args.b fresh
+    same : whole ≡ drawn_as c.args.around.now.construction commands around c.args.n k c.args.a c.args.b fresh
+    same = strip_part _ c.args.around.now.construction around _ _ (c.command_node-node.ensures []) told c.args.a c.args.b fresh
 
-    room : Room (drawn_as c.args.around.construction commands around c.args.n k c.args.a c.args.b fresh) (next_of c.args.pen)
+    room : Room (drawn_as c.args.around.now.construction commands around c.args.n k c.args.a c.args.b fresh) (next_of c.args.pen)
     room = rw same at c.requires
 
     fitting : Room (front (taking k fresh)) (next_of c.args.pen)
@@ -56,7 +56,7 @@ module _ (t : ℕ) (c : After-command_node-node t) where
     fitting = first_room (front (taking k fresh)) rest (rest_grows _ _ _ _ k _ _ _) room
 
     next : Taken k c.args.pen
-    next = taken _ _ (omega (arith, fitting.nodes_fit, first_grows c.args.around.construction commands around c.args.n k c.args.a c.args.b fresh (taking k fresh)))
+    next = taken _ _ (omega (arith, fitting.nodes_fit, first_grows c.args.around.now.construction commands around c.args.n k c.args.a c.args.b fresh (taking k fresh)))
 
     first : Room (front (fresh_of pen)) (next_of pen)
     first = rw (next.fresh, next.next) fitting

@@ -20,8 +20,8 @@ under t c told parts = omega (arith, command_lower _ _ _ c.command_at.ensures to
 
 -- the lowest is that of what the entry is
 by_entry : (t : ℕ) (c : After-command_at t) {k : CommandNode} {r : ℕ} → c.command_at.result ≡ k
-    → r ≡ lowest (command_tree (entry c.args.self.bytes.now) c.args.n k) c.args.found
-    → r ≡ lowest (part_at (entry c.args.self.bytes.now) c.args.bound c.args.n) c.args.found
+    → r ≡ lowest (command_tree (entry c.args.self.now.bytes.now) c.args.n k) c.args.found
+    → r ≡ lowest (part_at (entry c.args.self.now.bytes.now) c.args.bound c.args.n) c.args.found
 by_entry t c told e = rw (command_told _ _ _ c.command_at.ensures told) e
 
 -- of two parts, what is found in the first goes into the second
@@ -47,7 +47,7 @@ pub returns-in-Sequence : goal.returns-in-Sequence
 unfolding command_made lowest
 returns-in-Sequence t c =
     let p = (goal.at.returns-in-Sequence t c).After-command_at in
-    let part = part_at (entry c.args.self.bytes.now) c.args.n in
+    let part = part_at (entry c.args.self.now.bytes.now) c.args.n in
     let told = both_parts (part c.in-Sequence.p) (part c.in-Sequence.q) _ c.lowest-first.ensures c.lowest-in-Sequence.ensures in
     elim c.in-Sequence.is [ inl e ↦ by_entry t p e told | inr e ↦ by_entry t p e told ]
 

@@ -15,10 +15,10 @@ returns-then-bound-n c = rw (le-ltb _ _ c.if-bound-n.true)
 
 pub overflow_add-self : goal.overflow_add-self
 unfolding span_of
-overflow_add-self c = record { fits = omega (arith, c.args.self.laid_out.inside Commands) }
+overflow_add-self c = record { fits = omega (arith, c.args.self.now.laid_out.inside Commands) }
 
 pub returns : goal.returns
 unfolding command_form span_of
 returns c =
     rw (lt-ltb _ _ c.if-bound-n.false)
-    (c.command_kind.ensures ∙ ap command_kind (entry_read _ Commands _ _ _ c.entry_at-e.ensures (laid_start _ _ c.args.self.laid_out.same Commands) refl))
+    (c.command_kind.ensures ∙ ap command_kind (entry_read _ Commands _ _ _ c.entry_at-e.ensures (laid_start _ _ c.args.self.now.laid_out.same Commands) refl))
