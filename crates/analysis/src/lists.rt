@@ -39,7 +39,7 @@ fn all_formed(code: &[u16; CODE], names: usize, bytes: &[u8], at: usize) -> bool
     requires { (names ≤ 32) × (at + names ≤ length bytes.now) }
     ensures { (ns : List ℕ) → parts.SizesIn ns code.now names → result ≡ true → spec.memory_formed ns bytes.now at ≡ Ok tt }
 {
-    // the same number, which is then seen to be at most 32: so that the loop needs no test for each name, and many go at once
+    // the same number, which is then seen to be at most 32, in the type of a name's number: so that the loop needs no test for each name, and many go at once
     let count = names.min(NAMES_MOST as usize) as u16;
     let mut formed = true;
     for i in 0..count {
